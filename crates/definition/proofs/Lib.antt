@@ -1,0 +1,14 @@
+pub mod Bits
+pub mod Faithful
+pub mod Items
+pub mod SheetRead
+pub mod Same
+pub mod DayBox
+pub mod Lawful
+pub mod FoldBox
+pub mod Entries
+pub mod Groups
+pub mod Spans
+pub mod Counts
+pub mod RuleCounts
+pub mod Worked

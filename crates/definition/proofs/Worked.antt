@@ -1,0 +1,63 @@
+-- THE WORKED DAYS, over points: computed over boxes, and carried by the law that points are boxes.
+-- Assumes nothing.
+use mathlib.Core.Path.{_≡_, refl, ap, _∙_}
+use mathlib.Core.List.{List, [], _∷_, flatMap}
+use mathlib.Core.Bool.{Bool, true, _&&_}
+use Prim.Native.Nat.{ℕ, _<_}
+use lib.Dec.{eqb, ltb}
+use borrow.Author.Tests.{ltb-true}
+use Rattle.laws.proofs.Flags.{split-and}
+use Rattle.laws.proofs.Lists.{every-all}
+use Rattle.laws.proofs.Tests.{exact-eqb, exact-list}
+use Rattle.laws.specs.Lists.{All, from, firstOf, every, anyOf, count, keep}
+use Rattle.laws.specs.Tests.{sameList, sameOption}
+use Rattle.grid.specs.Group.{size, somewhere, agree, grow, pop, clear, takeOut, sweepFor, sweep, groups}
+use Rattle.grid.specs.Cut.{cutAt, cuts, between, intervals, boxes, glue, joined}
+use Rattle.definition.specs.Field.{bits, number, sheetBits, bytes, packed, fieldAt, readField, readAll, field, noBits, _then_, via, tagged, several}
+use Rattle.definition.specs.Rule.{notAbove, insertSpan, sorted, sameTime}
+use Rattle.definition.specs.Sheet.{yearRange, monthdayOf, monthdayRange, weekRange, weekdayOf, weekDayRange, timeOf, time, repeatsOf, repeatsLayout, span, counts, head, body, rule, rules, firstSet, ended, decode, encode}
+use Rattle.definition.specs.Range.{split, ranges}
+use Rattle.definition.specs.Stop.{stops, drained, left}
+use Rattle.definition.specs.Point.{selector, combinations, after, listFrom, tooLong}
+use Rattle.definition.specs.Box.{boxCount}
+use Rattle.definition.specs.Day.{simple, flattened, runOf, afterRun, painting, joinGroup, byState, grouped, lastOver}
+use Rattle.definition.specs.Group.{itemsOf, laidOver, rulesOf}
+use Rattle.definition.specs.OverBoxes.{paintedOverIntervals, dayOverIntervals, firstTooLongOverBoxes, pagesOverBoxes, foldedOverBoxes, foldOverBoxes}
+use Rattle.definition.specs.Sheet.{form1, limits1}
+use Rattle.definition.specs.Fold.{numbers, judged, fitted, foldRules}
+use Rattle.definition.specs.Worked.{Case, cases, room, Worked}
+use Rattle.definition.proofs.Bits.{Bytes}
+use Rattle.definition.proofs.FoldBox.{fold-boxes}
+
+-- does the fold over boxes give what the case says, and is the sheet bytes?
+agrees : Case → Bool
+agrees c =
+    let f = foldOverBoxes form1 limits1 room (c .sheet) in
+    sameList eqb (numbers f) (c .answer) && (sameList eqb (f .result) (c .written) && every (λ b. ltb b 256) (c .sheet))
+
+computed : every agrees cases ≡ true
+unfolding agrees flatMap from firstOf every anyOf count keep sameList sameOption size somewhere agree grow pop clear takeOut sweepFor sweep groups
+    cutAt cuts between intervals boxes glue joined bits number sheetBits bytes packed fieldAt readField readAll field noBits _then_ via tagged several
+    notAbove insertSpan sorted sameTime yearRange monthdayOf monthdayRange weekRange weekdayOf weekDayRange timeOf time repeatsOf repeatsLayout span
+    counts head body rule rules firstSet ended decode encode split ranges stops drained left selector combinations after listFrom tooLong boxCount
+    simple flattened runOf afterRun painting joinGroup byState grouped lastOver itemsOf laidOver rulesOf judged fitted foldRules paintedOverIntervals
+    dayOverIntervals firstTooLongOverBoxes pagesOverBoxes foldedOverBoxes foldOverBoxes
+computed = refl
+
+are-bytes : (s : List ℕ) → every (λ b. ltb b 256) s ≡ true → Bytes s
+are-bytes = every-all (λ b. b < 256) (λ b. ltb b 256) (λ b. ltb-true b 256)
+
+each : (cs : List Case) → every agrees cs ≡ true → All Worked cs
+unfolding every agrees
+each [] h = tt
+each (c ∷ cs) h =
+    let f = foldOverBoxes form1 limits1 room (c .sheet) in
+    let k = split-and (agrees c) (every agrees cs) h in
+    let a = split-and (sameList eqb (numbers f) (c .answer)) (sameList eqb (f .result) (c .written) && every (λ b. ltb b 256) (c .sheet)) (k .0) in
+    let b = split-and (sameList eqb (f .result) (c .written)) (every (λ b. ltb b 256) (c .sheet)) (a .1) in
+    let e = fold-boxes form1 limits1 room (c .sheet) (are-bytes (c .sheet) (b .1)) in
+    ((ap numbers e ∙ (exact-list exact-eqb) .equal _ _ (a .0), ap (λ g. g .result) e ∙ (exact-list exact-eqb) .equal _ _ (b .0)), each cs (k .1))
+
+-- P
+pub worked : All Worked cases
+worked = each cases computed

@@ -1,0 +1,99 @@
+-- 01, "Numbers of the answer": "The fold answers code, drained, emitted (folded rules only), left (rules copied), bytes written, place. On a
+-- refusal every number but code and place is 0." Order: "1, 2 and 4 as met from the first bit on; then 3, 8, 5, 6, 9, 7". "On code 0
+-- the result stands at the front of the buffer and later bytes are unchanged." "The rules left are copied bit by bit after them."
+-- Assumes nothing.
+use mathlib.Core.List.{List, [], _∷_, _++_}
+use mathlib.Core.Option.{Option, none, some}
+use mathlib.Core.Bool.{true, false}
+use Prim.Native.Nat.{ℕ}
+use lib.Dec.{ltb}
+use lib.ListN.{length, drop}
+use Rattle.definition.specs.Field.{got, refused, manyBoxes, longList, noRoom}
+use Rattle.definition.specs.Rule.{Rule}
+use Rattle.definition.specs.Sheet.{Form, Limits, decode, encode}
+use Rattle.definition.specs.Stop.{drained, left}
+use Rattle.definition.specs.Point.{dimensions, firstTooLong}
+use Rattle.definition.specs.Box.{boxCount}
+use Rattle.definition.specs.Group.{folded}
+
+-- ## What an entry that writes answers
+-- six numbers, and the bytes that it writes
+pub record Folded : Type 0 where
+  pub code : ℕ
+  pub drained : ℕ
+  pub emitted : ℕ
+  pub left : ℕ
+  pub bytes : ℕ
+  pub place : ℕ
+  pub result : List ℕ
+
+-- the numbers in 01's order
+abbrev pub numbers : Folded → List ℕ
+numbers f = f .code ∷ f .drained ∷ f .emitted ∷ f .left ∷ f .bytes ∷ f .place ∷ []
+
+abbrev pub refusal : ℕ → ℕ → Folded
+refusal c p = record { code = c; drained = 0; emitted = 0; left = 0; bytes = 0; place = p; result = [] }
+
+-- a buffer after a result was written to its front; nothing is written where the result is empty, as on every refusal
+abbrev pub buffer : List ℕ → List ℕ → List ℕ
+buffer result out = result ++ drop (length result) out
+
+-- "Every other entry that writes a sheet or text answers code, bytes written and place"
+pub record WrittenBack : Type 0 where
+  pub code : ℕ
+  pub bytes : ℕ
+  pub place : ℕ
+  pub result : List ℕ
+
+-- ## Draining, with 5 and 6
+pub data Drained : Type 0 where
+  fine : Drained
+  over : ℕ → ℕ → Drained
+
+-- 5: boxes over the limit, the place their number; then 6: `long` is the first rule after which some point's list is too long
+unfoldable pub judged : Limits → List Rule → Option ℕ → Drained
+judged limits rs long = elim (ltb (limits .boxes) (boxCount dimensions rs)) [
+  | true ↦ over manyBoxes (boxCount dimensions rs)
+  | false ↦ elim long [ some k ↦ over longList k | none ↦ fine ]
+]
+
+unfoldable pub drain : Limits → List Rule → Drained
+drain limits rs = judged limits rs (firstTooLong (limits .entries) rs)
+
+-- ## The fold
+module _ (form : Form) (limits : Limits) where
+  -- 7: the buffer has less room than the result
+  unfoldable pub fitted : ℕ → List Rule → List Rule → List ℕ → Folded
+  fitted room rs page result = elim (ltb room (length result)) [
+    | true ↦ refusal noRoom (length result)
+    | false ↦ record {
+      code = 0;
+      drained = length (drained rs);
+      emitted = length page;
+      left = length (left rs);
+      bytes = length result;
+      place = 0;
+      result = result;
+    }
+  ]
+
+  -- the fold of rules into a buffer of `room` bytes, once the drained ones were judged and folded to a page
+  unfoldable pub foldRules : ℕ → List Rule → Drained → List Rule → Folded
+  foldRules room rs judgement page = elim judgement [ over c p ↦ refusal c p | fine ↦ fitted room rs page (encode form limits (page ++ left rs)) ]
+
+  -- THE FOLD OF A SHEET, over points
+  unfoldable pub fold : ℕ → List ℕ → Folded
+  fold room sheet = elim (decode form limits sheet) [
+    | refused c p ↦ refusal c p
+    | got rs q ↦ foldRules room rs (drain limits (drained rs)) (folded (drained rs))
+  ]
+
+  -- "Writing back refuses by 1 to 4 and 7 only, in the order below."
+  unfoldable pub writeBack : ℕ → List ℕ → WrittenBack
+  writeBack room sheet = elim (decode form limits sheet) [
+    | refused c p ↦ record { code = c; bytes = 0; place = p; result = [] }
+    | got rs q ↦ let result = encode form limits rs in elim (ltb room (length result)) [
+      | true ↦ record { code = noRoom; bytes = 0; place = length result; result = [] }
+      | false ↦ record { code = 0; bytes = length result; place = 0; result = result }
+    ]
+  ]

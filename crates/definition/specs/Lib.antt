@@ -1,0 +1,15 @@
+pub mod Field
+pub mod Rule
+pub mod Sheet
+pub mod Range
+pub mod Stop
+pub mod Point
+pub mod Box
+pub mod Day
+pub mod Group
+pub mod Fold
+pub mod Date
+pub mod Lookup
+pub mod Saying
+pub mod OverBoxes
+pub mod Worked

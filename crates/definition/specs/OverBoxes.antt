@@ -1,0 +1,52 @@
+-- The same definitions over boxes, between the cuts of the rules' ranges, and days over the intervals between their spans' ends: what
+-- computes. No promise speaks of them; proofs/ show that they are the definitions over points and minutes.
+-- Assumes nothing.
+use mathlib.Core.List.{List, [], _∷_, _++_, map, flatMap}
+use mathlib.Core.Option.{Option}
+use Prim.Native.Nat.{ℕ}
+use lib.ListN.{length}
+use Rattle.laws.specs.Lists.{from, firstOf, onlyIf}
+use Rattle.grid.specs.Group.{Set, groups, somewhere}
+use Rattle.grid.specs.Cut.{Range, sameRange, boxes, starts, asJoined}
+use Rattle.definition.specs.Rule.{closed, sameState, Rule}
+use Rattle.definition.specs.Field.{got, refused}
+use Rattle.definition.specs.Sheet.{Form, Limits, decode}
+use Rattle.definition.specs.Stop.{drained}
+use Rattle.definition.specs.Point.{dimensions, allBounds, listAt, tooLong}
+use Rattle.definition.specs.Box.{allRanges}
+use Rattle.definition.specs.Day.{Stated, Day, entryOf, flattened, minutesOf, minuteBounds, painted, painting, grouped, sortedEntry, asEntry, stateClasses}
+use Rattle.definition.specs.Group.{sameDay, dayClasses, Page, rulesOf}
+use Rattle.definition.specs.Fold.{Folded, refusal, judged, foldRules}
+
+-- ## A day
+abbrev pub spanRanges : List Stated → List (List Range)
+spanRanges xs = map (λ x. minutesOf (x .1)) xs ∷ []
+
+unfoldable pub paintedOverIntervals : List Stated → Day
+paintedOverIntervals xs =
+    map asEntry (map asJoined (groups sameState sameRange closed stateClasses (boxes (minuteBounds ∷ []) (spanRanges xs)) (λ is. painted xs (starts is))))
+
+unfoldable pub dayOverIntervals : List Rule → Day
+dayOverIntervals l = let xs = flattened (map entryOf l) in paintedOverIntervals (painting xs) ++ map sortedEntry (grouped xs)
+
+-- ## The fold
+abbrev pub cutRanges : List Rule → List (List Range)
+cutRanges rs = map (allRanges rs) dimensions
+
+abbrev pub ruleBoxes : List Rule → Set Range
+ruleBoxes rs = boxes allBounds (cutRanges rs)
+
+unfoldable pub firstTooLongOverBoxes : ℕ → List Rule → Option ℕ
+firstTooLongOverBoxes limit rs = firstOf (λ k. onlyIf (somewhere (ruleBoxes rs) (λ is. tooLong limit rs k (starts is))) k) (from 0 (length rs))
+
+unfoldable pub pagesOverBoxes : List Rule → List Page
+pagesOverBoxes rs = map asJoined (groups sameDay sameRange [] dayClasses (ruleBoxes rs) (λ is. dayOverIntervals (listAt rs (starts is))))
+
+unfoldable pub foldedOverBoxes : List Rule → List Rule
+foldedOverBoxes rs = flatMap rulesOf (pagesOverBoxes rs)
+
+unfoldable pub foldOverBoxes : Form → Limits → ℕ → List ℕ → Folded
+foldOverBoxes form limits room sheet = elim (decode form limits sheet) [
+  | refused c p ↦ refusal c p
+  | got rs q ↦ foldRules form limits room rs (judged limits (drained rs) (firstTooLongOverBoxes (limits .entries) (drained rs))) (foldedOverBoxes (drained rs))
+]

@@ -1,0 +1,215 @@
+-- 01, "The packed sheet": "Rule count 16 bits, the rules, then zero bits to the byte's end, then nothing."
+-- Reading refuses by 1, 2 and 4 as met from the first bit on, then by 3; each number of the layout is a field of its own.
+-- Assumes nothing.
+use mathlib.Core.List.{List, [], _∷_}
+use mathlib.Core.Option.{Option, none, some}
+use mathlib.Core.Bool.{Bool, true, false, cond}
+use Prim.Native.Nat.{ℕ, suc, _*_, _-_}
+use lib.Dec.{eqb, leb, ltb}
+use lib.ListN.{length, take, drop}
+use Rattle.grid.specs.Cut.{holds}
+use Rattle.definition.specs.Field.{Read, got, refused, andThen, badEnd, bytesFor, sheetBits, packed, Layout, plain, lawful, counted, noBits, _then_, via, tagged, several}
+use Rattle.definition.specs.Rule.{weekdayBounds, weekBounds, monthBounds, yearBounds, Operator, operatorNumber, operatorOf, Kind, kindNumber, kindOf, Time, fixed, variable, Span, YearRange, MonthdayRange, months, monthsOf, dated, WeekRange, WeekDayRange, fixedDays, holiday, Rule}
+
+-- ## Form and limits
+-- the widths that a form of the sheet sets
+pub record Form : Type 0 where
+  pub ruleCount : ℕ
+  pub comment : ℕ
+  pub itemCount : ℕ
+
+-- the most rules, items of each sort and spans of a sheet; the most boxes; the most entries of a point's list
+pub record Limits : Type 0 where
+  pub rules : ℕ
+  pub items : ℕ
+  pub spans : ℕ
+  pub boxes : ℕ
+  pub entries : ℕ
+
+-- "Rule count 16 bits", "comment 16; five counts of 10 each"
+abbrev pub form1 : Form
+form1 = record { ruleCount = 16; comment = 16; itemCount = 10 }
+
+-- "Limits: 64 rules, 16 items of each sort, 16 spans", and of the table: 1,024 boxes, 32 entries
+abbrev pub limits1 : Limits
+limits1 = record { rules = 64; items = 16; spans = 16; boxes = 1024; entries = 32 }
+
+-- ## Items
+abbrev pub year : Layout ℕ
+year = lawful 14 (λ v. holds v yearBounds)
+
+abbrev pub month : Layout ℕ
+month = lawful 4 (λ v. holds v monthBounds)
+
+abbrev pub week : Layout ℕ
+week = lawful 6 (λ v. holds v weekBounds)
+
+abbrev pub weekday : Layout ℕ
+weekday = lawful 3 (λ v. holds v weekdayBounds)
+
+abbrev pub step : ℕ → Layout ℕ
+step w = lawful w (λ v. leb 1 v)
+
+-- "Year: start 14, end 14 (each 1900 to 9999), step 16 (from 1)."
+unfoldable pub yearRange : Layout YearRange
+yearRange = via (λ p. record { start = p .0; end = p .1 .0; step = p .1 .1 }) (λ r. (r .start, (r .end, r .step))) (year then year then step 16)
+
+-- "Monthday: tag 2. Tag 0: start 4, end 4 (1 to 12). Tag 1: the same, then year 14 (1900 to 9999). Tag 2: a caller's reference of 32."
+abbrev pub monthdayTag : MonthdayRange → ℕ
+monthdayTag (months a b) = 0
+monthdayTag (monthsOf a b y) = 1
+monthdayTag (dated r) = 2
+
+abbrev pub monthParts : MonthdayRange → ℕ × (ℕ × ℕ)
+monthParts (months a b) = (a, (b, 0))
+monthParts (monthsOf a b y) = (a, (b, y))
+monthParts (dated r) = (r, (0, 0))
+
+unfoldable pub monthdayOf : ℕ → Layout MonthdayRange
+monthdayOf tag = cond (eqb tag 0) (via (λ p. months (p .0) (p .1)) (λ m. (monthParts m .0, monthParts m .1 .0)) (month then month))
+    (cond (eqb tag 1) (via (λ p. monthsOf (p .0) (p .1 .0) (p .1 .1)) monthParts (month then month then year))
+    (via dated (λ m. monthParts m .0) (plain 32)))
+
+unfoldable pub monthdayRange : Layout MonthdayRange
+monthdayRange = tagged (lawful 2 (λ v. ltb v 3)) monthdayOf monthdayTag
+
+-- "Week: start 6, end 6 (1 to 53), step 8 (from 1)."
+unfoldable pub weekRange : Layout WeekRange
+weekRange = via (λ p. record { start = p .0; end = p .1 .0; step = p .1 .1 }) (λ r. (r .start, (r .end, r .step))) (week then week then step 8)
+
+-- "Weekday: tag 1. Tag 0: start 3, end 3 (0 Monday to 6 Sunday), offset 16 two's complement, then two sets of five bits, nth from
+-- start and from end. Tag 1: holiday kind 1, offset 16."
+abbrev pub weekdayTag : WeekDayRange → ℕ
+weekdayTag (fixedDays a b o s e) = 0
+weekdayTag (holiday k o) = 1
+
+abbrev pub weekdayParts : WeekDayRange → ℕ × (ℕ × (ℕ × (ℕ × ℕ)))
+weekdayParts (fixedDays a b o s e) = (a, (b, (o, (s, e))))
+weekdayParts (holiday k o) = (k, (o, (0, (0, 0))))
+
+unfoldable pub weekdayOf : ℕ → Layout WeekDayRange
+weekdayOf tag = cond (eqb tag 0)
+    (via (λ p. fixedDays (p .0) (p .1 .0) (p .1 .1 .0) (p .1 .1 .1 .0) (p .1 .1 .1 .1)) weekdayParts (weekday then weekday then plain 16 then plain 5 then plain 5))
+    (via (λ p. holiday (p .0) (p .1)) (λ d. (weekdayParts d .0, weekdayParts d .1 .0)) (plain 1 then plain 16))
+
+unfoldable pub weekDayRange : Layout WeekDayRange
+weekDayRange = tagged (plain 1) weekdayOf weekdayTag
+
+-- "A time is tag 0 and 12 bits of minutes (0 to 2880), or tag 1, event 2, offset 16 two's complement."
+abbrev pub timeTag : Time → ℕ
+timeTag (fixed m) = 0
+timeTag (variable e o) = 1
+
+abbrev pub timeParts : Time → ℕ × ℕ
+timeParts (fixed m) = (m, 0)
+timeParts (variable e o) = (e, o)
+
+unfoldable pub timeOf : ℕ → Layout Time
+timeOf tag = cond (eqb tag 0) (via fixed (λ t. timeParts t .0) (lawful 12 (λ v. leb v 2880))) (via (λ p. variable (p .0) (p .1)) timeParts (plain 2 then plain 16))
+
+unfoldable pub time : Layout Time
+time = tagged (plain 1) timeOf timeTag
+
+-- "Span: start, end, `open_end` 1, repeats flag 1 and, if it is set, 12 bits of minutes."
+abbrev pub flagOf : ℕ → Bool
+flagOf v = eqb v 1
+
+abbrev pub flagBit : Bool → ℕ
+flagBit b = cond b 1 0
+
+abbrev pub repeatsTag : Option ℕ → ℕ
+repeatsTag none = 0
+repeatsTag (some n) = 1
+
+abbrev pub repeatsParts : Option ℕ → ℕ
+repeatsParts none = 0
+repeatsParts (some n) = n
+
+unfoldable pub repeatsOf : ℕ → Layout (Option ℕ)
+repeatsOf tag = cond (eqb tag 0) (noBits none) (via some repeatsParts (plain 12))
+
+unfoldable pub repeatsLayout : Layout (Option ℕ)
+repeatsLayout = tagged (plain 1) repeatsOf repeatsTag
+
+unfoldable pub span : Layout Span
+span = via (λ p. record { start = p .0; end = p .1 .0; openEnd = flagOf (p .1 .1 .0); repeats = p .1 .1 .1 })
+    (λ s. (s .start, (s .end, (flagBit (s .openEnd), s .repeats)))) (time then time then plain 1 then repeatsLayout)
+
+-- ## Rules
+-- the five counts: years, monthdays, weeks, weekdays, spans
+abbrev pub Counts : Type 0
+Counts = ℕ × (ℕ × (ℕ × (ℕ × ℕ)))
+
+-- operator, kind, comment, counts
+abbrev pub Head : Type 0
+Head = Operator × (Kind × (ℕ × Counts))
+
+abbrev pub headOf : Rule → Head
+headOf r = (
+  r .operator,
+  (
+    r .state .kind,
+    (
+      r .state .comment,
+      (length (r .years), (length (r .monthdays), (length (r .weeks), (length (r .weekdays), length (r .spans))))),
+    ),
+  ),
+)
+
+-- the items in the order of the counts
+abbrev pub Body : Type 0
+Body = List YearRange × (List MonthdayRange × (List WeekRange × (List WeekDayRange × List Span)))
+
+abbrev pub bodyOf : Rule → Body
+bodyOf r = (r .years, (r .monthdays, (r .weeks, (r .weekdays, r .spans))))
+
+abbrev pub ruleWith : Head → Body → Rule
+ruleWith h b = record {
+  operator = h .0;
+  state = record { kind = h .1 .0; comment = h .1 .1 .0 };
+  years = b .0;
+  monthdays = b .1 .0;
+  weeks = b .1 .1 .0;
+  weekdays = b .1 .1 .1 .0;
+  spans = b .1 .1 .1 .1;
+}
+
+module _ (form : Form) (limits : Limits) where
+  -- "five counts of 10 each"
+  unfoldable pub counts : Layout Counts
+  counts = let items = counted (form .itemCount) (limits .items) in items then items then items then items then counted (form .itemCount) (limits .spans)
+
+  -- "Rule: operator 2; kind 2; comment 16; five counts of 10 each: years, monthdays, weeks, weekdays, spans"
+  unfoldable pub head : Layout Head
+  head = via operatorOf operatorNumber (lawful 2 (λ v. ltb v 3)) then via kindOf kindNumber (lawful 2 (λ v. ltb v 3)) then plain (form .comment) then counts
+
+  -- "then these items in that order"
+  unfoldable pub body : Counts → Layout Body
+  body n = several (n .0) yearRange then several (n .1 .0) monthdayRange then several (n .1 .1 .0) weekRange
+      then several (n .1 .1 .1 .0) weekDayRange then several (n .1 .1 .1 .1) span
+
+  unfoldable pub rule : Layout Rule
+  rule = tagged head (λ h. via (ruleWith h) bodyOf (body (h .1 .1 .1))) headOf
+
+  -- "Rule count 16 bits, the rules"
+  unfoldable pub rules : Layout (List Rule)
+  rules = tagged (counted (form .ruleCount) (limits .rules)) (λ n. several n rule) length
+
+-- ## A whole sheet
+-- the place of the first bit that is set, p being the place of the first bit
+unfoldable pub firstSet : List ℕ → ℕ → Option ℕ
+firstSet [] p = none
+firstSet (b ∷ bs) p = elim (eqb b 0) [ true ↦ firstSet bs (suc p) | false ↦ some p ]
+
+-- "then zero bits to the byte's end, then nothing": code 3 at "the first such bit, else the first bit after the padding"
+unfoldable pub ended : {A : Type 0} → List ℕ → A → ℕ → Read A
+ended s x q =
+    let end = 8 * bytesFor q in
+    elim (firstSet (take (end - q) (drop q s)) q) [ some p ↦ refused badEnd p | none ↦ elim (ltb end (length s)) [ true ↦ refused badEnd end | false ↦ got x q ] ]
+
+-- every byte string: its rules and the bit after them, or a refusal
+unfoldable pub decode : Form → Limits → List ℕ → Read (List Rule)
+decode form limits sheet = let s = sheetBits sheet in andThen (ended s) ((rules form limits) .read s 0)
+
+unfoldable pub encode : Form → Limits → List Rule → List ℕ
+encode form limits rs = packed ((rules form limits) .write rs)

@@ -1,0 +1,203 @@
+-- 01, "Worked days": "P is proved, together, as one table of cases under one statement." P cuts one dimension at a time, so the table
+-- also has the order of growing, pushes in two dimensions, a rule left, spans that stay in groups, and refusals 1 to 6.
+-- Assumes nothing.
+use mathlib.Core.Path.{_≡_}
+use mathlib.Core.List.{List, [], _∷_}
+use Prim.Native.Nat.{ℕ, _*_}
+use Rattle.definition.specs.Field.{bits, bytes}
+use Rattle.definition.specs.Sheet.{form1, limits1}
+use Rattle.definition.specs.Fold.{numbers, fold}
+
+-- a sheet, the six numbers of its fold, and the bytes written
+pub record Case : Type 0 where
+  pub sheet : List ℕ
+  pub answer : List ℕ
+  pub written : List ℕ
+
+-- n bytes, written as one hexadecimal number
+abbrev pub hex : ℕ → ℕ → List ℕ
+hex n v = bytes n (bits (8 * n) v)
+
+-- the room of the output buffer
+abbrev pub room : ℕ
+room = 65536
+
+-- THE STATEMENT, about the fold over points, from bytes to bytes
+abbrev pub Worked : Case → Type 0
+Worked c = (numbers (fold form1 limits1 room (c .sheet)) ≡ c .answer) × ((fold form1 limits1 room (c .sheet)) .result ≡ c .written)
+
+-- P1: bytes 00 00 give 00 00.
+abbrev pub p1 : Case
+p1 = record {
+  sheet = hex 2 0x0000;
+  answer = 0 ∷ 0 ∷ 0 ∷ 0 ∷ 2 ∷ 0 ∷ [];
+  written = hex 2 0x0000;
+}
+
+-- P2: Mo-Fr 10:00-18:00 Open; Tu 12:00-13:00 Closed, Normal: Mo,We-Fr 10:00-18:00; Tu 10:00-12:00,13:00-18:00.
+abbrev pub p2 : Case
+p2 = record {
+  sheet = hex 35 0x0002000000000000001004200007FE25821C020000000000000200890000FFC5A030C0;
+  answer = 0 ∷ 2 ∷ 2 ∷ 0 ∷ 43 ∷ 0 ∷ [];
+  written = hex 43 0x0002000000000000002004000007FE500003FF12C10E0000000000000001008480007FE258168030C21C00;
+}
+
+-- P4: weekday Fr-Mo becomes Mo,Fr-Su.
+abbrev pub p4 : Case
+p4 = record {
+  sheet = hex 19 0x0001000000000000001005000007FE25821C00;
+  answer = 0 ∷ 1 ∷ 1 ∷ 0 ∷ 23 ∷ 0 ∷ [];
+  written = hex 23 0x0001000000000000002004000007FE980003FF12C10E00;
+}
+
+-- P5: Fr-Th has no items.
+abbrev pub p5 : Case
+p5 = record {
+  sheet = hex 19 0x0001000000000000001005180007FE25821C00;
+  answer = 0 ∷ 1 ∷ 1 ∷ 0 ∷ 15 ∷ 0 ∷ [];
+  written = hex 15 0x00010000000000000000044B043800;
+}
+
+-- P6: weeks 50-2: 1-2,50-53.
+abbrev pub p6 : Case
+p6 = record {
+  sheet = hex 17 0x0001000000000000400007208044B04380;
+  answer = 0 ∷ 1 ∷ 1 ∷ 0 ∷ 20 ∷ 0 ∷ [];
+  written = hex 20 0x0001000000000000800004108072D4044B043800;
+}
+
+-- P7: week 53 alone ends at 54.
+abbrev pub p7 : Case
+p7 = record {
+  sheet = hex 17 0x00010000000000004000075D4044B04380;
+  answer = 0 ∷ 1 ∷ 1 ∷ 0 ∷ 17 ∷ 0 ∷ [];
+  written = hex 17 0x00010000000000004000075D4044B04380;
+}
+
+-- P9: Additional Open, weekdays Mo-We and Tu-Th, 10:00-12:00 with `open_end`: Mo,Th that span; Tu-We the span twice.
+abbrev pub p9 : Case
+p9 = record {
+  sheet = hex 23 0x0001400000000000002004100007FE2C0003FF12C0B420;
+  answer = 0 ∷ 1 ∷ 2 ∷ 0 ∷ 43 ∷ 0 ∷ [];
+  written = hex 43 0x0002000000000000002004000007FE6C0003FF12C0B42000000000000001008500007FE258168425816840;
+}
+
+-- P10: Open 08:00-18:00; Unknown 10:00-11:00 with `open_end`; Unknown 12:00-13:00: Open 08:00-12:00,13:00-18:00; Unknown
+-- 12:00-13:00; Unknown 10:00-11:00 with `open_end`.
+abbrev pub p10 : Case
+p10 = record {
+  sheet = hex 39 0x00030000000000000000043C043818000000000000000112C0A526000000000000000045A030C0;
+  answer = 0 ∷ 3 ∷ 3 ∷ 0 ∷ 43 ∷ 0 ∷ [];
+  written = hex 43 0x00030000000000000000083C02D006184381800000000000000011680C306000000000000000044B029480;
+}
+
+-- P11: plain Closed 00:00-24:00 alone: no rules.
+abbrev pub p11 : Case
+p11 = record {
+  sheet = hex 15 0x00011000000000000000040005A000;
+  answer = 0 ∷ 1 ∷ 0 ∷ 0 ∷ 2 ∷ 0 ∷ [];
+  written = hex 2 0x0000;
+}
+
+-- years are grown before weekdays: Monday in 2000 and 2001, Tuesday in 2000 only, fold to themselves.
+abbrev pub growing : Case
+growing = record {
+  sheet = hex 46 0x00020000000400000010047D01F440004000007FE25821C0000000080000002008FA03E80000890000FFC4B04380;
+  answer = 0 ∷ 2 ∷ 2 ∷ 0 ∷ 46 ∷ 0 ∷ [];
+  written = hex 46 0x00020000000400000010047D01F440004000007FE25821C0000000080000002008FA03E80000890000FFC4B04380;
+}
+
+-- Tuesday twice and January twice push an open-ended span four times.
+abbrev pub pushes : Case
+pushes = record {
+  sheet = hex 25 0x000140000000020000200411044480007FE240003FF12C0B42;
+  answer = 0 ∷ 1 ∷ 1 ∷ 0 ∷ 31 ∷ 0 ∷ [];
+  written = hex 31 0x000100000000010000101011120001FF89605A109605A109605A109605A100;
+}
+
+-- Fr-Th, then weeks 1-3 with a step of 2: the first is folded, the second copied.
+abbrev pub leaves : Case
+leaves = record {
+  sheet = hex 34 0x0002000000000000001005180007FE25821C00000000000008000082181096087000;
+  answer = 0 ∷ 1 ∷ 1 ∷ 1 ∷ 29 ∷ 0 ∷ [];
+  written = hex 29 0x00020000000000000000044B04380000000000001000010430212C10E0;
+}
+
+-- 10:00-12:00 Open with `open_end`, then 12:00-13:00 Unknown, then 13:00-14:00 Open: the simple spans stay in groups.
+abbrev pub staysGrouped : Case
+staysGrouped = record {
+  sheet = hex 39 0x00030000000000000000044B02D09800000000000000011680C304000000000000000046183480;
+  answer = 0 ∷ 3 ∷ 3 ∷ 0 ∷ 39 ∷ 0 ∷ [];
+  written = hex 39 0x00030000000000000000044B02D09800000000000000011680C304000000000000000046183480;
+}
+
+-- Tuesday twice and January sixteen times push 32 entries, and fold.
+abbrev pub entries32 : Case
+entries32 = record {
+  sheet = hex 43 0x00014000000010000020041104411044110441104411044110441104411044480007FE240003FF12C10E00;
+  answer = 0 ∷ 1 ∷ 1 ∷ 0 ∷ 20 ∷ 0 ∷ [];
+  written = hex 20 0x000100000000010000100411120001FF89608700;
+}
+
+-- Tuesday three times and January eleven times push 33 entries after the second rule: 6 with 1.
+abbrev pub entries33 : Case
+entries33 = record {
+  sheet = hex 57 0x0002000000000000001004000007FE25821C0800000001600006008220882208822088220882208822240003FF120001FF890000FFC4B04380;
+  answer = 6 ∷ 0 ∷ 0 ∷ 0 ∷ 0 ∷ 1 ∷ [];
+  written = [];
+}
+
+-- intervals of weekday 1, week 9, month 8, year 16: 5 with 1152.
+abbrev pub boxes1152 : Case
+boxes1152 = record {
+  sheet = hex 74 0x000100000020040100000476C1DB0000476E1DB800047701DC000047721DC800047741DD000047761DD800047781DE0000477A1DE80004110CC551DC208044100461804820044B043800;
+  answer = 5 ∷ 0 ∷ 0 ∷ 0 ∷ 0 ∷ 1152 ∷ [];
+  written = [];
+}
+
+-- the rule count runs past the end: 1 with 0.
+abbrev pub fieldPastEnd : Case
+fieldPastEnd = record {
+  sheet = hex 1 0x00;
+  answer = 1 ∷ 0 ∷ 0 ∷ 0 ∷ 0 ∷ 0 ∷ [];
+  written = [];
+}
+
+-- an operator of 3: 2 with 16.
+abbrev pub unlawfulOperator : Case
+unlawfulOperator = record {
+  sheet = hex 12 0x0001C0000000000000000000;
+  answer = 2 ∷ 0 ∷ 0 ∷ 0 ∷ 0 ∷ 16 ∷ [];
+  written = [];
+}
+
+-- the last padding bit is set: 3 with its place.
+abbrev pub paddingSet : Case
+paddingSet = record {
+  sheet = hex 15 0x00010000000000000000040005A001;
+  answer = 3 ∷ 0 ∷ 0 ∷ 0 ∷ 0 ∷ 119 ∷ [];
+  written = [];
+}
+
+-- a byte follows: 3 with the first bit after the padding.
+abbrev pub bytesFollow : Case
+bytesFollow = record {
+  sheet = hex 3 0x000000;
+  answer = 3 ∷ 0 ∷ 0 ∷ 0 ∷ 0 ∷ 16 ∷ [];
+  written = [];
+}
+
+-- 65 rules: 4 with 0.
+abbrev pub rules65 : Case
+rules65 = record {
+  sheet = hex 2 0x0041;
+  answer = 4 ∷ 0 ∷ 0 ∷ 0 ∷ 0 ∷ 0 ∷ [];
+  written = [];
+}
+
+-- the table
+abbrev pub cases : List Case
+cases =
+    p1 ∷ p2 ∷ p4 ∷ p5 ∷ p6 ∷ p7 ∷ p9 ∷ p10 ∷ p11
+    ∷ growing ∷ pushes ∷ leaves ∷ staysGrouped ∷ entries32 ∷ entries33 ∷ boxes1152
+    ∷ fieldPastEnd ∷ unlawfulOperator ∷ paddingSet ∷ bytesFollow ∷ rules65 ∷ []

@@ -1,0 +1,10 @@
+pub mod Part
+pub mod Value
+pub mod Steps
+pub mod Image
+pub mod Cover
+pub mod Interval
+pub mod Cut
+pub mod Box
+pub mod Count
+pub mod Distinct

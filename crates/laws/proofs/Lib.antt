@@ -1,0 +1,5 @@
+pub mod Flags
+pub mod Tests
+pub mod Lists
+pub mod Spread
+pub mod Numbers

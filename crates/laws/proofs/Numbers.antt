@@ -1,0 +1,50 @@
+-- Laws of the numbers from one on. Rests on the lists' laws.
+-- Assumes nothing.
+use mathlib.Core.Path.{_≡_, refl, ap, ap₂, _∙_}
+use mathlib.Core.List.{_∷_, _++_}
+use mathlib.Core.Bool.{Bool, true, false}
+use Prim.Native.Nat.{ℕ, zero, suc, _+_, _≤_, _<_}
+use native.Mathlib.Omega.{arith}
+use lib.ListN.{length}
+use lib.Dec.{eqb}
+use borrow.Author.Tests.{ne-eqb, eqb-false}
+use Rattle.laws.specs.Lists.{from, anyOf, All, Mem}
+use Rattle.laws.proofs.Tests.{exact-eqb}
+use Rattle.laws.proofs.Lists.{any-Mem}
+
+pub length-from : (s n : ℕ) → length (from s n) ≡ n
+unfolding from
+length-from s zero = refl
+length-from s (suc n) = ap suc (length-from (suc s) n)
+
+pub from-append : (s n m k : ℕ) → s + n ≡ k → from s n ++ from k m ≡ from s (n + m)
+unfolding from
+from-append s zero m k q = let a : k ≡ s = omega arith in let b : m ≡ 0 + m = omega arith in ap₂ from a b
+from-append s (suc n) m k q = let e : suc (n + m) ≡ suc n + m = omega arith in ap (s ∷_) (from-append (suc s) n m k (omega arith)) ∙ ap (from s) e
+
+pub from-below : (b s n : ℕ) → b < s → anyOf (eqb b) (from s n) ≡ false
+unfolding anyOf from
+from-below b s zero h = refl
+from-below b s (suc n) h = rw (ne-eqb b s (omega arith), from-below b (suc s) n (omega arith))
+
+pub from-above : (b s n : ℕ) → s + n ≤ b → anyOf (eqb b) (from s n) ≡ false
+unfolding anyOf from
+from-above b s zero h = refl
+from-above b s (suc n) h = rw (ne-eqb b s (omega arith), from-above b (suc s) n (omega arith))
+
+pub from-inside : (b s n : ℕ) → s ≤ b → b < s + n → anyOf (eqb b) (from s n) ≡ true
+unfolding anyOf from
+from-inside b s zero h k = absurd (omega arith)
+from-inside b s (suc n) h k = go (eqb b s) refl (from-inside b (suc s) n)
+  where
+    go : (v : Bool) → eqb b s ≡ v → (suc s ≤ b → b < suc s + n → anyOf (eqb b) (from (suc s) n) ≡ true) → anyOf (eqb b) (from s (suc n)) ≡ true
+    go true e ih = rw e
+    go false e ih = rw e (ih (omega (arith, eqb-false b s e)) (omega arith))
+
+pub All-from : (P : ℕ → Type 0) (s n : ℕ) → ((b : ℕ) → s ≤ b → b < s + n → P b) → All P (from s n)
+unfolding from
+All-from P s zero h = tt
+All-from P s (suc n) h = (h s (omega arith) (omega arith), All-from P (suc s) n (λ b l k. h b (omega arith) (omega arith)))
+
+pub Mem-from : (b s n : ℕ) → s ≤ b → b < s + n → Mem b (from s n)
+Mem-from b s n h k = any-Mem exact-eqb b (from s n) (from-inside b s n h k)

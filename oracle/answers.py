@@ -1,0 +1,212 @@
+"""The stored answers: `python3 oracle/answers.py --seed N` writes crates/replay/data/{fold,lookup,back,read,day}.txt.
+
+All answers are the reference's. Folds and days inside the Rust's domain are held against the built oracle while the
+lists are made. A case is a line, its fields separated by a space, bytes in upper-case hex and `-` for none; lines that
+start with `#` are remarks. Rests on `reference`, on `cases` for the sheets and on `compare` for the oracle.
+"""
+
+from __future__ import annotations
+
+import argparse
+from collections import Counter
+from itertools import islice
+from operator import itemgetter
+from pathlib import Path
+from random import Random
+from typing import Iterable
+
+from cases import (
+    EVERY_SORT, REFUSED_SORTS, damaged, each_refused_sort, generated, largest, named_dates, named_sheets,
+    refused_sort, sample_date, twice_refused,
+)
+from compare import day_line, fold_line, oracle_lines, verdict
+from reference.fold import fold, write_back
+from reference.lookup import lookup
+from reference.points import LIST_LIMIT
+from reference.sheet import read_sheet, write_sheet
+from reference.worked import EXAMPLE, FOLDS, ROOM, check_worked
+
+DATA = Path(__file__).parent.parent / "crates" / "replay" / "data"
+
+
+# Lines
+
+
+def hexed(given: bytes) -> str:
+    return given.hex().upper() or "-"
+
+
+def fold_case(sheet: bytes, room: int) -> str:
+    answer, result = fold(sheet, room)
+    return " ".join(map(str, (hexed(sheet), room, *answer, hexed(result))))
+
+
+def lookup_case(sheet: bytes, date: tuple[int, int, int, int]) -> str:
+    return " ".join(map(str, (hexed(sheet), *date, *lookup(sheet, *date))))
+
+
+def back_case(sheet: bytes, room: int) -> str:
+    answer, result = write_back(sheet, room)
+    return " ".join(map(str, (hexed(sheet), room, *answer, hexed(result))))
+
+
+def read_case(sheet: bytes) -> str:
+    code, place, _ = refused_sort(sheet)
+    return f"{hexed(sheet)} {code} {place} {0 if code else len(read_sheet(sheet)[0])}"
+
+
+def some_room(random: Random, needed: int) -> int:
+    """Mostly ample, at times just enough, just short or none at all."""
+    return random.choices((ROOM, needed, max(needed - 1, 0), needed + 1, 0), (80, 6, 8, 3, 3))[0]
+
+
+def telling_dates(sheet: bytes, random: Random) -> Iterable[tuple[int, int, int, int]]:
+    """Of some dates one for each different answer."""
+    dates = [sample_date(random) for _ in range(30)]
+    return {lookup(sheet, *date): date for date in dates}.values()
+
+
+# The five lists, each made of remarks and cases
+
+
+def fold_lines(seed: int) -> list[str]:
+    random = Random(f"{seed}/rooms of folds")
+    lines = []
+    for name, sheet in (named_sheets() | twice_refused()).items():
+        needed = fold(sheet, ROOM)[0].bytes
+        rooms = dict.fromkeys((ROOM, needed, max(needed - 1, 0), 0))
+        lines += [f"# {name}", *(fold_case(sheet, room) for room in rooms)]
+    lines += ["# the largest of many"]
+    lines += [fold_case(sheet, ROOM) for sheet in largest(seed)]
+    lines += ["# each sort of refusal in reading"]
+    lines += [fold_case(sheet, ROOM) for sheet in each_refused_sort(seed, 1)]
+    lines += ["# generated, inside the Rust's domain and then anywhere"]
+    for inside, wanted in ((True, 1200), (False, 600)):
+        for sheet in islice(generated(f"{seed}/folds", inside), wanted):
+            lines.append(fold_case(sheet, some_room(random, fold(sheet, ROOM)[0].bytes)))
+    return lines
+
+
+def lookup_lines(seed: int) -> list[str]:
+    random = Random(f"{seed}/dates")
+    lines = []
+    for name, sheet in (named_sheets() | twice_refused()).items():
+        dates = ((2000, 2, 29, 720), (1900, 2, 29, 720), (2027, 1, 1, 600))
+        lines += [f"# {name}", *(lookup_case(sheet, date) for date in dates)]
+    lines += ["# dates, and numbers that are no dates"]
+    weeks = write_sheet(FOLDS["P6"][0])
+    lines += [lookup_case(sheet, date) for date in named_dates() for sheet in (EXAMPLE, weeks)]
+    lines += ["# each sort of refusal in reading"]
+    lines += [lookup_case(sheet, sample_date(random)) for sheet in each_refused_sort(seed, 1)]
+    lines += ["# generated, answered and then anyhow"]
+    answered = generated(f"{seed}/lookups", False, lambda sheet: lookup(sheet, 2024, 2, 29, 600).code == 0)
+    lines += [lookup_case(sheet, date) for sheet in islice(answered, 400) for date in telling_dates(sheet, random)]
+    anyhow = generated(f"{seed}/any lookup", False)
+    lines += [lookup_case(sheet, sample_date(random)) for sheet in islice(anyhow, 500)]
+    return lines
+
+
+def back_lines(seed: int) -> list[str]:
+    random = Random(f"{seed}/rooms of write-backs")
+    lines = []
+    for name, sheet in (named_sheets() | twice_refused()).items():
+        rooms = dict.fromkeys((ROOM, len(sheet), max(len(sheet) - 1, 0), 0))
+        lines += [f"# {name}", *(back_case(sheet, room) for room in rooms)]
+    lines += ["# each sort of refusal in reading"]
+    lines += [back_case(sheet, ROOM) for sheet in each_refused_sort(seed, 1)]
+    lines += ["# generated"]
+    sheets = islice(generated(f"{seed}/backs", False), 400)
+    lines += [back_case(sheet, some_room(random, len(sheet))) for sheet in sheets]
+    return lines
+
+
+def read_lines(seed: int) -> list[str]:
+    lines = []
+    for name, sheet in (named_sheets() | twice_refused()).items():
+        lines += [f"# {name}", read_case(sheet)]
+    short = {"the example": EXAMPLE, "P9": write_sheet(FOLDS["P9"][0]), "a rule with every sort of item": EVERY_SORT}
+    for name, sheet in short.items():
+        lines += [f"# every truncation and every flipped bit of {name}", *map(read_case, damaged(sheet))]
+    lines += ["# each sort of refusal in reading", *map(read_case, each_refused_sort(seed, 5))]
+    lines += ["# generated", *map(read_case, islice(generated(f"{seed}/reads", False), 400))]
+    return lines
+
+
+def day_lines(seed: int) -> list[str]:
+    def is_list(sheet: bytes) -> bool:
+        return refused_sort(sheet)[0] == 0 and len(read_sheet(sheet)[0]) <= LIST_LIMIT
+
+    lines = []
+    for name, sheet in named_sheets().items():
+        if is_list(sheet):
+            lines += [f"# {name}", f"{hexed(sheet)} {day_line(sheet)}"]
+    lines += ["# generated"]
+    sheets = islice(generated(f"{seed}/days", True, is_list), 700)
+    return lines + [f"{hexed(sheet)} {day_line(sheet)}" for sheet in sheets]
+
+
+# The files
+
+
+def sheets_in(lines: Iterable[str]) -> list[bytes]:
+    given = (line.split()[0] for line in lines if not line.startswith("#"))
+    return [bytes.fromhex("" if sheet == "-" else sheet) for sheet in dict.fromkeys(given)]
+
+
+def held_against_oracle(lines: list[str], of_sheet, mode: list[str]) -> str:
+    """A remark on how the sheets of the lines came out beside the oracle; an assertion if one differs."""
+    given = sheets_in(lines)
+    counts: Counter = Counter()
+    for sheet, theirs in zip(given, oracle_lines(given, mode), strict=True):
+        name, difference = verdict(sheet, of_sheet(sheet), theirs)
+        assert difference is None, difference
+        counts[name] += 1
+    told = ", ".join(f"{number} {name}" for name, number in sorted(counts.items()))
+    return f"# of {len(given)} different sheets, beside the Rust oracle: {told}"
+
+
+def codes_remark(lines: list[str], layout: str) -> str:
+    column = layout.split().index("CODE")
+    counts = Counter(int(line.split()[column]) for line in lines if not line.startswith("#"))
+    return "# answers by code: " + ", ".join(f"{code}: {number}" for code, number in sorted(counts.items()))
+
+
+def sorts_remarks(lines: list[str]) -> list[str]:
+    """For each code of reading, at which sorts of field or bit it is given here; none may be missing."""
+    counts = Counter((code, sort) for code, _, sort in map(refused_sort, sheets_in(lines)) if code)
+    assert set(REFUSED_SORTS) == set(counts), set(REFUSED_SORTS) ^ set(counts)
+    told: dict[int, list[str]] = {}
+    for code, sort in sorted(REFUSED_SORTS, key=itemgetter(0)):
+        told.setdefault(code, []).append(f"{sort} ({counts[code, sort]})")
+    return [f"# code {code} at: " + ", ".join(sorts) for code, sorts in told.items()]
+
+
+def write_list(name: str, seed: int, layout: str, remarks: list[str], lines: list[str]) -> None:
+    head = [f"# made by: python3 oracle/answers.py --seed {seed}", f"# {layout}", *remarks]
+    (DATA / name).write_text("\n".join(head + lines) + "\n")
+    print(f"{name}: {sum(not line.startswith('#') for line in lines)} answers")
+
+
+def main() -> None:
+    parser = argparse.ArgumentParser(description="Write the stored answers.")
+    parser.add_argument("--seed", type=int, required=True)
+    seed = parser.parse_args().seed
+    check_worked()
+    DATA.mkdir(parents=True, exist_ok=True)
+    coded = (
+        ("fold.txt", "SHEET ROOM CODE DRAINED EMITTED LEFT BYTES PLACE RESULT", fold_lines(seed)),
+        ("lookup.txt", "SHEET YEAR MONTH DAY MINUTE CODE KIND COMMENT PLACE", lookup_lines(seed)),
+        ("back.txt", "SHEET ROOM CODE BYTES PLACE RESULT", back_lines(seed)),
+        ("read.txt", "SHEET CODE PLACE RULES", read_lines(seed)),
+    )
+    for name, layout, lines in coded:
+        remarks = [codes_remark(lines, layout), *sorts_remarks(lines)]
+        if name == "fold.txt":
+            remarks.append(held_against_oracle(lines, fold_line, []))
+        write_list(name, seed, layout, remarks, lines)
+    days = day_lines(seed)
+    write_list("day.txt", seed, "SHEET RESULT", [held_against_oracle(days, day_line, ["--days"])], days)
+
+
+if __name__ == "__main__":
+    main()

@@ -1,0 +1,215 @@
+"""The sheets and dates of the stored answers: named ones, damaged ones, and short ones of the generator.
+
+Rests on `generate` and on `reference`, whose worked days stand among the named sheets.
+"""
+
+from __future__ import annotations
+
+from itertools import count
+from random import Random
+from typing import Callable, Iterator
+
+from generate import MINUTES, YEAR_VALUES, fields_met, flip, overwrite, sheet_number
+from reference.build import ITEM_OF_SORT, boxes_rule, fixed, hours, plain_rule, weekdays
+from reference.fold import fold
+from reference.points import DIMENSIONS, Dimension
+from reference.sheet import (
+    ADDITIONAL, DAY_ITEMS, EVENT, EVENT_OFFSET, FIXED_MINUTES, ITEM_COUNTS, ITEM_FIELDS, ITEM_LIMIT, NO_REPEATS, OPEN_END,
+    PADDING, PAST_THE_END, REPEATS, REPEATS_FLAG, RULE_COUNT, RULE_HEAD, RULE_LIMIT, TIME_TAG,
+    DatedRange, Field, Holiday, Months, MonthsOfYear, Refusal, Rule, Span, Time, Week, Year, read_sheet, write_sheet,
+)
+from reference.worked import EXAMPLE, FOLDS, LOOKUPS, ROOM, RUNS
+
+SHORT = 120  # bytes of a sheet that is stored among many
+LAST_NUMBER = 2**64 - 1
+SEARCHED = 2000
+
+# One rule with every sort of item and time, short enough to store all its flips and truncations.
+EVERY_SORT = write_sheet([
+    plain_rule(
+        comment=2, years=(Year(2000, 2001, 1),), monthdays=(Months(11, 2), MonthsOfYear(1, 12, 2024), DatedRange(7)),
+        weeks=(Week(50, 53, 1),), weekdays=(weekdays(4, 0), Holiday(1, -1)),
+        spans=(fixed(600, 1080, 1, 90), Span(Time(1, 2, -30), Time(0, 0, 1440), 0, NO_REPEATS)),
+    )
+])
+
+ALL_FIELDS: list[Field] = list(dict.fromkeys([
+    RULE_COUNT, *RULE_HEAD, *ITEM_COUNTS, *(tag for tag, _ in DAY_ITEMS if tag),
+    *(field for fields in ITEM_FIELDS.values() for field in fields),
+    TIME_TAG, FIXED_MINUTES, EVENT, EVENT_OFFSET, OPEN_END, REPEATS_FLAG, REPEATS,
+]))
+
+
+def lawless_values(field: Field) -> list[int]:
+    """The unlawful values next to the lawful ones, and the farthest ones; none for offsets, lawful throughout."""
+    patterns = range(2**field.width) if field.lowest >= 0 else range(0)
+    edges = dict.fromkeys((field.lowest - 1, field.highest + 1, 0, 2**field.width - 1))
+    return [value for value in edges if value in patterns and not field.lowest <= value <= field.highest]
+
+
+Sort = tuple[int, str]  # a code of reading, and the sort of field or bit at its place
+REFUSED_SORTS: list[Sort] = [
+    *((PAST_THE_END, field.name) for field in ALL_FIELDS),
+    *((field.refused_by, field.name) for field in ALL_FIELDS if lawless_values(field)),
+    *((PADDING, f"padding bit {bit}") for bit in range(1, 8)),
+    (PADDING, "bytes after the padding"),
+]
+
+
+# Named sheets
+
+
+def named_sheets() -> dict[str, bytes]:
+    """The document's own cases, and sheets at the limits and one past them."""
+    named = {"the example": EXAMPLE, "no bytes": b"", "every sort of item": EVERY_SORT}
+    named |= {name: write_sheet(given) for name, (given, _) in (FOLDS | RUNS).items()}
+    for above in (0, 1):
+        rules = [plain_rule(comment=place) for place in range(RULE_LIMIT + above)]
+        named[f"{len(rules)} rules"] = write_sheet(rules)
+        for sort, item in ITEM_OF_SORT.items():
+            repeated = (item,) * (ITEM_LIMIT + above)
+            named[f"{len(repeated)} {sort}"] = write_sheet([plain_rule(**{sort: repeated})])
+    named["1024 boxes, no two alike"] = write_sheet(boxes_all_different(comments=False))
+    named["1024 boxes, no two alike, longer than 65536 bytes"] = write_sheet(boxes_all_different(comments=True))
+    return named
+
+
+def boxes_all_different(comments: bool) -> list[Rule]:
+    """Weeks, months and years cut into 8, 8 and 16, and for each bit of an interval's number a rule where it is set."""
+    numbered = [(dimension, bit) for dimension, bits in zip(DIMENSIONS[1:], (3, 3, 4)) for bit in range(bits)]
+    bits_of = {dimension: sum(other == dimension for other, _ in numbered) for dimension in DIMENSIONS}
+    return [
+        plain_rule(
+            operator=ADDITIONAL, comment=place if comments else 0, spans=(hours(2 * place, 2 * place + 1),),
+            **{dimension.items: tuple(intervals_with_bit(dimension, bits_of[dimension], bit))},
+        )
+        for place, (dimension, bit) in enumerate(numbered)
+    ]
+
+
+def intervals_with_bit(dimension: Dimension, bits: int, bit: int) -> Iterator[tuple]:
+    """Single values from the lowest on, and the rest as the last interval: those whose number has the bit."""
+    make = {"years": Year, "weeks": Week, "monthdays": Months}[dimension.items]
+    last = 2**bits - 1
+    for interval in range(last + 1):
+        start = dimension.lowest + interval
+        end = dimension.upper - 1 if interval == last else start
+        if interval >> bit & 1:
+            yield make(start, end) if make is Months else make(start, end, 1)
+
+
+def twice_refused() -> dict[str, bytes]:
+    """Sheets for which two codes hold, so that the order of refusals shows."""
+    boxes, entries = boxes_rule((1, 9, 8, 16)), [plain_rule(operator=ADDITIONAL)] * 33
+    stopper, early = plain_rule(spans=(fixed(1080, 1441),)), Year(1899, 2000, 1)
+    folded = {
+        "5 before 6": write_sheet([boxes, *entries]), "5 before 9": write_sheet([boxes, stopper]),
+        "6 before 9": write_sheet([*entries, stopper]),
+    }
+    return {
+        **folded,
+        **{f"3, then {name}": sheet + b"\0" for name, sheet in folded.items()},
+        **{f"1, then {name}": sheet[:-1] for name, sheet in folded.items()},
+        "4 before 2": write_sheet([plain_rule(years=(early,) * 17)]),
+        "2 before 4": write_sheet([plain_rule(kind=3, years=(early,) * 17)]),
+        "2 before 1": write_sheet([plain_rule(years=(early,))])[:-1],
+        "2 before 3": write_sheet([plain_rule(years=(early,))]) + b"\0",
+    }
+
+
+# Sheets of the generator
+
+
+def generated(seed: str, inside: bool, keep: Callable[[bytes], bool] = lambda sheet: True) -> Iterator[bytes]:
+    """Short sheets that are to be kept, without end."""
+    for number in count():
+        sheet = sheet_number(seed, number, inside)
+        if len(sheet) <= SHORT and keep(sheet):
+            yield sheet
+
+
+def largest(seed: int) -> list[bytes]:
+    """Of many sheets the few longest, and the few of which most rules come out."""
+    sheets = [sheet_number(f"{seed}/large", number, True) for number in range(SEARCHED)]
+    most = sorted(sheets, key=lambda sheet: fold(sheet, ROOM)[0].emitted)[-5:]
+    return list(dict.fromkeys(most + sorted(sheets, key=len)[-3:]))
+
+
+# Refused readings
+
+
+def refused_sort(sheet: bytes) -> tuple[int, int, str]:
+    """Code and place of reading, and the sort of field or bit at the place; code 0 where it is accepted."""
+    try:
+        read_sheet(sheet)
+    except Refusal as refusal:
+        at_a_field = refusal.code != PADDING
+        return refusal.code, refusal.place, fields_met(sheet)[-1][0].name if at_a_field else padding_sort(refusal.place)
+    return 0, 0, "accepted"
+
+
+def padding_sort(place: int) -> str:
+    """Padding never begins a byte, and what follows it always does."""
+    return f"padding bit {place % 8}" if place % 8 else "bytes after the padding"
+
+
+def damaged(sheet: bytes) -> Iterator[bytes]:
+    """Every truncation and every single flipped bit."""
+    yield from (sheet[:size] for size in range(len(sheet)))
+    yield from (flip(sheet, bit) for bit in range(8 * len(sheet)))
+
+
+def spoiled(sheet: bytes) -> Iterator[tuple[Sort, bytes]]:
+    """Every truncation of a sound sheet, every field set to unlawful values, every wrong end, each with its sort."""
+    fields = fields_met(sheet)
+    for size in range(len(sheet)):
+        cut = next(field for field, place in fields if place + field.width > 8 * size)
+        yield (PAST_THE_END, cut.name), sheet[:size]
+    for field, place in fields:
+        for value in lawless_values(field):
+            yield (field.refused_by, field.name), overwrite(sheet, place, field.width, value)
+    last, place = fields[-1]
+    for bit in range(place + last.width, 8 * len(sheet)):
+        yield (PADDING, padding_sort(bit)), flip(sheet, bit)
+    yield (PADDING, padding_sort(8 * len(sheet))), sheet + b"\0"
+
+
+def each_refused_sort(seed: int, quota: int) -> list[bytes]:
+    """For each code and each sort of place in reading so many sheets, no two of them from the same one."""
+    random = Random(f"{seed}/which of a sort")
+    sound = generated(f"{seed}/refused", False, lambda sheet: refused_sort(sheet)[0] == 0)
+    found: dict[Sort, list[bytes]] = {sort: [] for sort in REFUSED_SORTS}
+    while any(len(cases) < quota for cases in found.values()):
+        of_sheet: dict[Sort, list[bytes]] = {}
+        for sort, case in spoiled(next(sound)):
+            of_sheet.setdefault(sort, []).append(case)
+        for sort, cases in of_sheet.items():
+            if len(found[sort]) < quota:
+                found[sort].append(random.choice(cases))
+    return [case for cases in found.values() for case in cases]
+
+
+# Dates
+
+
+def named_dates() -> list[tuple[int, int, int, int]]:
+    """Ends of months and years, leap days, and numbers that are no date or minute."""
+    ends = [(year, month, day, 720) for year in (1900, 1999, 2000, 2024, 2100, 9999) for month, day in (
+        (1, 1), (1, 7), (1, 8), (2, 28), (2, 29), (2, 30), (3, 1), (4, 30), (4, 31), (12, 9), (12, 10), (12, 30), (12, 31))]
+    none = [(1899, 12, 31, 0), (10000, 1, 1, 0), (0, 1, 1, 0), (2000, 0, 1, 0), (2000, 13, 1, 0), (2000, 1, 0, 0),
+            (2000, 1, 32, 0), (2000, 1, 1, 1440), (2000, 1, 1, 1439), (2000, 1, 1, 0)]
+    large = [tuple(number if place == part else 1 for place in range(4)) for part in range(4)
+             for number in (2**16, 2**31, 2**32 + 1, LAST_NUMBER)]
+    far = [(2000 + 2**32, 1, 1, 0), (2000, 1 + 2**32, 1, 0), (2000, 1, 1 + 2**32, 0), (2000, 1, 1, 2**32),
+           (LAST_NUMBER,) * 4, (2000 + 2**16, 1, 1, 0), (2000, 1 + 2**8, 1, 0), (2000, 1, 1 + 2**8, 0)]
+    return [date for date, _ in LOOKUPS] + ends + none + large + far
+
+
+def sample_date(random: Random) -> tuple[int, int, int, int]:
+    """Mostly a date of the generator's years, near the start or end of the year or anywhere, at a span's edge."""
+    year = random.choice(YEAR_VALUES) if random.random() < 0.8 else random.randint(1890, 10010)
+    month, day = random.choice((
+        (1, random.randint(1, 31)), (12, random.randint(1, 31)), (2, random.randint(27, 30)),
+        (random.randint(1, 12), random.randint(1, 31)), (random.randint(0, 13), random.randint(0, 32)),
+    ))
+    return year, month, day, max(0, random.choice(MINUTES[:-1]) - random.getrandbits(1))

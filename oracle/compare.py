@@ -1,0 +1,164 @@
+"""The reference held against the Rust oracle: `python3 oracle/compare.py --seed N --count N [--any|--days|--halves]`.
+
+Generated sheets go to both; counts are printed and, where the two differ, the smallest inputs. Exit status 1 on any
+difference. The sheets stay inside the Rust's domain, but with `--any`. `--days` compares days of lists in place of
+folds. `--halves` takes drained rules alone, and the Rust, whose years and weeks don't wrap, gets those that do as their
+two halves. Rests on the built oracle (oracle/target/release/oracle), on `generate` and on `reference`.
+"""
+
+from __future__ import annotations
+
+import argparse
+import subprocess
+import sys
+from collections import Counter
+from functools import partial
+from multiprocessing import Pool
+from pathlib import Path
+from random import Random
+from typing import Iterator, NamedTuple
+
+from generate import sheets
+from reference.check import check_boxes_against_points
+from reference.day import day_of, rules_of_day
+from reference.fold import fold
+from reference.points import DIMENSIONS, drained_of, ranges_of
+from reference.sheet import PADDING, PAST_THE_END, UNLAWFUL, Refusal, Week, Year, read_sheet, write_sheet
+
+ORACLE = Path(__file__).parent / "target" / "release" / "oracle"
+WORKERS, CHUNK, SHOWN = 2, 500, 5
+AMPLE_ROOM = 2**32
+POINT_CHECK_EVERY = 50  # the literal check costs several folds
+UNREADABLE = "outside unreadable"
+_, WEEKS, _, YEARS = DIMENSIONS
+
+
+class Difference(NamedTuple):
+    sheet: bytes
+    reference: str
+    oracle: str
+
+
+def oracle_lines(given: list[bytes], mode: list[str]) -> list[str]:
+    """One line of the oracle for each sheet; `crashed` for one that it doesn't survive."""
+    text = "".join(sheet.hex() + "\n" for sheet in given)
+    done = subprocess.run([ORACLE, *mode], input=text, capture_output=True, text=True)
+    if done.returncode == 0:
+        return done.stdout.splitlines()
+    if len(given) == 1:
+        return ["crashed"]
+    return [line for sheet in given for line in oracle_lines([sheet], mode)]
+
+
+def fold_line(sheet: bytes) -> str:
+    """The fold as the oracle prints it, or `refused CODE PLACE`."""
+    answer, result = fold(sheet, AMPLE_ROOM)
+    if answer.code:
+        return f"refused {answer.code} {answer.place}"
+    return f"{answer.drained} {answer.emitted} {answer.left} {result.hex().upper()}"
+
+
+def day_line(sheet: bytes) -> str:
+    """The day of the list of all rules, days and operators put aside, or `refused CODE PLACE`."""
+    try:
+        rules, _ = read_sheet(sheet)
+    except Refusal as refusal:
+        return f"refused {refusal.code} {refusal.place}"
+    return write_sheet(rules_of_day(day_of(rules))).hex().upper()
+
+
+def drained_alone(sheet: bytes) -> bytes:
+    """The sheet without the rules left; a refused sheet as it is."""
+    try:
+        return write_sheet(drained_of(read_sheet(sheet)[0]))
+    except Refusal:
+        return sheet
+
+
+def in_halves(sheet: bytes) -> bytes:
+    """The sheet with each range of years or weeks as the parts that it is split into; a refused sheet as it is."""
+    try:
+        rules, _ = read_sheet(sheet)
+    except Refusal:
+        return sheet
+    return write_sheet([
+        rule._replace(
+            years=tuple(Year(start, after - 1, 1) for start, after in ranges_of(rule, YEARS) if rule.years),
+            weeks=tuple(Week(start, after - 1, 1) for start, after in ranges_of(rule, WEEKS) if rule.weeks),
+        )
+        for rule in rules
+    ])
+
+
+def verdict(sheet: bytes, ours: str, theirs: str) -> tuple[str, Difference | None]:
+    """What the sheet counts as, and the difference, if there is one."""
+    if ours.startswith("refused"):
+        code = int(ours.split()[1])
+        answered = code in (PAST_THE_END, UNLAWFUL, PADDING) and not theirs.startswith("outside")
+        return f"refused by the reference: code {code}", Difference(sheet, ours, theirs) if answered else None
+    if theirs.startswith("outside") and theirs != UNREADABLE:
+        return theirs, None
+    if ours == theirs:
+        return "compared and equal", None
+    return "compared and differing", Difference(sheet, ours, theirs)
+
+
+def lines_of_both(seed: int, mode: str, numbers: range) -> Iterator[tuple[bytes, str, str]]:
+    """Each sheet, the reference's line and the oracle's."""
+    given = list(sheets(seed, numbers, inside=mode in ("folds", "days")))
+    if mode == "days":
+        return zip(given, map(day_line, given), oracle_lines(given, ["--days"]), strict=True)
+    if mode == "halves":
+        given = list(map(drained_alone, given))
+        return zip(given, map(fold_line, given), oracle_lines(list(map(in_halves, given)), []), strict=True)
+    return zip(given, map(fold_line, given), oracle_lines(given, []), strict=True)
+
+
+def compare_chunk(seed: int, mode: str, numbers: range) -> tuple[Counter, list[Difference]]:
+    counts: Counter = Counter()
+    differences = []
+    for number, (sheet, ours, theirs) in zip(numbers, lines_of_both(seed, mode, numbers)):
+        name, difference = verdict(sheet, ours, theirs)
+        counts[name] += 1
+        if difference:
+            differences.append(difference)
+        if mode != "days" and number % POINT_CHECK_EVERY == 0 and not ours.startswith("refused"):
+            check_boxes_against_points(drained_of(read_sheet(sheet)[0]), Random(number))
+            counts["checked at points too"] += 1
+    return counts, differences
+
+
+def report(count: int, counts: Counter, differences: list[Difference]) -> None:
+    print(f"{count:>9} sheets")
+    for name, number in sorted(counts.items()):
+        print(f"{number:>9} {name}")
+    print(f"{len(differences):>9} differences")
+    for difference in sorted(differences, key=lambda found: (len(found.sheet), found.sheet))[:SHOWN]:
+        print(f"sheet     {difference.sheet.hex().upper()}")
+        print(f"reference {difference.reference}\noracle    {difference.oracle}")
+
+
+def main() -> int:
+    parser = argparse.ArgumentParser(description="Compare the reference with the Rust oracle on generated sheets.")
+    parser.add_argument("--seed", type=int, required=True)
+    parser.add_argument("--count", type=int, required=True)
+    modes = parser.add_mutually_exclusive_group()
+    modes.add_argument("--any", dest="mode", action="store_const", const="any", help="outside sheets and damaged ones too")
+    modes.add_argument("--days", dest="mode", action="store_const", const="days", help="days of lists in place of folds")
+    modes.add_argument("--halves", dest="mode", action="store_const", const="halves", help="ranges that wrap as halves")
+    parser.set_defaults(mode="folds")
+    arguments = parser.parse_args()
+    chunks = [range(start, min(start + CHUNK, arguments.count)) for start in range(0, arguments.count, CHUNK)]
+    counts: Counter = Counter()
+    differences: list[Difference] = []
+    with Pool(WORKERS) as pool:
+        work = partial(compare_chunk, arguments.seed, arguments.mode)
+        for chunk_counts, chunk_differences in pool.imap_unordered(work, chunks):
+            counts += chunk_counts
+            differences += chunk_differences
+    report(arguments.count, counts, differences)
+    return 1 if differences else 0
+
+
+if __name__ == "__main__":
+    sys.exit(main())

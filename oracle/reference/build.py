@@ -1,0 +1,54 @@
+"""Short ways to write rules down, for the worked days and the generator.
+
+Rests on `sheet` for the values and on `points` for the dimensions.
+"""
+
+from __future__ import annotations
+
+from .points import DIMENSIONS, Dimension
+from .sheet import ALL_NTH, NORMAL, NO_REPEATS, OPEN, Months, Rule, Span, Time, Week, Weekdays, Year
+
+
+def fixed(start: int, end: int, open_end: int = 0, repeats: int = NO_REPEATS) -> Span:
+    return Span(Time(0, 0, start), Time(0, 0, end), open_end, repeats)
+
+
+def hours(start: int, end: int, open_end: int = 0) -> Span:
+    return fixed(60 * start, 60 * end, open_end)
+
+
+def weekdays(start: int, end: int) -> Weekdays:
+    return Weekdays(start, end, 0, ALL_NTH, ALL_NTH)
+
+
+# For each sort of items in a rule one that drains.
+ITEM_OF_SORT = {
+    "years": Year(2000, 2001, 1),
+    "monthdays": Months(11, 2),
+    "weeks": Week(50, 52, 1),
+    "weekdays": weekdays(4, 0),
+    "spans": hours(10, 18),
+}
+
+
+def plain_rule(**parts) -> Rule:
+    """A Normal Open rule over all days, 10:00-18:00, but for the parts given."""
+    return Rule(NORMAL, OPEN, 0, (), (), (), (), (ITEM_OF_SORT["spans"],))._replace(**parts)
+
+
+def alternating(dimension: Dimension, intervals: int) -> list[int]:
+    """Single values, no two of them neighbours, that cut a dimension into so many intervals."""
+    first = dimension.lowest + intervals % 2
+    return list(range(first, first + intervals // 2 * 2, 2))
+
+
+def boxes_rule(shape: tuple[int, int, int, int], **parts) -> Rule:
+    """One rule whose ranges make so many intervals of weekdays, weeks, months and years."""
+    days, weeks, months, years = map(alternating, DIMENSIONS, shape)
+    return plain_rule(
+        years=tuple(Year(year, year, 1) for year in years),
+        monthdays=tuple(Months(month, month) for month in months),
+        weeks=tuple(Week(week, week, 1) for week in weeks),
+        weekdays=tuple(weekdays(day, day) for day in days),
+        **parts,
+    )

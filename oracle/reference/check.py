@@ -1,0 +1,59 @@
+"""The computation over boxes held against the literal reading, at sampled points.
+
+Checked for the drained rules of an accepted fold: the list of a point's box is the list said literally for that point;
+the folded rules say at the point exactly its day; the day of simple spans shows at a minute the last span that covers
+it; and cuts beyond those needed change nothing. Rests on the other modules.
+"""
+
+from __future__ import annotations
+
+from bisect import bisect_right
+from random import Random
+
+from .day import Day, PLAIN_CLOSED, StatedSpan, day_of, flatten, is_simple
+from .fold import days_of_lists, fold_drained
+from .groups import folded_rules, number_of
+from .lookup import last_covering
+from .points import DIMENSIONS, MIDNIGHT, Dimension, Point, cuts_of, list_at, lists_of_boxes, shape_of
+from .sheet import Rule
+
+POINTS, MINUTES, EXTRA_CUTS = 40, 5, 2
+
+
+def check_boxes_against_points(drained: list[Rule], random: Random) -> None:
+    """Raises an assertion at the first disagreement."""
+    cuts = cuts_of(drained)
+    lists = lists_of_boxes(drained, cuts)
+    folded = fold_drained(drained)
+    for _ in range(POINTS):
+        point = tuple(map(sample_value, DIMENSIONS, cuts, [random] * len(DIMENSIONS)))
+        rules = [drained[index] for index in list_at(drained, point)]
+        said = [folded[index] for index in list_at(folded, point)]
+        day = day_of(rules)
+        assert lists[box_of(point, cuts)] == list_at(drained, point), ("list", point)
+        assert [(rule.kind, rule.comment, rule.spans) for rule in said] == [(*state, spans) for state, spans in day], point
+        check_minutes(flatten(rules), day, random)
+    finer = [
+        sorted({*values, *(random.randrange(dimension.lowest, dimension.upper) for _ in range(EXTRA_CUTS))})
+        for values, dimension in zip(cuts, DIMENSIONS)
+    ]
+    assert folded_rules(days_of_lists(drained, lists_of_boxes(drained, finer)), finer) == folded, ("cuts", finer)
+
+
+def check_minutes(spans: list[StatedSpan], day: Day, random: Random) -> None:
+    if not all(is_simple(span) for _, span in spans):
+        return
+    for minute in random.sample(range(MIDNIGHT), MINUTES):
+        shown = [state for state, runs in day for run in runs if run.start.minutes <= minute < run.end.minutes]
+        assert (shown or [PLAIN_CLOSED]) == [last_covering(spans, minute)], ("minute", minute, spans)
+
+
+def sample_value(dimension: Dimension, cuts: list[int], random: Random) -> int:
+    """A value at a cut, just before one, or anywhere: disagreements would stand at the edges."""
+    cut = random.choice(cuts)
+    value = random.choice((cut, cut - 1, random.randrange(dimension.lowest, dimension.upper)))
+    return min(max(value, dimension.lowest), dimension.upper - 1)
+
+
+def box_of(point: Point, cuts: list[list[int]]) -> int:
+    return number_of([bisect_right(values, value) - 1 for values, value in zip(cuts, point)], shape_of(cuts))

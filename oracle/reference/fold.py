@@ -1,0 +1,74 @@
+"""The fold and the write-back: the numbers of the answer, the refusals in their order, the bytes.
+
+Rests on `sheet`, `points`, `day` and `groups`.
+"""
+
+from __future__ import annotations
+
+from typing import NamedTuple
+
+from .day import Day, day_of
+from .groups import folded_rules
+from .points import List, check_boxes, cuts_of, drained_of, lists_of_boxes
+from .sheet import RULE_COUNT, Refusal, Rule, field_bits, pack, read_sheet, rule_bits, unpack, write_sheet
+
+BUFFER_TOO_SHORT = 7
+
+
+class Folded(NamedTuple):
+    code: int
+    drained: int
+    emitted: int
+    left: int
+    bytes: int
+    place: int
+
+
+class Written(NamedTuple):
+    code: int
+    bytes: int
+    place: int
+
+
+def fold(sheet: bytes, room: int) -> tuple[Folded, bytes]:
+    """The six numbers, and the bytes that then stand at the front of a buffer of `room` bytes."""
+    try:
+        rules, places = read_sheet(sheet)
+        drained = drained_of(rules)
+        emitted = fold_drained(drained)
+        left = len(rules) - len(drained)
+        copied = unpack(sheet, places[len(drained)], places[-1])
+        count = field_bits(RULE_COUNT, len(emitted) + left)
+        result = checked_room(pack(count + "".join(map(rule_bits, emitted)) + copied), room)
+    except Refusal as refusal:
+        return Folded(refusal.code, 0, 0, 0, 0, refusal.place), b""
+    return Folded(0, len(drained), len(emitted), left, len(result), 0), result
+
+
+def write_back(sheet: bytes, room: int) -> tuple[Written, bytes]:
+    """A sheet read and written again."""
+    try:
+        rules, _ = read_sheet(sheet)
+        result = checked_room(write_sheet(rules), room)
+    except Refusal as refusal:
+        return Written(refusal.code, 0, refusal.place), b""
+    return Written(0, len(result), 0), result
+
+
+def checked_room(result: bytes, room: int) -> bytes:
+    if room < len(result):
+        raise Refusal(BUFFER_TOO_SHORT, len(result))
+    return result
+
+
+def fold_drained(drained: list[Rule]) -> list[Rule]:
+    """The folded rules; boxes are judged before any list is."""
+    cuts = cuts_of(drained)
+    check_boxes(cuts)
+    return folded_rules(days_of_lists(drained, lists_of_boxes(drained, cuts)), cuts)
+
+
+def days_of_lists(drained: list[Rule], lists: list[List]) -> list[Day]:
+    """The day of each list, made once for each different one."""
+    made = {entries: day_of(drained[index] for index in entries) for entries in set(lists)}
+    return [made[entries] for entries in lists]

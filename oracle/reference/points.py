@@ -1,0 +1,165 @@
+"""From rules to points: ranges, stoppers, draining, the count of boxes (code 5), the list at each point (code 6).
+
+A list is a tuple of indexes of drained rules. `list_at` says it literally, for one point; `lists_of_boxes` computes it
+once for each box between cuts, where no range begins or ends. Rests on `sheet` for the rules.
+"""
+
+from __future__ import annotations
+
+from itertools import product
+from math import prod
+from typing import NamedTuple
+
+from .sheet import ALL_NTH, CLOSED, FALLBACK, NORMAL, Months, Refusal, Rule, Span, Weekdays
+
+BOX_LIMIT, LIST_LIMIT = 1024, 32
+TOO_MANY_BOXES, LIST_TOO_LONG = 5, 6
+MIDNIGHT = 1440
+
+Range = tuple[int, int]  # start, and the end excluded
+Point = tuple[int, int, int, int]  # weekday, week, month, year
+List = tuple[int, ...]
+
+
+class Dimension(NamedTuple):
+    """`upper` is the unreachable value above the highest; `items` names the rule's part that speaks of the dimension."""
+
+    lowest: int
+    upper: int
+    items: str
+
+
+DIMENSIONS = (
+    Dimension(0, 7, "weekdays"),
+    Dimension(1, 54, "weeks"),
+    Dimension(1, 13, "monthdays"),
+    Dimension(1900, 10000, "years"),
+)
+
+
+# Ranges
+
+
+def split(start: int, end: int, dimension: Dimension) -> list[Range]:
+    after = end + 1
+    if start >= after:
+        return [(dimension.lowest, after), (start, dimension.upper)]
+    return [(start, after)]
+
+
+def ranges_of(rule: Rule, dimension: Dimension) -> list[Range]:
+    """The ranges of a drained rule in one dimension; no items mean the whole dimension."""
+    items = getattr(rule, dimension.items)
+    if not items:
+        return [(dimension.lowest, dimension.upper)]
+    return [part for item in items for part in split(item.start, item.end, dimension)]
+
+
+# Stoppers
+
+
+def stops(rule: Rule) -> bool:
+    return (
+        rule.operator == FALLBACK
+        or any(item.step != 1 for item in rule.years + rule.weeks)
+        or not all(isinstance(item, Months) for item in rule.monthdays)
+        or not all(map(is_plain_weekday, rule.weekdays))
+        or any(map(may_reach_tomorrow, rule.spans))
+    )
+
+
+def is_plain_weekday(item: tuple) -> bool:
+    return (
+        isinstance(item, Weekdays)
+        and item.offset == 0
+        and item.nth_from_start == ALL_NTH
+        and item.nth_from_end == ALL_NTH
+    )
+
+
+def may_reach_tomorrow(span: Span) -> bool:
+    if span.end.tag == 1:
+        return True
+    if span.start.tag == 1:
+        return span.end.minutes != MIDNIGHT
+    return not span.start.minutes < span.end.minutes <= MIDNIGHT
+
+
+def drained_of(rules: list[Rule]) -> list[Rule]:
+    """The rules before the first stopper."""
+    first_stopper = next((index for index, rule in enumerate(rules) if stops(rule)), len(rules))
+    return rules[:first_stopper]
+
+
+# Draining
+
+
+def replaces(rule: Rule) -> bool:
+    return rule.operator == NORMAL and rule.kind != CLOSED
+
+
+def times_covered(ranges: list[Range], value: int) -> int:
+    return sum(start <= value < end for start, end in ranges)
+
+
+def list_at(drained: list[Rule], point: Point) -> List:
+    """The list at a point after all drained rules, said literally."""
+    entries: List = ()
+    for index, rule in enumerate(drained):
+        combinations = prod(
+            times_covered(ranges_of(rule, dimension), value) for dimension, value in zip(DIMENSIONS, point)
+        )
+        if combinations:
+            entries = (index,) if replaces(rule) else entries + (index,) * combinations
+    return entries
+
+
+# Boxes
+
+
+def cuts_of(drained: list[Rule]) -> list[list[int]]:
+    """In each dimension both bounds and all starts and ends of the drained rules' ranges, rising."""
+    return [
+        sorted(
+            {dimension.lowest, dimension.upper}
+            | {bound for rule in drained for part in ranges_of(rule, dimension) for bound in part}
+        )
+        for dimension in DIMENSIONS
+    ]
+
+
+def shape_of(cuts: list[list[int]]) -> list[int]:
+    """The number of intervals in each dimension."""
+    return [len(values) - 1 for values in cuts]
+
+
+def check_boxes(cuts: list[list[int]]) -> None:
+    boxes = prod(shape_of(cuts))
+    if boxes > BOX_LIMIT:
+        raise Refusal(TOO_MANY_BOXES, boxes)
+
+
+def lists_of_boxes(drained: list[Rule], cuts: list[list[int]]) -> list[List]:
+    """The list of each box, boxes in the order of their first points; a list that grows too long is refused."""
+    shape = shape_of(cuts)
+    lists: list[List] = [()] * prod(shape)
+    for index, rule in enumerate(drained):
+        for box, combinations in boxes_covered(rule, cuts, shape):
+            lists[box] = (index,) if replaces(rule) else lists[box] + (index,) * combinations
+            if len(lists[box]) > LIST_LIMIT:
+                raise Refusal(LIST_TOO_LONG, index)
+    return lists
+
+
+def boxes_covered(rule: Rule, cuts: list[list[int]], shape: list[int]):
+    """Each box that the rule covers, by its number, and in how many combinations of ranges."""
+    covered = [(0, 1)]
+    for dimension, starts, intervals in zip(DIMENSIONS, cuts, shape):
+        ranges = ranges_of(rule, dimension)
+        times = [times_covered(ranges, start) for start in starts[:-1]]
+        covered = [
+            (box * intervals + interval, combinations * times[interval])
+            for (box, combinations), interval in product(covered, range(intervals))
+            if times[interval]
+        ]
+    return covered

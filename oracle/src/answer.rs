@@ -1,0 +1,93 @@
+//! The answers of the oracle: each calls the functions of docs/src and prints what they gave.
+
+use alloc::collections::VecDeque;
+
+use crate::bits::{from_hex, to_hex};
+use crate::normalize::canonical_time::normalize_time_rules;
+use crate::normalize::{canonical_to_ruleseq, drain_ruleseq_into_canonical};
+use crate::outside::Outside;
+use crate::rules::day::DaySelector;
+use crate::rules::{OpeningHoursExpression, RuleOperator, RuleSequence};
+use crate::sheet_reader::read_sheet;
+use crate::sheet_writer::write_sheet;
+
+/// `DRAINED EMITTED LEFT RESULTHEX` for a sheet in hex, or why it is outside the Rust.
+pub(crate) fn fold_line(line: &str) -> String {
+    answer(line, fold)
+}
+
+/// `RESULTHEX` for a sheet in hex, the day of all its rules as one list, or why it is outside the Rust.
+pub(crate) fn day_line(line: &str) -> String {
+    answer(line, |rules| to_hex(&write_sheet(&day_of_all(rules))))
+}
+
+fn answer(line: &str, of_rules: impl FnOnce(Vec<RuleSequence>) -> String) -> String {
+    let _named = NamedOnPanic(line);
+
+    let rules = from_hex(line)
+        .ok_or(Outside::NotHex)
+        .and_then(|bytes| read_sheet(&bytes));
+
+    match rules {
+        Ok(rules) => of_rules(rules),
+        Err(reason) => format!("outside {reason}"),
+    }
+}
+
+/// Takes the two steps of `OpeningHoursExpression::normalize` one by one, for the counts between them.
+fn fold(rules: Vec<RuleSequence>) -> String {
+    let mut left: VecDeque<RuleSequence> = rules.clone().into();
+    let canonical = drain_ruleseq_into_canonical(&mut left);
+    let mut result = canonical_to_ruleseq(canonical);
+
+    let counts = format!(
+        "{} {} {}",
+        rules.len() - left.len(),
+        result.len(),
+        left.len()
+    );
+    result.extend(left);
+
+    assert!(
+        OpeningHoursExpression { rules }.normalize().rules == result,
+        "the two steps and normalize() must give the same rules"
+    );
+
+    format!("{counts} {}", to_hex(&write_sheet(&result)))
+}
+
+/// The canonical day of the list of all rules, whatever their days and operators, written as rules without day items.
+fn day_of_all(rules: Vec<RuleSequence>) -> Vec<RuleSequence> {
+    let list = rules
+        .into_iter()
+        .map(|rule| ((rule.kind, rule.comment), rule.time_selector))
+        .collect();
+
+    let rule_of_entry = |(place, ((kind, comment), time_selector))| RuleSequence {
+        day_selector: DaySelector::default(),
+        time_selector,
+        kind,
+        operator: match place {
+            0 => RuleOperator::Normal,
+            _ => RuleOperator::Additional,
+        },
+        comment,
+    };
+
+    normalize_time_rules(list)
+        .into_iter()
+        .enumerate()
+        .map(rule_of_entry)
+        .collect()
+}
+
+/// Names the sheet on which the oracle stumbled, among the many of a run.
+struct NamedOnPanic<'a>(&'a str);
+
+impl Drop for NamedOnPanic<'_> {
+    fn drop(&mut self) {
+        if std::thread::panicking() {
+            eprintln!("oracle: stumbled over the sheet {}", self.0);
+        }
+    }
+}
