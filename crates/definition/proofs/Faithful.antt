@@ -46,7 +46,7 @@ stand-append bs cs s p q e a b = record {
 }
 
 -- ## One field
-clash : {A : Type 0} {G : Type 0} (c p : ℕ) (x : A) (q : ℕ) → refused c p ≡ got x q → G
+pub clash : {A : Type 0} {G : Type 0} (c p : ℕ) (x : A) (q : ℕ) → refused c p ≡ got x q → G
 clash c p x q e = let z : _≡_ {A = ℕ} 0 1 = cc in absurd (omega arith)
 
 module _ (c : ℕ) (ok : ℕ → Bool) (w : ℕ) where

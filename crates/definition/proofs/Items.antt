@@ -8,9 +8,9 @@ use native.Mathlib.Omega.{arith}
 use lib.Dec.{eqb, ltb}
 use borrow.Author.Tests.{eqb-true, eqb-false, ltb-true}
 use Rattle.laws.proofs.Flags.{split-and}
-use Rattle.definition.specs.Field.{Layout, field, unlawful, plain, lawful, _then_, via, tagged}
+use Rattle.definition.specs.Field.{Layout, field, unlawful, plain, _then_, via, tagged}
 use Rattle.definition.specs.Rule.{Operator, Normal, Additional, Fallback, operatorNumber, operatorOf, Kind, Open, Closed, Unknown, kindNumber, kindOf, Time, fixed, variable, Span, MonthdayRange, months, monthsOf, dated, WeekDayRange, fixedDays, holiday}
-use Rattle.definition.specs.Sheet.{yearRange, monthdayTag, monthParts, monthdayOf, monthdayRange, weekRange, weekdayTag, weekdayParts, weekdayOf, weekDayRange, timeTag, timeParts, timeOf, time, flagOf, flagBit, repeatsTag, repeatsParts, repeatsOf, repeatsLayout, span}
+use Rattle.definition.specs.Sheet.{choice, yearRange, monthdayTag, monthParts, monthdayOf, monthdayRange, weekRange, weekdayTag, weekdayParts, weekdayOf, weekDayRange, timeTag, timeParts, timeOf, time, flagOf, flagBit, repeatsTag, repeatsParts, repeatsOf, repeatsLayout, span}
 use Rattle.definition.proofs.Faithful.{Faithful, Always, field-faithful, none-faithful, then-faithful, via-faithful, tagged-faithful}
 
 -- the value of a field of w bits is below 2 ^ w, and below n where that is its test
@@ -183,7 +183,7 @@ span-faithful =
         → ((x .0, (x .1 .0, (flagBit (flagOf (x .1 .1 .0)), x .1 .1 .1))) ≡ x) × Unit {0}
     parted x p f = (λ i. (x .0, (x .1 .0, (bit (x .1 .1 .0) (open-end-low x f) i, x .1 .1 .1))), tt)
 
-pub operator-faithful : Faithful Always (via operatorOf operatorNumber (lawful 2 (λ v. ltb v 3)))
+pub operator-faithful : Faithful Always (via operatorOf operatorNumber choice)
 unfolding field
 operator-faithful = via-faithful Always _ _ (field-faithful unlawful (λ v. ltb v 3) 2) (λ o u. tt) made (λ n p f. (number n (field-low 2 3 n f), tt))
   where
@@ -198,7 +198,7 @@ operator-faithful = via-faithful Always _ _ (field-faithful unlawful (λ v. ltb 
     number (suc (suc zero)) l = refl
     number (suc (suc (suc n))) l = absurd (omega arith)
 
-pub kind-faithful : Faithful Always (via kindOf kindNumber (lawful 2 (λ v. ltb v 3)))
+pub kind-faithful : Faithful Always (via kindOf kindNumber choice)
 unfolding field
 kind-faithful = via-faithful Always _ _ (field-faithful unlawful (λ v. ltb v 3) 2) (λ k u. tt) made (λ n p f. (number n (field-low 2 3 n f), tt))
   where

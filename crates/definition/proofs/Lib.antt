@@ -1,5 +1,7 @@
 pub mod Bits
 pub mod Faithful
+pub mod Reading
+pub mod Lengths
 pub mod Items
 pub mod SheetRead
 pub mod Same

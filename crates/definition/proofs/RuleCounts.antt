@@ -16,9 +16,9 @@ use Rattle.laws.proofs.Flags.{split-and}
 use Rattle.laws.proofs.Lists.{All-map, All-map₂, All-append, every-all}
 use Rattle.laws.proofs.Spread.{flatMap-all, flatMap-length}
 use Rattle.grid.specs.Cut.{Range}
-use Rattle.definition.specs.Field.{got, manyBoxes, longList, field, plain, lawful, counted, _then_, via, tagged, several}
-use Rattle.definition.specs.Rule.{Operator, Normal, Additional, operatorNumber, operatorOf, kindNumber, kindOf, Rule}
-use Rattle.definition.specs.Sheet.{Form, Limits, form1, limits1, counts, head, headOf, rule, rules, decode}
+use Rattle.definition.specs.Field.{got, manyBoxes, longList, field, lawful, counted, _then_, tagged, several}
+use Rattle.definition.specs.Rule.{Operator, Normal, Additional, Rule}
+use Rattle.definition.specs.Sheet.{Form, Limits, form1, limits1, title, counts, head, headOf, rule, rules, decode}
 use Rattle.definition.specs.Range.{Ends}
 use Rattle.definition.specs.Stop.{stops, drained, left}
 use Rattle.definition.specs.Point.{Dimension, weekdayDimension, weekDimension, monthDimension, yearDimension, dimensions, firstTooLong}
@@ -127,9 +127,7 @@ module _ (form : Form) (limits : Limits) where
       let d = items .fits (length (r .weekdays)) in
       let s = (counted (form .itemCount) (limits .spans)) .fits (length (r .spans)) in
       let start = split-and ((head form limits) .fits (headOf r)) _ f .0 in
-      let kind = split-and ((via operatorOf operatorNumber (lawful 2 (λ v. ltb v 3))) .fits (r .operator)) _ start .1 in
-      let comment = split-and ((via kindOf kindNumber (lawful 2 (λ v. ltb v 3))) .fits (r .state .kind)) _ kind .1 in
-      let ky = split-and y (m && (w && (d && s))) (split-and ((plain (form .comment)) .fits (r .state .comment)) (y && (m && (w && (d && s)))) comment .1) in
+      let ky = split-and y (m && (w && (d && s))) (split-and ((title form limits) .fits (headOf r .0)) (y && (m && (w && (d && s)))) start .1) in
       let km = split-and m (w && (d && s)) (ky .1) in
       let kw = split-and w (d && s) (km .1) in
       let kd = split-and d s (kw .1) in (

@@ -14,7 +14,7 @@ use borrow.Author.Tests.{eqb-true, ltb-false, le-ltb}
 use Rattle.laws.proofs.Lists.{All-append}
 use Rattle.definition.specs.Field.{Read, got, refused, andThen, bytesFor, bytes, packed, sheetBits, badEnd, counted, via}
 use Rattle.definition.specs.Rule.{Rule}
-use Rattle.definition.specs.Sheet.{Form, Limits, Counts, counts, Head, headOf, head, Body, bodyOf, body, ruleWith, rule, rules, firstSet, ended, decode, encode}
+use Rattle.definition.specs.Sheet.{Form, Limits, Counts, title, counts, Head, headOf, head, Body, bodyOf, body, ruleWith, rule, rules, firstSet, ended, decode, encode}
 use Rattle.definition.proofs.Bits.{Bits, Bytes, sheet-bits, length-sheetBits, bytes-sheet, sheet-bytes}
 use Rattle.definition.proofs.Faithful.{Faithful, Always, field-faithful, then-faithful, via-faithful, tagged-faithful, several-faithful}
 use Rattle.definition.proofs.Items.{year-faithful, monthday-faithful, week-faithful, weekday-faithful, span-faithful, operator-faithful, kind-faithful}
@@ -24,11 +24,11 @@ module _ (form : Form) (limits : Limits) where
   count-faithful : (limit : ℕ) → Faithful Always (counted (form .itemCount) limit)
   count-faithful limit = field-faithful _ _ (form .itemCount)
 
-  head-faithful : Faithful (λ h. Unit {0} × (Unit {0} × (Unit {0} × (Unit {0} × (Unit {0} × (Unit {0} × (Unit {0} × Unit {0}))))))) (head form limits)
-  unfolding head counts
+  head-faithful : Faithful (λ h. (Unit {0} × (Unit {0} × Unit {0})) × (Unit {0} × (Unit {0} × (Unit {0} × (Unit {0} × Unit {0}))))) (head form limits)
+  unfolding head title counts
   head-faithful =
-      then-faithful operator-faithful (then-faithful kind-faithful (then-faithful (field-faithful _ _ (form .comment))
-      (then-faithful (count-faithful _) (then-faithful (count-faithful _) (then-faithful (count-faithful _) (then-faithful (count-faithful _) (count-faithful _)))))))
+      then-faithful (then-faithful operator-faithful (then-faithful kind-faithful (field-faithful _ _ (form .comment))))
+      (then-faithful (count-faithful _) (then-faithful (count-faithful _) (then-faithful (count-faithful _) (then-faithful (count-faithful _) (count-faithful _)))))
 
   -- lists as long as the counts say
   abbrev Long : Counts → Body → Type 0
@@ -43,16 +43,16 @@ module _ (form : Form) (limits : Limits) where
 
   pub rule-faithful : Faithful Always (rule form limits)
   unfolding rule
-  rule-faithful = tagged-faithful headOf head-faithful (λ r. (tt, (tt, (tt, (tt, (tt, (tt, (tt, tt)))))))) (λ h u f. whole h)
+  rule-faithful = tagged-faithful headOf head-faithful (λ r. ((tt, (tt, tt)), (tt, (tt, (tt, (tt, tt)))))) (λ h u f. whole h)
     where
-      under : (h : Head) (r : Rule) → headOf r ≡ h → Long (h .1 .1 .1) (bodyOf r)
-      under h r e = let n = ap (λ k. k .1 .1 .1) e in (ap (λ c. c .0) n, (ap (λ c. c .1 .0) n, (ap (λ c. c .1 .1 .0) n, (ap (λ c. c .1 .1 .1 .0) n, ap (λ c. c .1 .1 .1 .1) n))))
+      under : (h : Head) (r : Rule) → headOf r ≡ h → Long (h .1) (bodyOf r)
+      under h r e = let n = ap (λ k. k .1) e in (ap (λ c. c .0) n, (ap (λ c. c .1 .0) n, (ap (λ c. c .1 .1 .0) n, (ap (λ c. c .1 .1 .1 .0) n, ap (λ c. c .1 .1 .1 .1) n))))
 
-      into : (h : Head) (b : Body) → Long (h .1 .1 .1) b → headOf (ruleWith h b) ≡ h
-      into h b l = λ i. (h .0, (h .1 .0, (h .1 .1 .0, (l .0 i, (l .1 .0 i, (l .1 .1 .0 i, (l .1 .1 .1 .0 i, l .1 .1 .1 .1 i)))))))
+      into : (h : Head) (b : Body) → Long (h .1) b → headOf (ruleWith h b) ≡ h
+      into h b l = λ i. (h .0, (l .0 i, (l .1 .0 i, (l .1 .1 .0 i, (l .1 .1 .1 .0 i, l .1 .1 .1 .1 i)))))
 
-      whole : (h : Head) → Faithful (λ r. headOf r ≡ h) (via (ruleWith h) bodyOf (body form limits (h .1 .1 .1)))
-      whole h = via-faithful _ (ruleWith h) bodyOf (body-faithful (h .1 .1 .1)) (under h) (λ r e. ap (λ k. ruleWith k (bodyOf r)) (sym e)) (λ b l f. (refl, into h b l))
+      whole : (h : Head) → Faithful (λ r. headOf r ≡ h) (via (ruleWith h) bodyOf (body form limits (h .1)))
+      whole h = via-faithful _ (ruleWith h) bodyOf (body-faithful (h .1)) (under h) (λ r e. ap (λ k. ruleWith k (bodyOf r)) (sym e)) (λ b l f. (refl, into h b l))
 
   pub rules-faithful : Faithful Always (rules form limits)
   unfolding rules

@@ -50,9 +50,20 @@ weekday = lawful 3 (λ v. holds v weekdayBounds)
 abbrev pub step : ℕ → Layout ℕ
 step w = lawful w (λ v. leb 1 v)
 
+-- an operator, a kind, a monthday's tag: 0, 1 or 2
+abbrev pub choice : Layout ℕ
+choice = lawful 2 (λ v. ltb v 3)
+
+-- "12 bits of minutes (0 to 2880)"
+abbrev pub minutes : Layout ℕ
+minutes = lawful 12 (λ v. leb v 2880)
+
 -- "Year: start 14, end 14 (each 1900 to 9999), step 16 (from 1)."
+abbrev pub yearsOf : ℕ × (ℕ × ℕ) → YearRange
+yearsOf p = record { start = p .0; end = p .1 .0; step = p .1 .1 }
+
 unfoldable pub yearRange : Layout YearRange
-yearRange = via (λ p. record { start = p .0; end = p .1 .0; step = p .1 .1 }) (λ r. (r .start, (r .end, r .step))) (year then year then step 16)
+yearRange = via yearsOf (λ r. (r .start, (r .end, r .step))) (year then year then step 16)
 
 -- "Monthday: tag 2. Tag 0: start 4, end 4 (1 to 12). Tag 1: the same, then year 14 (1900 to 9999). Tag 2: a caller's reference of 32."
 abbrev pub monthdayTag : MonthdayRange → ℕ
@@ -65,17 +76,27 @@ monthParts (months a b) = (a, (b, 0))
 monthParts (monthsOf a b y) = (a, (b, y))
 monthParts (dated r) = (r, (0, 0))
 
+abbrev pub monthsLayout : Layout MonthdayRange
+monthsLayout = via (λ p. months (p .0) (p .1)) (λ m. (monthParts m .0, monthParts m .1 .0)) (month then month)
+
+abbrev pub monthsOfLayout : Layout MonthdayRange
+monthsOfLayout = via (λ p. monthsOf (p .0) (p .1 .0) (p .1 .1)) monthParts (month then month then year)
+
+abbrev pub datedLayout : Layout MonthdayRange
+datedLayout = via dated (λ m. monthParts m .0) (plain 32)
+
 unfoldable pub monthdayOf : ℕ → Layout MonthdayRange
-monthdayOf tag = cond (eqb tag 0) (via (λ p. months (p .0) (p .1)) (λ m. (monthParts m .0, monthParts m .1 .0)) (month then month))
-    (cond (eqb tag 1) (via (λ p. monthsOf (p .0) (p .1 .0) (p .1 .1)) monthParts (month then month then year))
-    (via dated (λ m. monthParts m .0) (plain 32)))
+monthdayOf tag = cond (eqb tag 0) monthsLayout (cond (eqb tag 1) monthsOfLayout datedLayout)
 
 unfoldable pub monthdayRange : Layout MonthdayRange
-monthdayRange = tagged (lawful 2 (λ v. ltb v 3)) monthdayOf monthdayTag
+monthdayRange = tagged choice monthdayOf monthdayTag
 
 -- "Week: start 6, end 6 (1 to 53), step 8 (from 1)."
+abbrev pub weeksOf : ℕ × (ℕ × ℕ) → WeekRange
+weeksOf p = record { start = p .0; end = p .1 .0; step = p .1 .1 }
+
 unfoldable pub weekRange : Layout WeekRange
-weekRange = via (λ p. record { start = p .0; end = p .1 .0; step = p .1 .1 }) (λ r. (r .start, (r .end, r .step))) (week then week then step 8)
+weekRange = via weeksOf (λ r. (r .start, (r .end, r .step))) (week then week then step 8)
 
 -- "Weekday: tag 1. Tag 0: start 3, end 3 (0 Monday to 6 Sunday), offset 16 two's complement, then two sets of five bits, nth from
 -- start and from end. Tag 1: holiday kind 1, offset 16."
@@ -87,10 +108,15 @@ abbrev pub weekdayParts : WeekDayRange → ℕ × (ℕ × (ℕ × (ℕ × ℕ)))
 weekdayParts (fixedDays a b o s e) = (a, (b, (o, (s, e))))
 weekdayParts (holiday k o) = (k, (o, (0, (0, 0))))
 
+abbrev pub fixedDaysLayout : Layout WeekDayRange
+fixedDaysLayout = via (λ p. fixedDays (p .0) (p .1 .0) (p .1 .1 .0) (p .1 .1 .1 .0) (p .1 .1 .1 .1)) weekdayParts
+    (weekday then weekday then plain 16 then plain 5 then plain 5)
+
+abbrev pub holidayLayout : Layout WeekDayRange
+holidayLayout = via (λ p. holiday (p .0) (p .1)) (λ d. (weekdayParts d .0, weekdayParts d .1 .0)) (plain 1 then plain 16)
+
 unfoldable pub weekdayOf : ℕ → Layout WeekDayRange
-weekdayOf tag = cond (eqb tag 0)
-    (via (λ p. fixedDays (p .0) (p .1 .0) (p .1 .1 .0) (p .1 .1 .1 .0) (p .1 .1 .1 .1)) weekdayParts (weekday then weekday then plain 16 then plain 5 then plain 5))
-    (via (λ p. holiday (p .0) (p .1)) (λ d. (weekdayParts d .0, weekdayParts d .1 .0)) (plain 1 then plain 16))
+weekdayOf tag = cond (eqb tag 0) fixedDaysLayout holidayLayout
 
 unfoldable pub weekDayRange : Layout WeekDayRange
 weekDayRange = tagged (plain 1) weekdayOf weekdayTag
@@ -104,8 +130,14 @@ abbrev pub timeParts : Time → ℕ × ℕ
 timeParts (fixed m) = (m, 0)
 timeParts (variable e o) = (e, o)
 
+abbrev pub fixedLayout : Layout Time
+fixedLayout = via fixed (λ t. timeParts t .0) minutes
+
+abbrev pub variableLayout : Layout Time
+variableLayout = via (λ p. variable (p .0) (p .1)) timeParts (plain 2 then plain 16)
+
 unfoldable pub timeOf : ℕ → Layout Time
-timeOf tag = cond (eqb tag 0) (via fixed (λ t. timeParts t .0) (lawful 12 (λ v. leb v 2880))) (via (λ p. variable (p .0) (p .1)) timeParts (plain 2 then plain 16))
+timeOf tag = cond (eqb tag 0) fixedLayout variableLayout
 
 unfoldable pub time : Layout Time
 time = tagged (plain 1) timeOf timeTag
@@ -131,29 +163,28 @@ repeatsOf tag = cond (eqb tag 0) (noBits none) (via some repeatsParts (plain 12)
 unfoldable pub repeatsLayout : Layout (Option ℕ)
 repeatsLayout = tagged (plain 1) repeatsOf repeatsTag
 
+abbrev pub spanOf : Time × (Time × (ℕ × Option ℕ)) → Span
+spanOf p = record { start = p .0; end = p .1 .0; openEnd = flagOf (p .1 .1 .0); repeats = p .1 .1 .1 }
+
 unfoldable pub span : Layout Span
-span = via (λ p. record { start = p .0; end = p .1 .0; openEnd = flagOf (p .1 .1 .0); repeats = p .1 .1 .1 })
-    (λ s. (s .start, (s .end, (flagBit (s .openEnd), s .repeats)))) (time then time then plain 1 then repeatsLayout)
+span = via spanOf (λ s. (s .start, (s .end, (flagBit (s .openEnd), s .repeats)))) (time then time then plain 1 then repeatsLayout)
 
 -- ## Rules
 -- the five counts: years, monthdays, weeks, weekdays, spans
 abbrev pub Counts : Type 0
 Counts = ℕ × (ℕ × (ℕ × (ℕ × ℕ)))
 
--- operator, kind, comment, counts
+-- operator, kind and comment; and the counts
+abbrev pub Title : Type 0
+Title = Operator × (Kind × ℕ)
+
 abbrev pub Head : Type 0
-Head = Operator × (Kind × (ℕ × Counts))
+Head = Title × Counts
 
 abbrev pub headOf : Rule → Head
 headOf r = (
-  r .operator,
-  (
-    r .state .kind,
-    (
-      r .state .comment,
-      (length (r .years), (length (r .monthdays), (length (r .weeks), (length (r .weekdays), length (r .spans))))),
-    ),
-  ),
+  (r .operator, (r .state .kind, r .state .comment)),
+  (length (r .years), (length (r .monthdays), (length (r .weeks), (length (r .weekdays), length (r .spans))))),
 )
 
 -- the items in the order of the counts
@@ -165,8 +196,8 @@ bodyOf r = (r .years, (r .monthdays, (r .weeks, (r .weekdays, r .spans))))
 
 abbrev pub ruleWith : Head → Body → Rule
 ruleWith h b = record {
-  operator = h .0;
-  state = record { kind = h .1 .0; comment = h .1 .1 .0 };
+  operator = h .0 .0;
+  state = record { kind = h .0 .1 .0; comment = h .0 .1 .1 };
   years = b .0;
   monthdays = b .1 .0;
   weeks = b .1 .1 .0;
@@ -175,13 +206,16 @@ ruleWith h b = record {
 }
 
 module _ (form : Form) (limits : Limits) where
-  -- "five counts of 10 each"
+  -- "Rule: operator 2 (0 Normal, 1 Additional, 2 Fallback); kind 2 (0 Open, 1 Closed, 2 Unknown); comment 16"
+  unfoldable pub title : Layout Title
+  title = via operatorOf operatorNumber choice then via kindOf kindNumber choice then plain (form .comment)
+
+  -- "five counts of 10 each: years, monthdays, weeks, weekdays, spans"
   unfoldable pub counts : Layout Counts
   counts = let items = counted (form .itemCount) (limits .items) in items then items then items then items then counted (form .itemCount) (limits .spans)
 
-  -- "Rule: operator 2; kind 2; comment 16; five counts of 10 each: years, monthdays, weeks, weekdays, spans"
   unfoldable pub head : Layout Head
-  head = via operatorOf operatorNumber (lawful 2 (λ v. ltb v 3)) then via kindOf kindNumber (lawful 2 (λ v. ltb v 3)) then plain (form .comment) then counts
+  head = title then counts
 
   -- "then these items in that order"
   unfoldable pub body : Counts → Layout Body
@@ -189,7 +223,7 @@ module _ (form : Form) (limits : Limits) where
       then several (n .1 .1 .1 .0) weekDayRange then several (n .1 .1 .1 .1) span
 
   unfoldable pub rule : Layout Rule
-  rule = tagged head (λ h. via (ruleWith h) bodyOf (body (h .1 .1 .1))) headOf
+  rule = tagged head (λ h. via (ruleWith h) bodyOf (body (h .1))) headOf
 
   -- "Rule count 16 bits, the rules"
   unfoldable pub rules : Layout (List Rule)

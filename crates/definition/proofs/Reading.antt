@@ -1,0 +1,93 @@
+-- A reading step by step: how layouts that are put together go on or stop, and how far they go. Whoever reads a sheet field by field
+-- cites these and no layout's text.
+-- Assumes nothing.
+use mathlib.Core.Path.{_≡_, refl}
+use mathlib.Core.List.{List}
+use mathlib.Core.Bool.{Bool, true, false}
+use Prim.Native.Nat.{ℕ, _+_, _≤_}
+use native.Mathlib.Omega.{arith}
+use lib.Dec.{leb}
+use lib.ListN.{length}
+use Rattle.definition.specs.Field.{fieldAt, Read, got, refused, andThen, pastEnd, readField, Layout, field, noBits, _then_, via, tagged}
+use Rattle.definition.proofs.Faithful.{clash}
+
+-- ## Going on and stopping
+module _ {A B : Type 0} (L : Layout A) (M : Layout B) (s : List ℕ) (p : ℕ) where
+  pub then-goes : {x : A} {q : ℕ} {y : B} {e : ℕ} → L .read s p ≡ got x q → M .read s q ≡ got y e → (L then M) .read s p ≡ got (x, y) e
+  unfolding _then_
+  then-goes h k = rw (h, k)
+
+  pub then-stops : {c q : ℕ} → L .read s p ≡ refused c q → (L then M) .read s p ≡ refused c q
+  unfolding _then_
+  then-stops h = rw h
+
+  pub then-stops-later : {x : A} {q c e : ℕ} → L .read s p ≡ got x q → M .read s q ≡ refused c e → (L then M) .read s p ≡ refused c e
+  unfolding _then_
+  then-stops-later h k = rw (h, k)
+
+module _ {A B : Type 0} (make : A → B) (parts : B → A) (L : Layout A) (s : List ℕ) (p : ℕ) where
+  pub via-goes : {x : A} {q : ℕ} → L .read s p ≡ got x q → (via make parts L) .read s p ≡ got (make x) q
+  unfolding via
+  via-goes h = rw h
+
+  pub via-stops : {c q : ℕ} → L .read s p ≡ refused c q → (via make parts L) .read s p ≡ refused c q
+  unfolding via
+  via-stops h = rw h
+
+module _ {A B : Type 0} (L : Layout A) (M : A → Layout B) (tag : B → A) (s : List ℕ) (p : ℕ) where
+  pub tagged-goes : {t : A} {q : ℕ} {r : Read B} → L .read s p ≡ got t q → (M t) .read s q ≡ r → (tagged L M tag) .read s p ≡ r
+  unfolding tagged
+  tagged-goes h k = rw h k
+
+  pub tagged-stops : {c q : ℕ} → L .read s p ≡ refused c q → (tagged L M tag) .read s p ≡ refused c q
+  unfolding tagged
+  tagged-stops h = rw h
+
+-- ## How far a reading goes
+-- a reading of L takes at most n bits
+abbrev pub Short : {A : Type 0} → Layout A → ℕ → Type 0
+Short {A} L n = (s : List ℕ) (p : ℕ) (x : A) (q : ℕ) → L .read s p ≡ got x q → (p ≤ q) × (q ≤ p + n)
+
+pub field-end : (c : ℕ) (ok : ℕ → Bool) (w : ℕ) (s : List ℕ) (p v q : ℕ) → (field c ok w) .read s p ≡ got v q → q ≡ p + w
+unfolding field readField
+field-end c ok w s p v q e = go (leb (p + w) (length s)) refl (ok (fieldAt s p w)) refl
+  where
+    go : (a : Bool) → leb (p + w) (length s) ≡ a → (b : Bool) → ok (fieldAt s p w) ≡ b → q ≡ p + w
+    go false l b k = clash pastEnd p v q (rw (l, readField) at e)
+    go true l false k = clash c p v q (rw (l, k, readField) at e)
+    go true l true k = let g : got (fieldAt s p w) (p + w) ≡ got v q = rw (l, k, readField) at e in let z : q ≡ p + w = cc in z
+
+pub field-short : (c : ℕ) (ok : ℕ → Bool) (w : ℕ) → Short (field c ok w) w
+field-short c ok w s p v q e = omega (arith, field-end c ok w s p v q e)
+
+pub none-short : {A : Type 0} (x : A) → Short (noBits x) 0
+unfolding noBits
+none-short x s p y q e = let z : p ≡ q = cc in omega arith
+
+pub then-short : {A B : Type 0} (L : Layout A) (M : Layout B) (m n : ℕ) → Short L m → Short M n → Short (L then M) (m + n)
+unfolding _then_
+then-short {A} {B} L M m n a b s p v q e = go (L .read s p) refl e
+  where
+    later : (x : A) (j : ℕ) → L .read s p ≡ got x j → (r : Read B) → M .read s j ≡ r → andThen (λ y i. got (x, y) i) r ≡ got v q → (p ≤ q) × (q ≤ p + (m + n))
+    later x j h (refused c i) k g = clash c i v q g
+    later x j h (got y i) k g = let z : i ≡ q = cc in omega (arith, a s p x j h, b s j y i k)
+
+    go : (r : Read A) → L .read s p ≡ r → andThen (λ x j. andThen (λ y i. got (x, y) i) (M .read s j)) r ≡ got v q → (p ≤ q) × (q ≤ p + (m + n))
+    go (refused c i) h g = clash c i v q g
+    go (got x j) h g = later x j h (M .read s j) refl g
+
+pub via-short : {A B : Type 0} (make : A → B) (parts : B → A) (L : Layout A) (n : ℕ) → Short L n → Short (via make parts L) n
+unfolding via
+via-short {A} make parts L n a s p y q e = go (L .read s p) refl e
+  where
+    go : (r : Read A) → L .read s p ≡ r → andThen (λ x j. got (make x) j) r ≡ got y q → (p ≤ q) × (q ≤ p + n)
+    go (refused c i) h g = clash c i y q g
+    go (got x j) h g = let z : j ≡ q = cc in omega (arith, a s p x j h)
+
+pub tagged-short : {A B : Type 0} (L : Layout A) (M : A → Layout B) (tag : B → A) (m n : ℕ) → Short L m → ((t : A) → Short (M t) n) → Short (tagged L M tag) (m + n)
+unfolding tagged
+tagged-short {A} L M tag m n a b s p y q e = go (L .read s p) refl e
+  where
+    go : (r : Read A) → L .read s p ≡ r → andThen (λ t j. (M t) .read s j) r ≡ got y q → (p ≤ q) × (q ≤ p + (m + n))
+    go (refused c i) h g = clash c i y q g
+    go (got t j) h g = omega (arith, a s p t j h, b t s j y q g)

@@ -1,0 +1,190 @@
+// The fields of the packed sheet, read at a bit: one reader of bits, and above it one small function for each field that not every
+// value of its width may stand in. Positions stay below `2 ^ 32`: the crates above show that no lawful sheet reaches further.
+ghost use mathlib.Core.Path.{_≡_};
+ghost use Prim.Native.Nat.{ℕ, _+_, _*_, _≤_, _<_, _^_};
+ghost use lib.ListN.{length};
+ghost use Rattle.definition.specs.Field.{Layout, sheetBits, fieldAt, plain, lawful, counted};
+ghost use Rattle.definition.specs.Sheet.{form1, limits1, year, month, week, weekday, step, choice, minutes};
+ghost use Rattle.field.specs.Answer.{asRead};
+
+// A field's value with the bit after it, or a refusal's code and place.
+pub enum Taken {
+    Value(u64, usize),
+    Refused(u8, usize),
+}
+
+fn wide(x: u8) -> u64
+    ensures { λ r. ⌜ r ≡ x ⌝ }
+{
+    x as u64
+}
+
+// The bit at a place, most significant first.
+fn bit_at(sheet: &[u8], at: usize) -> u64
+    requires { ⌜ at < 8 * length (now sheet) ⌝ }
+    ensures { λ r. ⌜ r ≡ fieldAt (sheetBits (now (sheet .entry))) at 1 ⌝ }
+{
+    let shift = 7 - at % 8;
+    (wide(sheet[at / 8]) >> shift) % 2
+}
+
+// The number in the `width` bits at a place, bit after bit.
+pub fn field_at(sheet: &[u8], at: usize, width: usize) -> u64
+    requires { ⌜ (width ≤ 32) × (at < 2 ^ 32) × (at + width ≤ 8 * length (now sheet)) ⌝ }
+    ensures { λ r. ⌜ r ≡ fieldAt (sheetBits (now (sheet .entry))) at width ⌝ }
+{
+    let mut value: u64 = 0;
+    let mut i: usize = 0;
+    while i < width {
+        value = value * 2 + bit_at(sheet, at + i);
+        i += 1;
+    }
+    value
+}
+
+// A field of any value; refused by 1 where it runs past the end.
+pub fn take_at(sheet: &[u8], at: usize, width: usize) -> Taken
+    requires { ⌜ (width ≤ 32) × (at < 2 ^ 32) ⌝ }
+    ensures { λ r. ⌜ asRead r ≡ (plain width) .read (sheetBits (now (sheet .entry))) at ⌝ }
+{
+    if (at + width + 7) / 8 <= sheet.len() {
+        Taken::Value(field_at(sheet, at, width), at + width)
+    } else {
+        Taken::Refused(1, at)
+    }
+}
+
+// An operator, a kind, a monthday's tag: 0, 1 or 2.
+pub fn choice_at(sheet: &[u8], at: usize) -> Taken
+    requires { ⌜ at < 2 ^ 32 ⌝ }
+    ensures { λ r. ⌜ asRead r ≡ choice .read (sheetBits (now (sheet .entry))) at ⌝ }
+{
+    let taken = take_at(sheet, at, 2);
+    let Taken::Value(value, next) = taken else {
+        return taken;
+    };
+    match value {
+        0..=2 => Taken::Value(value, next),
+        _ => Taken::Refused(2, at),
+    }
+}
+
+// How many rules: at most 64, else refused by 4.
+pub fn rule_count_at(sheet: &[u8], at: usize) -> Taken
+    requires { ⌜ at < 2 ^ 32 ⌝ }
+    ensures { λ r. ⌜ asRead r ≡ (counted (form1 .ruleCount) (limits1 .rules)) .read (sheetBits (now (sheet .entry))) at ⌝ }
+{
+    let taken = take_at(sheet, at, 16);
+    let Taken::Value(value, next) = taken else {
+        return taken;
+    };
+    match value {
+        0..=64 => Taken::Value(value, next),
+        _ => Taken::Refused(4, at),
+    }
+}
+
+// How many items of a sort, or spans: at most 16, else refused by 4.
+pub fn count_at(sheet: &[u8], at: usize) -> Taken
+    requires { ⌜ at < 2 ^ 32 ⌝ }
+    ensures { λ r. ⌜ asRead r ≡ (counted (form1 .itemCount) (limits1 .items)) .read (sheetBits (now (sheet .entry))) at ⌝ }
+{
+    let taken = take_at(sheet, at, 10);
+    let Taken::Value(value, next) = taken else {
+        return taken;
+    };
+    match value {
+        0..=16 => Taken::Value(value, next),
+        _ => Taken::Refused(4, at),
+    }
+}
+
+// A year, 1900 to 9999.
+pub fn year_at(sheet: &[u8], at: usize) -> Taken
+    requires { ⌜ at < 2 ^ 32 ⌝ }
+    ensures { λ r. ⌜ asRead r ≡ year .read (sheetBits (now (sheet .entry))) at ⌝ }
+{
+    let taken = take_at(sheet, at, 14);
+    let Taken::Value(value, next) = taken else {
+        return taken;
+    };
+    match value {
+        1900..=9999 => Taken::Value(value, next),
+        _ => Taken::Refused(2, at),
+    }
+}
+
+// A month, 1 to 12.
+pub fn month_at(sheet: &[u8], at: usize) -> Taken
+    requires { ⌜ at < 2 ^ 32 ⌝ }
+    ensures { λ r. ⌜ asRead r ≡ month .read (sheetBits (now (sheet .entry))) at ⌝ }
+{
+    let taken = take_at(sheet, at, 4);
+    let Taken::Value(value, next) = taken else {
+        return taken;
+    };
+    match value {
+        1..=12 => Taken::Value(value, next),
+        _ => Taken::Refused(2, at),
+    }
+}
+
+// A week, 1 to 53.
+pub fn week_at(sheet: &[u8], at: usize) -> Taken
+    requires { ⌜ at < 2 ^ 32 ⌝ }
+    ensures { λ r. ⌜ asRead r ≡ week .read (sheetBits (now (sheet .entry))) at ⌝ }
+{
+    let taken = take_at(sheet, at, 6);
+    let Taken::Value(value, next) = taken else {
+        return taken;
+    };
+    match value {
+        1..=53 => Taken::Value(value, next),
+        _ => Taken::Refused(2, at),
+    }
+}
+
+// A weekday, 0 Monday to 6 Sunday.
+pub fn weekday_at(sheet: &[u8], at: usize) -> Taken
+    requires { ⌜ at < 2 ^ 32 ⌝ }
+    ensures { λ r. ⌜ asRead r ≡ weekday .read (sheetBits (now (sheet .entry))) at ⌝ }
+{
+    let taken = take_at(sheet, at, 3);
+    let Taken::Value(value, next) = taken else {
+        return taken;
+    };
+    match value {
+        0..=6 => Taken::Value(value, next),
+        _ => Taken::Refused(2, at),
+    }
+}
+
+// A fixed time's minutes, 0 to 2880.
+pub fn minutes_at(sheet: &[u8], at: usize) -> Taken
+    requires { ⌜ at < 2 ^ 32 ⌝ }
+    ensures { λ r. ⌜ asRead r ≡ minutes .read (sheetBits (now (sheet .entry))) at ⌝ }
+{
+    let taken = take_at(sheet, at, 12);
+    let Taken::Value(value, next) = taken else {
+        return taken;
+    };
+    match value {
+        0..=2880 => Taken::Value(value, next),
+        _ => Taken::Refused(2, at),
+    }
+}
+
+// A step of years or weeks, from 1.
+pub fn step_at(sheet: &[u8], at: usize, width: usize) -> Taken
+    requires { ⌜ (width ≤ 32) × (at < 2 ^ 32) ⌝ }
+    ensures { λ r. ⌜ asRead r ≡ (step width) .read (sheetBits (now (sheet .entry))) at ⌝ }
+{
+    let taken = take_at(sheet, at, width);
+    let Taken::Value(value, next) = taken else {
+        return taken;
+    };
+    match value {
+        0 => Taken::Refused(2, at),
+        _ => Taken::Value(value, next),
+    }
+}

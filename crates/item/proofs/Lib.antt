@@ -1,0 +1,3 @@
+pub mod Ways
+pub mod Bodies
+pub mod Spans

@@ -1,0 +1,9 @@
+-- `item::day::Monthday::refused` meets its contract. Assumes nothing.
+use mathlib.Core.Path.{sym, ap}
+use borrow.Author.Needs.{needs}
+use Rattle.item.specs.Answer.{monthdayRefused}
+use Rattle.item.proofs.day.Monthday.refused.Statement.{statement}
+use Rattle.item.proofs.day.Monthday.refused.Tie as tie
+
+pub refused-spec : {M : Type 1} → statement M
+refused-spec = tie.close (tie.spec (λ c. search needs) (λ c. search needs) (λ c. ap monthdayRefused (sym (c .before .field .given .1))) (λ c. search needs))
