@@ -1,0 +1,80 @@
+-- Where items end: a sort's layout, how far it goes, and a row of items one by one.
+-- Assumes nothing.
+use mathlib.Core.Path.{_≡_, refl, sym, ap, _∙_}
+use mathlib.Core.List.{List}
+use mathlib.Core.Bool.{Bool, true, false, cond}
+use Prim.Native.Nat.{ℕ, zero, suc, _+_, _-_, _≤_, _<_}
+use native.Mathlib.Omega.{arith}
+use lib.Dec.{eqb}
+use Rattle.definition.specs.Field.{Read, got, refused, andThen, Layout}
+use Rattle.definition.specs.Sheet.{yearRange, monthdayRange, weekRange, weekDayRange, span}
+use Rattle.definition.proofs.Faithful.{clash}
+use Rattle.definition.proofs.Reading.{Short}
+use Rattle.definition.proofs.Lengths.{years-short, monthdays-short, weeks-short, weekdays-short, span-short}
+use Rattle.sheet.specs.declared.end.Step.{Step}
+use Rattle.sheet.specs.declared.end.Step.the-variants.{At, Refused}
+use Rattle.sheet.specs.End.{End, ends, asStep, itemEnds, skipAll}
+
+-- ## An item's layout, once its sort is known
+module _ (sort : ℕ) (s : List ℕ) (p : ℕ) where
+  pub as-years : eqb sort 0 ≡ true → ends (yearRange .read s p) ≡ itemEnds sort s p
+  unfolding itemEnds
+  as-years a = rw a
+
+  pub as-monthdays : eqb sort 0 ≡ false → eqb sort 1 ≡ true → ends (monthdayRange .read s p) ≡ itemEnds sort s p
+  unfolding itemEnds
+  as-monthdays a b = rw (a, b)
+
+  pub as-weeks : eqb sort 0 ≡ false → eqb sort 1 ≡ false → eqb sort 2 ≡ true → ends (weekRange .read s p) ≡ itemEnds sort s p
+  unfolding itemEnds
+  as-weeks a b c = rw (a, b, c)
+
+  pub as-weekdays : eqb sort 0 ≡ false → eqb sort 1 ≡ false → eqb sort 2 ≡ false → eqb sort 3 ≡ true → ends (weekDayRange .read s p) ≡ itemEnds sort s p
+  unfolding itemEnds
+  as-weekdays a b c d = rw (a, b, c, d)
+
+  pub as-spans : eqb sort 0 ≡ false → eqb sort 1 ≡ false → eqb sort 2 ≡ false → eqb sort 3 ≡ false → ends (span .read s p) ≡ itemEnds sort s p
+  unfolding itemEnds
+  as-spans a b c d = rw (a, b, c, d)
+
+-- ## No item takes more than 52 bits
+end-short : {A : Type 0} (L : Layout A) (n : ℕ) → Short L n → n ≤ 52 → (s : List ℕ) (p q : ℕ) → ends (L .read s p) ≡ got tt q → q ≤ p + 52
+end-short {A} L n a l s p q e = go (L .read s p) refl e
+  where
+    go : (r : Read A) → L .read s p ≡ r → ends r ≡ got tt q → q ≤ p + 52
+    go (refused c i) h g = clash c i tt q g
+    go (got x j) h g = let z : j ≡ q = cc in omega (arith, a s p x j h)
+
+pub item-short : (sort : ℕ) (s : List ℕ) (p q : ℕ) → itemEnds sort s p ≡ got tt q → q ≤ p + 52
+unfolding itemEnds
+item-short sort s p q e = go (eqb sort 0) (eqb sort 1) (eqb sort 2) (eqb sort 3) e
+  where
+    go : (a b c d : Bool) → cond a (ends (yearRange .read s p)) (cond b (ends (monthdayRange .read s p)) (cond c (ends (weekRange .read s p))
+        (cond d (ends (weekDayRange .read s p)) (ends (span .read s p))))) ≡ got tt q → q ≤ p + 52
+    go true b c d h = end-short yearRange 44 years-short (omega arith) s p q h
+    go false true c d h = end-short monthdayRange 34 monthdays-short (omega arith) s p q h
+    go false false true d h = end-short weekRange 20 weeks-short (omega arith) s p q h
+    go false false false true h = end-short weekDayRange 33 weekdays-short (omega arith) s p q h
+    go false false false false h = end-short span 52 span-short (omega arith) s p q h
+
+-- ## A row of items, one by one
+pub went : {r : End} (t : Step) (q : ℕ) → asStep t ≡ r → t ≡ At q → r ≡ got tt q
+went t q e k = sym e ∙ ap asStep k
+
+pub halted : {r : End} (t : Step) (c p : ℕ) → asStep t ≡ r → t ≡ Refused c p → r ≡ refused c p
+halted t c p e k = sym e ∙ ap asStep k
+
+module _ (r : List ℕ → ℕ → End) (s : List ℕ) (p : ℕ) where
+  pub skip-goes : (n q : ℕ) → 0 < n → r s p ≡ got tt q → skipAll r n s p ≡ skipAll r (n - 1) s q
+  unfolding skipAll
+  skip-goes zero q l h = absurd (omega arith)
+  skip-goes (suc n) q l h = let z : n ≡ suc n - 1 = omega arith in rw h (ap (λ j. skipAll r j s q) z)
+
+  pub skip-stops : (n c q : ℕ) → 0 < n → r s p ≡ refused c q → skipAll r n s p ≡ refused c q
+  unfolding skipAll
+  skip-stops zero c q l h = absurd (omega arith)
+  skip-stops (suc n) c q l h = rw h
+
+  pub skip-ends : (n : ℕ) → n ≡ 0 → skipAll r n s p ≡ got tt p
+  unfolding skipAll
+  skip-ends n e = ap (λ m. skipAll r m s p) e

@@ -1,0 +1,15 @@
+-- `sheet::end::weekdays_end` meets its contract. Assumes nothing.
+use mathlib.Core.Path.{sym, ap, _∙_}
+use borrow.Author.Needs.{needs}
+use Rattle.item.specs.Answer.{asWeekDay}
+use Rattle.sheet.specs.End.{ends}
+use Rattle.sheet.proofs.end.weekdays_end.Statement.{statement}
+use Rattle.sheet.proofs.end.weekdays_end.Tie as tie
+
+pub weekdays-end-spec : {M : Type 1} → statement M
+weekdays-end-spec =
+    tie.close
+    (tie.spec (λ c κs. search needs) (λ c. search needs) (λ c. search needs) (λ c. search needs)
+    (λ c. ap ends (sym (ap (asWeekDay) (c .before .item .given .1)) ∙ c .before .before .before .week-day-range-at .ensures))
+    (λ c. ap ends (sym (ap (asWeekDay) (c .before .item2 .given .1)) ∙ c .before .before .before .week-day-range-at .ensures))
+    (λ c. ap ends (sym (ap (asWeekDay) (c .before .item3 .given .1)) ∙ c .before .before .before .week-day-range-at .ensures)))

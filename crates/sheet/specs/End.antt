@@ -1,0 +1,32 @@
+-- Where readings end: the same as what they read, less the values.
+-- Assumes nothing.
+use mathlib.Core.List.{List}
+use mathlib.Core.Bool.{cond}
+use Prim.Native.Nat.{ℕ, zero, suc}
+use lib.Dec.{eqb}
+use Rattle.definition.specs.Field.{Read, got, refused, andThen}
+use Rattle.definition.specs.Sheet.{yearRange, monthdayRange, weekRange, weekDayRange, span}
+use Rattle.sheet.specs.declared.end.Step.{Step}
+use Rattle.sheet.specs.declared.end.Step.the-variants.{At, Refused}
+
+-- only that something was read, and up to where
+abbrev pub End : Type 0
+End = Read (Unit {0})
+
+abbrev pub ends : {A : Type 0} → Read A → End
+ends (got x q) = got tt q
+ends (refused c p) = refused c p
+
+abbrev pub asStep : Step → End
+asStep (At q) = got tt q
+asStep (Refused c p) = refused c p
+
+-- an item of a sort: 0 years, 1 monthdays, 2 weeks, 3 weekdays, else spans
+unfoldable pub itemEnds : ℕ → List ℕ → ℕ → End
+itemEnds sort s p = cond (eqb sort 0) (ends (yearRange .read s p)) (cond (eqb sort 1) (ends (monthdayRange .read s p))
+    (cond (eqb sort 2) (ends (weekRange .read s p)) (cond (eqb sort 3) (ends (weekDayRange .read s p)) (ends (span .read s p)))))
+
+-- n of them, one behind the other
+unfoldable pub skipAll : (List ℕ → ℕ → End) → ℕ → List ℕ → ℕ → End
+skipAll r zero s p = got tt p
+skipAll r (suc n) s p = andThen (λ u q. skipAll r n s q) (r s p)

@@ -1,0 +1,3 @@
+// The packed sheet: where items and rules end, and whole sheets with their refusals.
+pub mod end;
+pub mod rule;
