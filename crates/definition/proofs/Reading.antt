@@ -1,7 +1,7 @@
 -- A reading step by step: how layouts that are put together go on or stop, and how far they go. Whoever reads a sheet field by field
 -- cites these and no layout's text.
 -- Assumes nothing.
-use mathlib.Core.Path.{_≡_, refl}
+use mathlib.Core.Path.{_≡_, refl, sym, ap, ap₂, _∙_}
 use mathlib.Core.List.{List}
 use mathlib.Core.Bool.{Bool, true, false}
 use Prim.Native.Nat.{ℕ, _+_, _≤_}
@@ -42,6 +42,36 @@ module _ {A B : Type 0} (L : Layout A) (M : A → Layout B) (tag : B → A) (s :
   pub tagged-stops : {c q : ℕ} → L .read s p ≡ refused c q → (tagged L M tag) .read s p ≡ refused c q
   unfolding tagged
   tagged-stops h = rw h
+
+-- ## Taking a reading apart
+-- what was read one behind the other, each for itself
+pub then-parts : {A B : Type 0} (L : Layout A) (M : Layout B) (s : List ℕ) (p : ℕ) (v : A × B) (q : ℕ) → (L then M) .read s p ≡ got v q
+    → (j : ℕ) × (L .read s p ≡ got (v .0) j) × (M .read s j ≡ got (v .1) q)
+unfolding _then_
+then-parts {A} {B} L M s p v q e = go (L .read s p) refl e
+  where
+    later : (x : A) (j : ℕ) → L .read s p ≡ got x j → (r : Read B) → M .read s j ≡ r → andThen (λ y i. got (x, y) i) r ≡ got v q
+        → (j : ℕ) × (L .read s p ≡ got (v .0) j) × (M .read s j ≡ got (v .1) q)
+    later x j h (refused c i) k g = clash c i v q g
+    later x j h (got y i) k g =
+        let xy : (x, y) ≡ v = cc in
+        let z : i ≡ q = cc in
+        (j, h ∙ ap (λ u. got (u .0) j) xy, k ∙ ap₂ (λ u n. got (u .1) n) xy z)
+
+    go : (r : Read A) → L .read s p ≡ r → andThen (λ x j. andThen (λ y i. got (x, y) i) (M .read s j)) r ≡ got v q
+        → (j : ℕ) × (L .read s p ≡ got (v .0) j) × (M .read s j ≡ got (v .1) q)
+    go (refused c i) h g = clash c i v q g
+    go (got x j) h g = later x j h (M .read s j) refl g
+
+-- a value that was read passed its test
+pub field-passed : (c : ℕ) (ok : ℕ → Bool) (w : ℕ) (s : List ℕ) (p v q : ℕ) → (field c ok w) .read s p ≡ got v q → ok v ≡ true
+unfolding field readField
+field-passed c ok w s p v q e = go (leb (p + w) (length s)) refl (ok (fieldAt s p w)) refl
+  where
+    go : (a : Bool) → leb (p + w) (length s) ≡ a → (b : Bool) → ok (fieldAt s p w) ≡ b → ok v ≡ true
+    go false l b k = clash pastEnd p v q (rw (l, readField) at e)
+    go true l false k = clash c p v q (rw (l, k, readField) at e)
+    go true l true k = let g : got (fieldAt s p w) (p + w) ≡ got v q = rw (l, k, readField) at e in let z : fieldAt s p w ≡ v = cc in ap ok (sym z) ∙ k
 
 -- ## How far a reading goes
 -- a reading of L takes at most n bits

@@ -1,3 +1,4 @@
 pub mod Ends
 pub mod Heads
 pub mod Rows
+pub mod RuleEnds

@@ -1,2 +1,3 @@
 pub mod End
 pub mod Head
+pub mod Rules

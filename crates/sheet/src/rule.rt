@@ -4,9 +4,10 @@ use crate::end::Step;
 ghost use mathlib.Core.Path.{_≡_};
 ghost use Prim.Native.Nat.{_≤_, _<_, _^_};
 ghost use Rattle.definition.specs.Field.{Layout, sheetBits};
-ghost use Rattle.definition.specs.Sheet.{form1, limits1, title, counts, body};
+ghost use Rattle.definition.specs.Sheet.{form1, limits1, title, counts, body, rule};
 ghost use Rattle.sheet.specs.End.{ends, asStep};
 ghost use Rattle.sheet.specs.Head.{asTitle, titleRefused, asCounts, countsRefused};
+ghost use Rattle.sheet.specs.Rules.{countedEnds};
 
 // Operator, kind and comment.
 pub enum TitleRead {
@@ -114,4 +115,30 @@ fn body_end(sheet: &[u8], at: usize, years: u64, monthdays: u64, weeks: u64, wee
         return fourth;
     };
     crate::end::items_end(sheet, after_weekdays, 4, spans)
+}
+
+// The counts, and the items that they count.
+fn counted_end(sheet: &[u8], at: usize) -> Step
+    requires { ⌜ at < 2 ^ 26 ⌝ }
+    ensures { λ r. ⌜ asStep r ≡ countedEnds (sheetBits (now (sheet .entry))) at ⌝ }
+{
+    let head = counts_at(sheet, at);
+    match head {
+        CountsRead::Counts(years, monthdays, weeks, weekdays, spans, items) => {
+            body_end(sheet, items, years, monthdays, weeks, weekdays, spans)
+        }
+        CountsRead::Refused(code, place) => Step::Refused(code, place),
+    }
+}
+
+// A whole rule.
+pub fn rule_end(sheet: &[u8], at: usize) -> Step
+    requires { ⌜ at < 2 ^ 25 ⌝ }
+    ensures { λ r. ⌜ asStep r ≡ ends ((rule form1 limits1) .read (sheetBits (now (sheet .entry))) at) ⌝ }
+{
+    let head = title_at(sheet, at);
+    match head {
+        TitleRead::Title(operator, kind, comment, after_title) => counted_end(sheet, after_title),
+        TitleRead::Refused(code, place) => Step::Refused(code, place),
+    }
 }

@@ -1,0 +1,79 @@
+-- Where a rule ends: its title, its counts, its items. Rests on the laws of rows.
+-- Assumes nothing.
+use mathlib.Core.Path.{_≡_, refl, sym, ap, _∙_}
+use mathlib.Core.List.{List}
+use Prim.Native.Nat.{ℕ, _+_, _*_, _≤_}
+use native.Mathlib.Omega.{arith}
+use borrow.Author.Tests.{leb-true}
+use Rattle.definition.specs.Field.{Read, got, refused, andThen, Layout, _then_, via, tagged, several, counted}
+use Rattle.definition.specs.Rule.{operatorOf, kindOf}
+use Rattle.definition.specs.Sheet.{form1, limits1, yearRange, monthdayRange, weekRange, weekDayRange, span, Title, Counts, Body, ruleWith, title, counts, head, body, rule}
+use Rattle.definition.proofs.Faithful.{clash}
+use Rattle.definition.proofs.Reading.{then-parts, field-passed, field-end, Short, field-short, then-short, via-short}
+use Rattle.sheet.specs.declared.rule.CountsRead.{CountsRead}
+use Rattle.sheet.specs.declared.rule.CountsRead.the-variants as countsRead
+use Rattle.sheet.specs.declared.rule.TitleRead.{TitleRead}
+use Rattle.sheet.specs.declared.rule.TitleRead.the-variants as titleRead
+use Rattle.sheet.specs.End.{End, ends}
+use Rattle.sheet.specs.Head.{asTitle, asCounts}
+use Rattle.sheet.specs.Rules.{countedEnds, ruleEnds}
+use Rattle.sheet.proofs.Rows.{years-row, monthdays-row, weeks-row, weekdays-row, spans-row, row-short, ends-goes, ends-stops}
+
+-- ## The ways out
+module _ (s : List ℕ) (p : ℕ) where
+  pub counted-goes : (n : Counts) (q : ℕ) → (counts form1 limits1) .read s p ≡ got n q → countedEnds s p ≡ ends ((body form1 limits1 n) .read s q)
+  unfolding countedEnds
+  counted-goes n q e = rw e
+
+  pub counted-stops : (c q : ℕ) → (counts form1 limits1) .read s p ≡ refused c q → countedEnds s p ≡ refused c q
+  unfolding countedEnds
+  counted-stops c q e = rw e
+
+  pub rule-goes : (t : Title) (q : ℕ) → (title form1 limits1) .read s p ≡ got t q → ends ((rule form1 limits1) .read s p) ≡ countedEnds s q
+  unfolding rule tagged head _then_ countedEnds via
+  rule-goes t q e = rw e (go ((counts form1 limits1) .read s q))
+    where
+      items : (n : Counts) (w : Read Body) → ends (andThen (λ b j. got (ruleWith (t, n) b) j) w) ≡ ends w
+      items n (got b j) = refl
+      items n (refused c j) = refl
+
+      go : (w : Read Counts) → ends (andThen (λ h j. andThen (λ b i. got (ruleWith h b) i) ((body form1 limits1 (h .1)) .read s j)) (andThen (λ n i. got (t, n) i) w))
+          ≡ andThen (λ n i. ends ((body form1 limits1 n) .read s i)) w
+      go (got n i) = items n ((body form1 limits1 n) .read s i)
+      go (refused c i) = refl
+
+  pub rule-stops : (c q : ℕ) → (title form1 limits1) .read s p ≡ refused c q → ends ((rule form1 limits1) .read s p) ≡ refused c q
+  unfolding rule tagged head _then_
+  rule-stops c q e = rw e
+
+-- ## How far a rule goes
+-- counts keep their limit, and take fifty bits
+pub counts-low : (s : List ℕ) (p : ℕ) (n : Counts) (q : ℕ) → (counts form1 limits1) .read s p ≡ got n q
+    → (n .0 ≤ limits1 .items) × (n .1 .0 ≤ limits1 .items) × (n .1 .1 .0 ≤ limits1 .items) × (n .1 .1 .1 .0 ≤ limits1 .items) × (n .1 .1 .1 .1 ≤ limits1 .spans) × (q ≡ p + 50)
+unfolding counts
+counts-low s p n q e =
+    let y = then-parts _ _ s p n q e in
+    let m = then-parts _ _ s (y .0) (n .1) q (y .2) in
+    let w = then-parts _ _ s (m .0) (n .1 .1) q (m .2) in
+    let d = then-parts _ _ s (w .0) (n .1 .1 .1) q (w .2) in
+    (leb-true _ _ (field-passed _ _ _ s p _ _ (y .1)), leb-true _ _ (field-passed _ _ _ s (y .0) _ _ (m .1)), leb-true _ _ (field-passed _ _ _ s (m .0) _ _ (w .1)),
+    leb-true _ _ (field-passed _ _ _ s (w .0) _ _ (d .1)), leb-true _ _ (field-passed _ _ _ s (d .0) _ _ (d .2)),
+    omega (arith, field-end _ _ 10 s p (n .0) (y .0) (y .1), field-end _ _ 10 s (y .0) (n .1 .0) (m .0) (m .1), field-end _ _ 10 s (m .0) (n .1 .1 .0) (w .0) (w .1),
+    field-end _ _ 10 s (w .0) (n .1 .1 .1 .0) (d .0) (d .1), field-end _ _ 10 s (d .0) (n .1 .1 .1 .1) q (d .2)))
+
+pub title-short : Short (title form1 limits1) 20
+unfolding title
+title-short = then-short _ _ 2 18 (via-short _ _ _ 2 (field-short _ _ 2)) (then-short _ _ 2 16 (via-short _ _ _ 2 (field-short _ _ 2)) (field-short _ _ 16))
+
+-- what a reader of the head says, once its case is known
+pub took-counts : {r : Read Counts} (t : CountsRead) (y m w d n q : ℕ) → asCounts t ≡ r → t ≡ countsRead.Counts y m w d n q → r ≡ got (y, (m, (w, (d, n)))) q
+took-counts t y m w d n q e k = sym e ∙ ap asCounts k
+
+pub stopped-counts : {r : Read Counts} (t : CountsRead) (c p : ℕ) → asCounts t ≡ r → t ≡ countsRead.Refused c p → r ≡ refused c p
+stopped-counts t c p e k = sym e ∙ ap asCounts k
+
+pub took-title : {r : Read Title} (t : TitleRead) (o k c q : ℕ) → asTitle t ≡ r → t ≡ titleRead.Title o k c q → r ≡ got (operatorOf o, (kindOf k, c)) q
+took-title t o k c q e h = sym e ∙ ap asTitle h
+
+pub stopped-title : {r : Read Title} (t : TitleRead) (c p : ℕ) → asTitle t ≡ r → t ≡ titleRead.Refused c p → r ≡ refused c p
+stopped-title t c p e k = sym e ∙ ap asTitle k

@@ -1,0 +1,21 @@
+-- `sheet::rule::counted_end` meets its contract: the counts keep their limits, and their items begin fifty bits on.
+-- Assumes nothing.
+use mathlib.Core.Path.{_≡_, sym, _∙_}
+use Prim.Native.Nat.{_+_, _≤_}
+use native.Mathlib.Omega.{arith}
+use borrow.Author.Needs.{needs}
+use Rattle.sheet.proofs.RuleEnds.{counted-goes, counted-stops, counts-low, took-counts, stopped-counts}
+use Rattle.sheet.proofs.rule.counted_end.Statement.{statement}
+use Rattle.sheet.proofs.rule.counted_end.Tie as tie
+
+body-end-requires : tie.Need-body-end-requires
+body-end-requires c κs =
+    let low = counts-low _ _ _ _ (took-counts _ _ _ _ _ _ _ (c .before .before .before .counts-at .ensures) (c .before .head .given .1)) in
+    (omega (arith, low .5), omega (arith, low .0), omega (arith, low .1), omega (arith, low .2), omega (arith, low .3), omega (arith, low .4))
+
+pub counted-end-spec : {M : Type 1} → statement M
+counted-end-spec =
+    tie.close
+    (tie.spec (λ c κs. search needs) (λ c. search needs) body-end-requires (λ c. search needs)
+    (λ c. c .body-end .ensures ∙ sym (counted-goes _ _ _ _ (took-counts _ _ _ _ _ _ _ (c .before .before .before .before .counts-at .ensures) (c .before .before .head .given .1))))
+    (λ c. sym (counted-stops _ _ _ _ (stopped-counts _ _ _ (c .before .before .before .counts-at .ensures) (c .before .head2 .given .1)))))

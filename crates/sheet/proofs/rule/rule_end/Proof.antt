@@ -1,0 +1,21 @@
+-- `sheet::rule::rule_end` meets its contract: a title of at most twenty bits, then what is counted.
+-- Assumes nothing.
+use mathlib.Core.Path.{_≡_, sym, _∙_}
+use Prim.Native.Nat.{_+_, _≤_}
+use native.Mathlib.Omega.{arith}
+use borrow.Author.Needs.{needs}
+use Rattle.sheet.proofs.RuleEnds.{rule-goes, rule-stops, title-short, took-title, stopped-title}
+use Rattle.sheet.proofs.rule.rule_end.Statement.{statement}
+use Rattle.sheet.proofs.rule.rule_end.Tie as tie
+
+counted-end-requires : tie.Need-counted-end-requires
+counted-end-requires c κs =
+    let short = title-short _ _ _ _ (took-title _ _ _ _ _ (c .before .before .before .title-at .ensures) (c .before .head .given .1)) in
+    omega (arith, short)
+
+pub rule-end-spec : {M : Type 1} → statement M
+rule-end-spec =
+    tie.close
+    (tie.spec (λ c κs. search needs) (λ c. search needs) counted-end-requires (λ c. search needs)
+    (λ c. c .counted-end .ensures ∙ sym (rule-goes _ _ _ _ (took-title _ _ _ _ _ (c .before .before .before .before .title-at .ensures) (c .before .before .head .given .1))))
+    (λ c. sym (rule-stops _ _ _ _ (stopped-title _ _ _ (c .before .before .before .title-at .ensures) (c .before .head2 .given .1)))))
