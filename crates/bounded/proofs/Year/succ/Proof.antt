@@ -1,0 +1,11 @@
+-- `bounded::Year::succ` meets its contract, by the two ways of `next`.
+-- Assumes nothing.
+use native.Mathlib.Omega.{arith}
+use borrow.Author.Needs.{needs}
+use Rattle.definition.specs.Rule.{yearBounds}
+use Rattle.bounded.proofs.Step.{next-some, next-none}
+use Rattle.bounded.proofs.Year.succ.Statement.{statement}
+use Rattle.bounded.proofs.Year.succ.Tie as tie
+
+pub succ-spec : {M : Type 1} → statement M
+succ-spec = tie.close (tie.spec (λ c. search needs) (λ c. next-some yearBounds _ (omega arith)) (λ c. next-none yearBounds _ (omega arith)))

@@ -1,0 +1,3 @@
+pub mod NewYear
+pub mod Date
+pub mod Next

@@ -1,0 +1,116 @@
+// Gregorian dates from 1900 to 9999: leap years, month lengths, the weekday of 1 January, day of the year, weekday and week.
+// What is right stands in definition's specs/Date. Whatever is no date is answered so.
+mod new_years;
+
+use new_years::NEW_YEARS;
+ghost use mathlib.Core.Path.{_≡_};
+ghost use mathlib.Core.Bool.{true};
+ghost use Prim.Native.Nat.{_-_, _<_, _≤_};
+ghost use lib.ListN.{getD};
+ghost use Rattle.definition.specs.Date.{isLeap, monthLengths, isDate, dayOfYear, newYear, weekdayOf, weekOf};
+ghost use Rattle.calendar.specs.Dated.{pointIn, pointAt};
+
+// The point of a date, or that there is no such date.
+pub enum Dated {
+    Point {
+        weekday: u8,
+        week: u8,
+        month: u8,
+        year: u16,
+    },
+    NoDate,
+}
+
+// The lengths of January to December: common years, leap years.
+const MONTH_LENGTHS: [[u8; 12]; 2] = [
+    [31, 28, 31, 30, 31, 30, 31, 31, 30, 31, 30, 31],
+    [31, 29, 31, 30, 31, 30, 31, 31, 30, 31, 30, 31],
+];
+
+// Every fourth year is a leap year, but of the full centuries only every fourth.
+pub fn is_leap(year: u64) -> bool
+    ensures { λ r. ⌜ r ≡ isLeap year ⌝ }
+{
+    year % 4 == 0 && (year % 100 != 0 || year % 400 == 0)
+}
+
+// A month's length. The index counts months from 0.
+fn month_length(leap: bool, index: usize) -> u8
+    requires { ⌜ index < 12 ⌝ }
+    ensures { λ r. ⌜ r ≡ getD (monthLengths leap) index 0 ⌝ }
+{
+    MONTH_LENGTHS[leap as usize][index]
+}
+
+// Is there such a date, from 1900 to 9999?
+pub fn is_date(year: u64, month: u64, day: u64) -> bool
+    ensures { λ r. ⌜ r ≡ isDate year month day ⌝ }
+{
+    match year {
+        1900..=9999 => match month {
+            1..=12 => {
+                let length = month_length(is_leap(year), (month - 1) as usize);
+                1 <= day && day <= length as u64
+            }
+            _ => false,
+        },
+        _ => false,
+    }
+}
+
+// A date's day of the year, 1 January the first.
+fn day_of_year(year: u64, month: u64, day: u64) -> u16
+    requires { ⌜ isDate year month day ≡ true ⌝ }
+    ensures { λ r. ⌜ r ≡ dayOfYear year month day ⌝ }
+{
+    let leap = is_leap(year);
+    let passed = (month - 1) as usize;
+    let mut days = day as u16;
+    let mut index: usize = 0;
+    while index < passed {
+        days += month_length(leap, index) as u16;
+        index += 1;
+    }
+    days
+}
+
+// The weekday of a year's 1 January, Monday 0.
+fn new_year(year: u64) -> u8
+    requires { ⌜ 1900 ≤ year ⌝ }
+    ensures { λ r. ⌜ r ≡ newYear (year - 1900) ⌝ }
+{
+    NEW_YEARS[(year % 400) as usize]
+}
+
+// A date's weekday, Monday 0.
+fn weekday_of(year: u64, month: u64, day: u64) -> u8
+    requires { ⌜ isDate year month day ≡ true ⌝ }
+    ensures { λ r. ⌜ r ≡ weekdayOf year month day ⌝ }
+{
+    let passed = day_of_year(year, month, day) - 1;
+    ((new_year(year) as u16 + passed) % 7) as u8
+}
+
+// A date's week. The week's rule stands here and in definition's `weekOf` alone.
+fn week_of(year: u64, month: u64, day: u64) -> u8
+    requires { ⌜ isDate year month day ≡ true ⌝ }
+    ensures { λ r. ⌜ r ≡ weekOf year month day ⌝ }
+{
+    ((day_of_year(year, month, day) - 1) / 7 + 1) as u8
+}
+
+// The point of a date: its weekday, week, month and year.
+pub fn point_of(year: u64, month: u64, day: u64) -> Dated
+    ensures { λ r. ⌜ pointIn r ≡ pointAt year month day ⌝ }
+{
+    if is_date(year, month, day) {
+        Dated::Point {
+            weekday: weekday_of(year, month, day),
+            week: week_of(year, month, day),
+            month: month as u8,
+            year: year as u16,
+        }
+    } else {
+        Dated::NoDate
+    }
+}
