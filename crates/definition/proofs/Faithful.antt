@@ -45,6 +45,12 @@ stand-append bs cs s p q e a b = record {
   stands = a .stands ∙ ap (bs ++_) (b .stands) ∙ sym (append-assoc bs cs (drop e s));
 }
 
+-- a reading that begins within the bits ends within them
+pub read-within : {A : Type 0} {P : A → Type 0} {L : Layout A} → Faithful P L → (s : List ℕ) → Bits s → (p : ℕ) (x : A) (q : ℕ) → p ≤ length s → L .read s p ≡ got x q → q ≤ length s
+read-within {L = L} a s h p x q l e =
+    let k = a .written s h p x q e .2 in
+    omega (arith, k .ends, ap length (k .stands), length-append (L .write x) (drop q s), length-drop p s, length-drop q s)
+
 -- ## One field
 pub clash : {A : Type 0} {G : Type 0} (c p : ℕ) (x : A) (q : ℕ) → refused c p ≡ got x q → G
 clash c p x q e = let z : _≡_ {A = ℕ} 0 1 = cc in absurd (omega arith)

@@ -2,13 +2,13 @@
 -- cites these and no layout's text.
 -- Assumes nothing.
 use mathlib.Core.Path.{_≡_, refl, sym, ap, ap₂, _∙_}
-use mathlib.Core.List.{List}
+use mathlib.Core.List.{List, _∷_}
 use mathlib.Core.Bool.{Bool, true, false}
-use Prim.Native.Nat.{ℕ, _+_, _≤_}
+use Prim.Native.Nat.{ℕ, zero, suc, _+_, _*_, _≤_}
 use native.Mathlib.Omega.{arith}
 use lib.Dec.{leb}
 use lib.ListN.{length}
-use Rattle.definition.specs.Field.{fieldAt, Read, got, refused, andThen, pastEnd, readField, Layout, field, noBits, _then_, via, tagged}
+use Rattle.definition.specs.Field.{fieldAt, Read, got, refused, andThen, pastEnd, readField, readAll, Layout, field, noBits, _then_, via, tagged, several}
 use Rattle.definition.proofs.Faithful.{clash}
 
 -- ## Going on and stopping
@@ -121,3 +121,25 @@ tagged-short {A} L M tag m n a b s p y q e = go (L .read s p) refl e
     go : (r : Read A) → L .read s p ≡ r → andThen (λ t j. (M t) .read s j) r ≡ got y q → (p ≤ q) × (q ≤ p + (m + n))
     go (refused c i) h g = clash c i y q g
     go (got t j) h g = omega (arith, a s p t j h, b t s j y q g)
+
+all-short : {A : Type 0} (L : Layout A) (m : ℕ) → Short L m → (n : ℕ) (s : List ℕ) (p : ℕ) (xs : List A) (q : ℕ) → readAll (L .read) n s p ≡ got xs q → (p ≤ q) × (q ≤ p + n * m)
+unfolding readAll
+all-short L m a zero s p xs q e = let z : p ≡ q = cc in omega arith
+all-short {A} L m a (suc n) s p xs q e = first (L .read s p) refl e (all-short L m a n s)
+  where
+    Rest : Type 0
+    Rest = (p : ℕ) (ys : List A) (q : ℕ) → readAll (L .read) n s p ≡ got ys q → (p ≤ q) × (q ≤ p + n * m)
+
+    second : (x : A) (j : ℕ) → L .read s p ≡ got x j → (r : Read (List A)) → readAll (L .read) n s j ≡ r → andThen (λ ys i. got (x ∷ ys) i) r ≡ got xs q
+        → Rest → (p ≤ q) × (q ≤ p + suc n * m)
+    second x j h (refused c i) k g ih = clash c i xs q g
+    second x j h (got ys i) k g ih = let z : i ≡ q = cc in omega (arith, a s p x j h, ih j ys i k)
+
+    first : (r : Read A) → L .read s p ≡ r → andThen (λ x j. andThen (λ ys i. got (x ∷ ys) i) (readAll (L .read) n s j)) r ≡ got xs q
+        → Rest → (p ≤ q) × (q ≤ p + suc n * m)
+    first (refused c i) h g ih = clash c i xs q g
+    first (got x j) h g ih = second x j h (readAll (L .read) n s j) refl g ih
+
+pub several-short : {A : Type 0} (L : Layout A) (m : ℕ) → Short L m → (n : ℕ) → Short (several n L) (n * m)
+unfolding several
+several-short L m a n = all-short L m a n

@@ -8,10 +8,10 @@ use Rattle.definition.specs.Field.{Read, got, refused, andThen, readAll, Layout
 use Rattle.definition.specs.Sheet.{yearRange, monthdayRange, weekRange, weekDayRange, span}
 use Rattle.definition.proofs.Faithful.{clash}
 use Rattle.sheet.specs.End.{End, ends, itemEnds, skipAll}
-use Rattle.sheet.proofs.Ends.{item-short}
+use Rattle.sheet.proofs.Ends.{item-short, skip-short}
 
 -- ## Several of a layout
-ends-all : {A : Type 0} (r : List ℕ → ℕ → Read A) (n : ℕ) (s : List ℕ) (p : ℕ) → ends (readAll r n s p) ≡ skipAll (λ t q. ends (r t q)) n s p
+pub ends-all : {A : Type 0} (r : List ℕ → ℕ → Read A) (n : ℕ) (s : List ℕ) (p : ℕ) → ends (readAll r n s p) ≡ skipAll (λ t q. ends (r t q)) n s p
 unfolding readAll skipAll
 ends-all r zero s p = refl
 ends-all {A} r (suc n) s p = go (r s p) (λ q. ends-all r n s q)
@@ -48,14 +48,7 @@ module _ (n : ℕ) (s : List ℕ) (p : ℕ) where
 
 -- a row takes at most 52 bits for each item
 pub row-short : (sort n : ℕ) (s : List ℕ) (p q : ℕ) → skipAll (itemEnds sort) n s p ≡ got tt q → q ≤ p + n * 52
-unfolding skipAll
-row-short sort zero s p q e = let z : p ≡ q = cc in omega arith
-row-short sort (suc n) s p q e = go (itemEnds sort s p) refl e (row-short sort n s)
-  where
-    go : (r : End) → itemEnds sort s p ≡ r → andThen (λ u i. skipAll (itemEnds sort) n s i) r ≡ got tt q
-        → ((j q : ℕ) → skipAll (itemEnds sort) n s j ≡ got tt q → q ≤ j + n * 52) → q ≤ p + suc n * 52
-    go (refused c i) h g ih = clash c i tt q g
-    go (got u i) h g ih = omega (arith, ih i q g, item-short sort s p i h)
+row-short sort n s p q e = skip-short (itemEnds sort) 52 s (item-short sort s) n p q e
 
 -- ## One layout behind another
 module _ {A B : Type 0} (L : Layout A) (M : Layout B) (s : List ℕ) (p : ℕ) where

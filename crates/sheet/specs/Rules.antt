@@ -1,20 +1,44 @@
--- Where a rule ends, and where each of a row of rules begins.
+-- A whole sheet: its rules one behind the other, where each begins, and what a check of the sheet answers.
 -- Assumes nothing.
 use mathlib.Core.List.{List}
+use mathlib.Core.Option.{Option, none, some}
 use Prim.Native.Nat.{ℕ, zero, suc, _+_}
-use lib.ListN.{set}
-use Rattle.definition.specs.Field.{Read, got, refused, andThen, Layout}
-use Rattle.definition.specs.Sheet.{form1, limits1, counts, body, rule}
-use Rattle.sheet.specs.End.{End, ends}
+use lib.ListN.{length, set}
+use Rattle.definition.specs.Field.{Read, got, refused, andThen, sheetBits, Layout, counted}
+use Rattle.definition.specs.Sheet.{form1, limits1, counts, body, rule, ended, decode}
+use Rattle.sheet.specs.declared.check.Checked.{Checked}
+use Rattle.sheet.specs.declared.check.Checked.the-variants.{Rules, Refused}
+use Rattle.sheet.specs.End.{End, ends, skipAll}
 
 -- behind a rule's title: its counts, and the items that they count
 unfoldable pub countedEnds : List ℕ → ℕ → End
 countedEnds s p = andThen (λ n q. ends ((body form1 limits1 n) .read s q)) ((counts form1 limits1) .read s p)
 
-unfoldable pub ruleEnds : List ℕ → ℕ → End
+abbrev pub ruleEnds : List ℕ → ℕ → End
 ruleEnds s p = ends ((rule form1 limits1) .read s p)
 
 -- the beginnings of n rules from p on, noted from place i on, up to the first that is refused
 unfoldable pub noted : List ℕ → ℕ → ℕ → ℕ → List ℕ → List ℕ
 noted s zero i p begins = begins
 noted s (suc n) i p begins = elim (ruleEnds s p) [ got u q ↦ noted s n (i + 1) q (set begins i p) | refused c q ↦ set begins i p ]
+
+-- the place of a bit that is set, or the end
+abbrev pub placeOr : ℕ → Option ℕ → ℕ
+placeOr end none = end
+placeOr end (some p) = p
+
+-- how many rules a sheet has and the bit after them, or its refusal
+unfoldable pub checked : List ℕ → Read ℕ
+checked sheet = andThen (λ rules q. got (length rules) q) (decode form1 limits1 sheet)
+
+-- the same from the first rule on: n rules, then zero bits, then nothing
+unfoldable pub checkedFrom : List ℕ → ℕ → ℕ → Read ℕ
+checkedFrom s n p = andThen (λ u q. got n q) (andThen (λ u q. ended s (tt {0}) q) (skipAll ruleEnds n s p))
+
+-- the beginnings of a sheet's rules
+unfoldable pub begun : List ℕ → List ℕ → List ℕ
+begun sheet begins = elim ((counted (form1 .ruleCount) (limits1 .rules)) .read (sheetBits sheet) 0) [ got n q ↦ noted (sheetBits sheet) n 0 q begins | refused c q ↦ begins ]
+
+abbrev pub asChecked : Checked → Read ℕ
+asChecked (Rules n q) = got n q
+asChecked (Refused c p) = refused c p

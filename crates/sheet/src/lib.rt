@@ -1,3 +1,4 @@
 // The packed sheet: where items and rules end, and whole sheets with their refusals.
 pub mod end;
 pub mod rule;
+pub mod check;

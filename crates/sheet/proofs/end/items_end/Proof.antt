@@ -29,7 +29,7 @@ loop-again c =
     let old = c .before .before .before .before .before .loop in
     let step = went _ _ (c .before .before .before .item-end .ensures) (c .before .step .given .1) in
     let short : c .before .step .given .0 .0 ≤ old .at + 52 = item-short _ _ _ _ step in
-    (omega arith, omega (arith, short, old .inv .1), sym (skip-goes _ _ _ _ _ (omega arith) step) ∙ old .inv .2)
+    (omega arith, omega (arith, short, old .inv .1), sym (skip-goes _ _ _ _ _ _ (omega arith) step) ∙ old .inv .2)
 
 returns-2 : tie.Need-returns-2 Inv-loop μ-loop
 returns-2 c = sym (sym (c .before .loop .inv .2) ∙ skip-ends _ _ _ _ (omega arith))
