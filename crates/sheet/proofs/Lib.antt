@@ -5,3 +5,4 @@ pub mod RuleEnds
 pub mod RuleRows
 pub mod Endings
 pub mod Whole
+pub mod Backs

@@ -3,11 +3,10 @@
 use mathlib.Core.Path.{_≡_, refl, sym, ap, _∙_}
 use mathlib.Core.List.{List, _∷_}
 use Prim.Native.Nat.{ℕ, zero, suc, _+_, _*_, _≤_}
-use native.Mathlib.Omega.{arith}
-use Rattle.definition.specs.Field.{Read, got, refused, andThen, readAll, Layout, _then_, via, tagged, several}
+use Rattle.definition.specs.Field.{Read, got, refused, andThen, readAll, Layout, _then_, several}
 use Rattle.definition.specs.Sheet.{yearRange, monthdayRange, weekRange, weekDayRange, span}
 use Rattle.definition.proofs.Faithful.{clash}
-use Rattle.sheet.specs.End.{End, ends, itemEnds, skipAll}
+use Rattle.sheet.specs.End.{ends, itemEnds, skipAll}
 use Rattle.sheet.proofs.Ends.{item-short, skip-short}
 
 -- ## Several of a layout

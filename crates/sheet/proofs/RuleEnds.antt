@@ -2,22 +2,20 @@
 -- Assumes nothing.
 use mathlib.Core.Path.{_≡_, refl, sym, ap, _∙_}
 use mathlib.Core.List.{List}
-use Prim.Native.Nat.{ℕ, _+_, _*_, _≤_}
+use Prim.Native.Nat.{ℕ, _+_, _≤_}
 use native.Mathlib.Omega.{arith}
 use borrow.Author.Tests.{leb-true}
-use Rattle.definition.specs.Field.{Read, got, refused, andThen, Layout, _then_, via, tagged, several, counted}
+use Rattle.definition.specs.Field.{Read, got, refused, andThen, _then_, via, tagged}
 use Rattle.definition.specs.Rule.{operatorOf, kindOf}
-use Rattle.definition.specs.Sheet.{form1, limits1, yearRange, monthdayRange, weekRange, weekDayRange, span, Title, Counts, Body, ruleWith, title, counts, head, body, rule}
-use Rattle.definition.proofs.Faithful.{clash}
+use Rattle.definition.specs.Sheet.{form1, limits1, Title, Counts, Body, ruleWith, title, counts, head, body, rule}
 use Rattle.definition.proofs.Reading.{then-parts, field-passed, field-end, Short, field-short, then-short, via-short}
 use Rattle.sheet.specs.declared.rule.CountsRead.{CountsRead}
 use Rattle.sheet.specs.declared.rule.CountsRead.the-variants as countsRead
 use Rattle.sheet.specs.declared.rule.TitleRead.{TitleRead}
 use Rattle.sheet.specs.declared.rule.TitleRead.the-variants as titleRead
-use Rattle.sheet.specs.End.{End, ends}
+use Rattle.sheet.specs.End.{ends}
 use Rattle.sheet.specs.Head.{asTitle, asCounts}
-use Rattle.sheet.specs.Rules.{countedEnds, ruleEnds}
-use Rattle.sheet.proofs.Rows.{years-row, monthdays-row, weeks-row, weekdays-row, spans-row, row-short, ends-goes, ends-stops}
+use Rattle.sheet.specs.Rules.{countedEnds}
 
 -- ## The ways out
 module _ (s : List ℕ) (p : ℕ) where
@@ -55,11 +53,21 @@ counts-low s p n q e =
     let y = then-parts _ _ s p n q e in
     let m = then-parts _ _ s (y .0) (n .1) q (y .2) in
     let w = then-parts _ _ s (m .0) (n .1 .1) q (m .2) in
-    let d = then-parts _ _ s (w .0) (n .1 .1 .1) q (w .2) in
-    (leb-true _ _ (field-passed _ _ _ s p _ _ (y .1)), leb-true _ _ (field-passed _ _ _ s (y .0) _ _ (m .1)), leb-true _ _ (field-passed _ _ _ s (m .0) _ _ (w .1)),
-    leb-true _ _ (field-passed _ _ _ s (w .0) _ _ (d .1)), leb-true _ _ (field-passed _ _ _ s (d .0) _ _ (d .2)),
-    omega (arith, field-end _ _ 10 s p (n .0) (y .0) (y .1), field-end _ _ 10 s (y .0) (n .1 .0) (m .0) (m .1), field-end _ _ 10 s (m .0) (n .1 .1 .0) (w .0) (w .1),
-    field-end _ _ 10 s (w .0) (n .1 .1 .1 .0) (d .0) (d .1), field-end _ _ 10 s (d .0) (n .1 .1 .1 .1) q (d .2)))
+    let d = then-parts _ _ s (w .0) (n .1 .1 .1) q (w .2) in (
+      leb-true _ _ (field-passed _ _ _ s p _ _ (y .1)),
+      leb-true _ _ (field-passed _ _ _ s (y .0) _ _ (m .1)),
+      leb-true _ _ (field-passed _ _ _ s (m .0) _ _ (w .1)),
+      leb-true _ _ (field-passed _ _ _ s (w .0) _ _ (d .1)),
+      leb-true _ _ (field-passed _ _ _ s (d .0) _ _ (d .2)),
+      omega (
+        arith,
+        field-end _ _ 10 s p (n .0) (y .0) (y .1),
+        field-end _ _ 10 s (y .0) (n .1 .0) (m .0) (m .1),
+        field-end _ _ 10 s (m .0) (n .1 .1 .0) (w .0) (w .1),
+        field-end _ _ 10 s (w .0) (n .1 .1 .1 .0) (d .0) (d .1),
+        field-end _ _ 10 s (d .0) (n .1 .1 .1 .1) q (d .2),
+      ),
+    )
 
 pub title-short : Short (title form1 limits1) 20
 unfolding title

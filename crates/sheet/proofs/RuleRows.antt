@@ -2,11 +2,10 @@
 -- Assumes nothing.
 use mathlib.Core.Path.{_≡_, refl, ap, _∙_}
 use mathlib.Core.List.{List}
-use Prim.Native.Nat.{ℕ, zero, suc, _+_, _*_, _-_, _≤_, _<_}
+use Prim.Native.Nat.{ℕ, zero, suc, _+_, _*_, _≤_, _<_}
 use native.Mathlib.Omega.{arith}
 use lib.ListN.{length, set}
-use Rattle.definition.specs.Field.{Read, got, refused, andThen, Layout, _then_, via, tagged, several}
-use Rattle.definition.specs.Rule.{Rule}
+use Rattle.definition.specs.Field.{Read, got, refused, andThen, via, tagged}
 use Rattle.definition.specs.Sheet.{form1, limits1, Counts, Head, ruleWith, bodyOf, title, counts, head, body, rule}
 use Rattle.definition.proofs.Bits.{Bits}
 use Rattle.definition.proofs.Faithful.{clash, read-within}

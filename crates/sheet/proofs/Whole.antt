@@ -4,12 +4,12 @@ use mathlib.Core.Path.{_≡_, refl, sym, ap, _∙_}
 use mathlib.Core.List.{List}
 use mathlib.Core.Option.{Option, none, some}
 use mathlib.Core.Bool.{Bool, true, false}
-use Prim.Native.Nat.{ℕ, _+_, _*_, _-_, _≤_}
+use Prim.Native.Nat.{ℕ, _*_, _-_, _≤_}
 use native.Mathlib.Omega.{arith}
 use lib.Dec.{leb, ltb}
 use lib.ListN.{length, take, drop}
 use borrow.Author.Tests.{leb-true}
-use Rattle.definition.specs.Field.{Read, got, refused, andThen, bytesFor, sheetBits, Layout, counted, tagged, several}
+use Rattle.definition.specs.Field.{Read, got, refused, andThen, bytesFor, sheetBits, counted, tagged, several}
 use Rattle.definition.specs.Rule.{Rule}
 use Rattle.definition.specs.Sheet.{form1, limits1, rule, rules, firstSet, ended, decode}
 use Rattle.definition.proofs.Bits.{Bits, Bytes, sheet-bits, length-sheetBits}
@@ -79,6 +79,8 @@ module _ (sheet : List ℕ) where
   -- a count keeps its limit, takes sixteen bits and ends within the sheet
   pub count-low : Bytes sheet → (n q : ℕ) → (counted (form1 .ruleCount) (limits1 .rules)) .read (sheetBits sheet) 0 ≡ got n q
       → (n ≤ limits1 .rules) × (q ≡ 16) × (q ≤ 8 * length sheet)
-  count-low h n q e =
-      (leb-true _ _ (field-passed _ (λ v. leb v (limits1 .rules)) _ (sheetBits sheet) 0 n q e), field-end _ _ 16 (sheetBits sheet) 0 n q e,
-      omega (arith, length-sheetBits sheet, read-within (field-faithful _ _ 16) (sheetBits sheet) (sheet-bits sheet h) 0 n q (omega arith) e))
+  count-low h n q e = (
+    leb-true _ _ (field-passed _ (λ v. leb v (limits1 .rules)) _ (sheetBits sheet) 0 n q e),
+    field-end _ _ 16 (sheetBits sheet) 0 n q e,
+    omega (arith, length-sheetBits sheet, read-within (field-faithful _ _ 16) (sheetBits sheet) (sheet-bits sheet h) 0 n q (omega arith) e),
+  )

@@ -1,3 +1,4 @@
 pub mod End
 pub mod Head
 pub mod Rules
+pub mod Back

@@ -4,7 +4,7 @@ use mathlib.Core.List.{List}
 use mathlib.Core.Option.{Option, none, some}
 use Prim.Native.Nat.{ℕ, zero, suc, _+_}
 use lib.ListN.{length, set}
-use Rattle.definition.specs.Field.{Read, got, refused, andThen, sheetBits, Layout, counted}
+use Rattle.definition.specs.Field.{Read, got, refused, andThen, sheetBits, counted}
 use Rattle.definition.specs.Sheet.{form1, limits1, counts, body, rule, ended, decode}
 use Rattle.sheet.specs.declared.check.Checked.{Checked}
 use Rattle.sheet.specs.declared.check.Checked.the-variants.{Rules, Refused}

@@ -1,6 +1,6 @@
 // A whole sheet, read once from its first bit to its last: how many rules, where each begins, where they end; or the refusal.
-use field::Taken;
 use crate::end::Step;
+use field::Taken;
 ghost use mathlib.Core.Path.{_≡_};
 ghost use Prim.Native.Nat.{_*_, _-_, _≤_, _<_, _^_};
 ghost use lib.ListN.{length, take, drop};

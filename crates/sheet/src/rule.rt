@@ -1,6 +1,6 @@
 // A rule's head and its end: operator, kind and comment; the five counts; and the items behind them.
-use field::Taken;
 use crate::end::Step;
+use field::Taken;
 ghost use mathlib.Core.Path.{_≡_};
 ghost use Prim.Native.Nat.{_≤_, _<_, _^_};
 ghost use Rattle.definition.specs.Field.{Layout, sheetBits};
@@ -94,7 +94,15 @@ pub fn counts_at(sheet: &[u8], at: usize) -> CountsRead
 }
 
 // The items behind a rule's head, sort after sort.
-fn body_end(sheet: &[u8], at: usize, years: u64, monthdays: u64, weeks: u64, weekdays: u64, spans: u64) -> Step
+fn body_end(
+    sheet: &[u8],
+    at: usize,
+    years: u64,
+    monthdays: u64,
+    weeks: u64,
+    weekdays: u64,
+    spans: u64,
+) -> Step
     requires { ⌜ (at < 2 ^ 27) × (years ≤ 1024) × (monthdays ≤ 1024) × (weeks ≤ 1024) × (weekdays ≤ 1024) × (spans ≤ 1024) ⌝ }
     ensures { λ r. ⌜ asStep r ≡ ends ((body form1 limits1 (years, (monthdays, (weeks, (weekdays, spans))))) .read (sheetBits (now (sheet .entry))) at) ⌝ }
 {

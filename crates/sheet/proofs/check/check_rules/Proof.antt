@@ -1,6 +1,6 @@
 -- `sheet::check::check_rules` meets its contract: the rules, then what follows them.
 -- Assumes nothing.
-use mathlib.Core.Path.{_≡_, sym, ap, _∙_}
+use mathlib.Core.Path.{sym, ap, _∙_}
 use Prim.Native.Nat.{_+_, _*_, _≤_}
 use native.Mathlib.Omega.{arith}
 use borrow.Author.Needs.{needs}
@@ -28,7 +28,9 @@ pub check-rules-spec : {M : Type 1} → statement M
 check-rules-spec =
     tie.close
     (tie.spec (λ c κs. search needs) (λ c. search needs) ended-at-requires (λ c κs. search needs) (λ c. search needs)
-    (λ c. (c .of .ensures ∙ ap (andThen (λ u e. got _ e)) (c .before .ended-at .ensures)
-    ∙ sym (rules-go _ _ _ _ (went _ _ (c .before .before .before .before .before .rules-end .ensures .0) (c .before .before .before .step .given .1))),
-    c .before .before .before .before .before .rules-end .ensures .1))
+    (λ c. (
+      c .of .ensures ∙ ap (andThen (λ u e. got _ e)) (c .before .ended-at .ensures)
+          ∙ sym (rules-go _ _ _ _ (went _ _ (c .before .before .before .before .before .rules-end .ensures .0) (c .before .before .before .step .given .1))),
+      c .before .before .before .before .before .rules-end .ensures .1,
+    ))
     (λ c. (sym (rules-stop _ _ _ _ _ (halted _ _ _ (c .before .before .before .rules-end .ensures .0) (c .before .step2 .given .1))), c .before .before .before .rules-end .ensures .1)))

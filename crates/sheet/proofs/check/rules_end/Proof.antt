@@ -1,11 +1,10 @@
 -- `sheet::check::rules_end` meets its contract. The loop's invariant: what is left from here ends, and is noted, as the whole row is; each
 -- rule passed took 2,998 bits at most.
 -- Assumes nothing.
-use mathlib.Core.Path.{_≡_, refl, sym, ap, _∙_}
+use mathlib.Core.Path.{_≡_, sym, ap, _∙_}
 use Prim.Native.Nat.{_+_, _-_, _*_, _≤_}
 use native.Mathlib.Omega.{arith}
 use borrow.Author.Needs.{needs}
-use lib.ListN.{set}
 use Rattle.definition.specs.Field.{sheetBits}
 use Rattle.sheet.specs.End.{skipAll}
 use Rattle.sheet.specs.Rules.{ruleEnds, noted}
@@ -26,9 +25,12 @@ abbrev μ-loop : tie.MeasureT-loop
 loop-holds : tie.Need-loop-holds Inv-loop μ-loop
 loop-holds c =
     let start = c .before .args in
-    let none : start .count - 0 ≡ start .count = omega arith in
-    (omega arith, omega arith, ap (λ n. skipAll ruleEnds n (sheetBits (start .sheet .now)) (start .start)) none,
-    ap (λ n. noted (sheetBits (start .sheet .now)) n 0 (start .start) (start .begins .now)) none)
+    let none : start .count - 0 ≡ start .count = omega arith in (
+      omega arith,
+      omega arith,
+      ap (λ n. skipAll ruleEnds n (sheetBits (start .sheet .now)) (start .start)) none,
+      ap (λ n. noted (sheetBits (start .sheet .now)) n 0 (start .start) (start .begins .now)) none,
+    )
 
 returns : tie.Need-returns Inv-loop μ-loop
 returns c =
@@ -41,9 +43,12 @@ loop-again c =
     let start = c .before .before .before .before .before .before .before in
     let old = c .before .before .before .before .before .loop in
     let step = went _ _ (c .before .before .before .rule-end .ensures) (c .before .step .given .1) in
-    let short : c .before .step .given .0 .0 ≤ old .at + 2998 = rule-end-short _ _ _ step in
-    (omega arith, omega (arith, short, old .inv .1), sym (skip-goes _ _ _ _ _ _ (omega arith) step) ∙ old .inv .2,
-    sym (noted-goes _ _ _ _ _ _ _ (omega arith) step) ∙ old .inv .3)
+    let short : c .before .step .given .0 .0 ≤ old .at + 2998 = rule-end-short _ _ _ step in (
+      omega arith,
+      omega (arith, short, old .inv .1),
+      sym (skip-goes _ _ _ _ _ _ (omega arith) step) ∙ old .inv .2,
+      sym (noted-goes _ _ _ _ _ _ _ (omega arith) step) ∙ old .inv .3,
+    )
 
 returns-2 : tie.Need-returns-2 Inv-loop μ-loop
 returns-2 c =

@@ -1,7 +1,6 @@
 -- `sheet::rule::counted_end` meets its contract: the counts keep their limits, and their items begin fifty bits on.
 -- Assumes nothing.
-use mathlib.Core.Path.{_≡_, sym, _∙_}
-use Prim.Native.Nat.{_+_, _≤_}
+use mathlib.Core.Path.{sym, _∙_}
 use native.Mathlib.Omega.{arith}
 use borrow.Author.Needs.{needs}
 use Rattle.sheet.proofs.RuleEnds.{counted-goes, counted-stops, counts-low, took-counts, stopped-counts}

@@ -1,7 +1,6 @@
 -- `sheet::rule::rule_end` meets its contract: a title of at most twenty bits, then what is counted.
 -- Assumes nothing.
-use mathlib.Core.Path.{_≡_, sym, _∙_}
-use Prim.Native.Nat.{_+_, _≤_}
+use mathlib.Core.Path.{sym, _∙_}
 use native.Mathlib.Omega.{arith}
 use borrow.Author.Needs.{needs}
 use Rattle.sheet.proofs.RuleEnds.{rule-goes, rule-stops, title-short, took-title, stopped-title}

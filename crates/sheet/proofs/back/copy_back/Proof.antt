@@ -1,0 +1,31 @@
+-- `sheet::back::copy_back` meets its contract.
+-- Assumes nothing.
+use mathlib.Core.Path.{sym, ap, _∙_}
+use mathlib.Core.List.{[], _∷_, _++_}
+use native.Mathlib.Omega.{arith}
+use borrow.Author.Needs.{needs}
+use lib.ListN.{length, drop}
+use lib.Seq.{take-all}
+use Rattle.definition.specs.Fold.{buffer}
+use Rattle.sheet.specs.Back.{backNumbers}
+use Rattle.sheet.proofs.Backs.{copied-not, copied-fine}
+use Rattle.sheet.proofs.back.copy_back.Statement.{statement}
+use Rattle.sheet.proofs.back.copy_back.Tie as tie
+
+returns : tie.Need-returns
+returns c =
+    let args = c .before .before .before .args in
+    let not = copied-not (length (args .out .now)) (args .sheet .now) (c .if1 .taken) in
+    (sym (ap backNumbers not), sym (ap (λ w. buffer (w .result) (args .out .now)) not))
+
+returns-2 : tie.Need-returns-2
+returns-2 c =
+    let args = c .before .before .before .before .before .before .before .args in
+    let fine = copied-fine (length (args .out .now)) (args .sheet .now) (omega arith) in
+    let all = take-all (length (args .sheet .now)) (args .sheet .now) (omega arith) in (
+      ap (λ n. 0 ∷ n ∷ 0 ∷ []) (c .before .before .copy .ensures .0) ∙ sym (ap backNumbers fine),
+      c .before .before .copy .ensures .1 ∙ ap (_++ drop (length (args .sheet .now)) (args .out .now)) all ∙ sym (ap (λ w. buffer (w .result) (args .out .now)) fine),
+    )
+
+pub copy-back-spec : {M : Type 1} → statement M
+copy-back-spec = tie.close (tie.spec returns (λ c κs. search needs) (λ c. search needs) returns-2)

@@ -1,0 +1,52 @@
+// Writing back: an accepted sheet's rules, written again. Reading and writing are inverse, so they are the sheet's own bytes: these are
+// copied, and no rule is taken apart.
+use crate::check::Checked;
+ghost use mathlib.Core.Path.{_≡_};
+ghost use lib.ListN.{length};
+ghost use Rattle.definition.specs.Sheet.{form1, limits1};
+ghost use Rattle.definition.specs.Fold.{buffer, writeBack};
+ghost use Rattle.sheet.specs.Back.{answered, backNumbers, copied};
+
+// "code, bytes written and place".
+pub struct WrittenBack {
+    pub code: u8,
+    pub bytes: usize,
+    pub place: usize,
+}
+
+// The sheet's bytes at the front of the buffer, where they have room.
+fn copy_back(sheet: &[u8], out: &mut [u8]) -> WrittenBack
+    ensures { λ r. ⌜ (answered r ≡ backNumbers (copied (length (now (out .entry))) (now (sheet .entry))))
+        × (now (out .exit) ≡ buffer ((copied (length (now (out .entry))) (now (sheet .entry))) .result) (now (out .entry))) ⌝ }
+{
+    if out.len() < sheet.len() {
+        return WrittenBack {
+            code: 7,
+            bytes: 0,
+            place: sheet.len(),
+        };
+    }
+    let written = bytes::copy(sheet, out);
+    WrittenBack {
+        code: 0,
+        bytes: written,
+        place: 0,
+    }
+}
+
+// "Writing back refuses by 1 to 4 and 7 only, in the order below."
+pub fn write_back(sheet: &[u8], out: &mut [u8]) -> WrittenBack
+    ensures { λ r. ⌜ (answered r ≡ backNumbers (writeBack form1 limits1 (length (now (out .entry))) (now (sheet .entry))))
+        × (now (out .exit) ≡ buffer ((writeBack form1 limits1 (length (now (out .entry))) (now (sheet .entry))) .result) (now (out .entry))) ⌝ }
+{
+    let mut begins = [0usize; 64];
+    let checked = crate::check::check(sheet, &mut begins);
+    match checked {
+        Checked::Rules(count, end) => copy_back(sheet, out),
+        Checked::Refused(code, place) => WrittenBack {
+            code,
+            bytes: 0,
+            place,
+        },
+    }
+}
