@@ -8,15 +8,14 @@ use native.Mathlib.Nat.{mod-lt}
 use native.Mathlib.Omega.{arith}
 use lib.Dec.{ltb}
 use lib.ListN.{length, take, drop, getD, List·getD-append, length-append, length-drop}
-use lib.Seq.{take-suc, getD-drop, getD-append-add, length-take-le}
+use lib.Seq.{take-suc, drop-cons, getD-drop, getD-append-add, length-take-le}
 use lib.Pow.{pow-add, pow-pos, shr-mod, mod-mod-pow, field as pow-field}
 use borrow.Author.Tests.{ltb-true, ltb-false}
-use Rattle.laws.specs.Lists.{All}
 use Rattle.definition.specs.Field.{bits, number, sheetBits, fieldAt}
-use Rattle.definition.proofs.Bits.{Bits, Bytes, length-bits, number-below, sheet-bits, length-sheetBits, Bits-take, Bits-drop}
+use Rattle.definition.proofs.Bits.{Bytes, length-bits, number-below, sheet-bits, length-sheetBits, Bits-take, Bits-drop}
 
 -- ## The bit at a place
-bit-of : (w v j : ℕ) → v < 2 ^ w → j < w → getD (bits w v) j 0 ≡ v / 2 ^ (w - 1 - j) % 2
+pub bit-of : (w v j : ℕ) → v < 2 ^ w → j < w → getD (bits w v) j 0 ≡ v / 2 ^ (w - 1 - j) % 2
 unfolding bits
 bit-of zero v j h l = absurd (omega arith)
 bit-of (suc w) v zero h l =
@@ -63,6 +62,11 @@ number-append (x ∷ xs) ys = rw (number-append xs ys, length-append xs ys, pow-
 pub field-none : (s : List ℕ) (p : ℕ) → fieldAt s p 0 ≡ 0
 unfolding fieldAt number
 field-none s p = refl
+
+-- a field of one bit
+pub field-one : (s : List ℕ) (p : ℕ) → p < length s → fieldAt s p 1 ≡ getD s p 0
+unfolding fieldAt number
+field-one s p l = ap (λ t. number (take 1 t)) (drop-cons s p 0 l) ∙ omega arith
 
 -- one bit more
 field-next : (s : List ℕ) (p w : ℕ) → p + w < length s → fieldAt s p (suc w) ≡ fieldAt s p w * 2 + getD s (p + w) 0

@@ -11,7 +11,7 @@ use borrow.Author.Tests.{le-leb, lt-leb, ltb-true}
 use Rattle.laws.proofs.Flags.{split-and, not-true}
 use Rattle.grid.specs.Cut.{holds}
 use Rattle.grid.proofs.Cut.{holds-in, in-holds}
-use Rattle.definition.specs.Field.{sheetBits, fieldAt, Read, got, refused, pastEnd, unlawful, readField, Layout, field, plain}
+use Rattle.definition.specs.Field.{sheetBits, fieldAt, Read, got, refused, pastEnd, readField, field, plain}
 use Rattle.definition.proofs.Bits.{Bytes, sheet-bits, length-sheetBits}
 use Rattle.definition.proofs.Faithful.{clash, field-faithful}
 use Rattle.field.specs.declared.Taken.{Taken}

@@ -7,10 +7,10 @@ use Prim.Native.Nat.{ℕ, zero, suc, _+_, _≤_, _<_}
 use native.Mathlib.Omega.{arith}
 use lib.ListN.{length}
 use lib.Dec.{eqb}
-use borrow.Author.Tests.{ne-eqb, eqb-false}
-use Rattle.laws.specs.Lists.{from, anyOf, All, Mem}
+use borrow.Author.Tests.{ne-eqb, eqb-true, eqb-false}
+use Rattle.laws.specs.Lists.{from, every, anyOf, All, Mem}
 use Rattle.laws.proofs.Tests.{exact-eqb}
-use Rattle.laws.proofs.Lists.{any-Mem}
+use Rattle.laws.proofs.Lists.{every-at, any-Mem}
 
 pub length-from : (s n : ℕ) → length (from s n) ≡ n
 unfolding from
@@ -48,3 +48,7 @@ All-from P s (suc n) h = (h s (omega arith) (omega arith), All-from P (suc s) n 
 
 pub Mem-from : (b s n : ℕ) → s ≤ b → b < s + n → Mem b (from s n)
 Mem-from b s n h k = any-Mem exact-eqb b (from s n) (from-inside b s n h k)
+
+-- what every number below n passes, each one passes
+pub every-below : (t : ℕ → Bool) (n : ℕ) → every t (from 0 n) ≡ true → (k : ℕ) → k < n → t k ≡ true
+every-below t n e k l = every-at (λ i. t i ≡ true) t eqb k (λ y s h. ap t (eqb-true k y s) ∙ h) (from 0 n) e (from-inside k 0 n (omega arith) (omega arith))

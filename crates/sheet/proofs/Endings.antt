@@ -10,8 +10,9 @@ use lib.Dec.{eqb}
 use lib.ListN.{length, take, drop, getD, length-take}
 use lib.Seq.{drop-cons}
 use borrow.Author.Tests.{eq-eqb, ne-eqb, lt-ltb, le-ltb}
-use Rattle.definition.specs.Field.{got, refused, badEnd, bytesFor, number, fieldAt}
+use Rattle.definition.specs.Field.{got, refused, badEnd, bytesFor, fieldAt}
 use Rattle.definition.specs.Sheet.{firstSet, ended}
+use Rattle.field.proofs.FieldAt.{field-one}
 use Rattle.sheet.specs.Rules.{placeOr}
 
 -- ## The first bit that is set
@@ -19,23 +20,19 @@ module _ (s : List ℕ) (p end : ℕ) where
   abbrev pub setFrom : Option ℕ
   setFrom = firstSet (take (end - p) (drop p s)) p
 
-  bit-value : p < length s → fieldAt s p 1 ≡ getD s p 0
-  unfolding fieldAt number
-  bit-value l = ap (λ t. number (take 1 t)) (drop-cons s p 0 l) ∙ omega arith
-
   split : (n : ℕ) → end - p ≡ suc n → p < length s → take (end - p) (drop p s) ≡ getD s p 0 ∷ take n (drop (suc p) s)
   split n e l = ap (λ m. take m (drop p s)) e ∙ ap (take (suc n)) (drop-cons s p 0 l)
 
   pub set-here : p < end → p < length s → 0 < fieldAt s p 1 → setFrom ≡ some p
   unfolding firstSet
   set-here l m h =
-      let t : eqb (getD s p 0) 0 ≡ false = ne-eqb (getD s p 0) 0 (λ z. omega (arith, bit-value m)) in
+      let t : eqb (getD s p 0) 0 ≡ false = ne-eqb (getD s p 0) 0 (λ z. omega (arith, field-one s p m)) in
       ap (λ bs. firstSet bs p) (split (end - suc p) (omega arith) m) ∙ rw (t, firstSet) refl
 
   pub set-later : (q : ℕ) → q ≡ suc p → p < end → p < length s → fieldAt s p 1 ≡ 0 → setFrom ≡ firstSet (take (end - q) (drop q s)) q
   unfolding firstSet
   set-later q e l m h =
-      let t : eqb (getD s p 0) 0 ≡ true = eq-eqb (getD s p 0) 0 (omega (arith, bit-value m)) in
+      let t : eqb (getD s p 0) 0 ≡ true = eq-eqb (getD s p 0) 0 (omega (arith, field-one s p m)) in
       ap (λ bs. firstSet bs p) (split (end - suc p) (omega arith) m) ∙ rw (t, firstSet) refl ∙ ap (λ j. firstSet (take (end - j) (drop j s)) j) (sym e)
 
   pub set-none : end ≤ p → setFrom ≡ none

@@ -1,7 +1,7 @@
 -- `field::field_at` meets its contract. The loop's invariant: `value` is the field of the `i` bits read so far.
 -- Assumes nothing.
 use mathlib.Core.Path.{_≡_, sym, ap, _∙_}
-use Prim.Native.Nat.{_≤_, _-_, _+_, _*_}
+use Prim.Native.Nat.{_≤_, _-_, _+_}
 use native.Mathlib.Omega.{arith}
 use lib.Pow.{pow-mono}
 use Rattle.definition.specs.Field.{sheetBits, fieldAt}
