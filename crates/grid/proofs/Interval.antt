@@ -27,15 +27,15 @@ module _ (i : Range) (up : i .0 < i .1) where
   pub block-all : (P : ℕ → Type 0) → ((b : ℕ) → i .0 ≤ b → b < i .1 → P b) → All P (block i)
   block-all P h = (h (i .0) (omega arith) (omega arith), All-from P (suc (i .0)) (i .1 - suc (i .0)) (λ b l k. h b (omega arith) (omega arith)))
 
-  block-in : (b : ℕ) → i .0 ≤ b → b < i .1 → anyOf (eqb b) (block i) ≡ true
+  pub block-in : (b : ℕ) → i .0 ≤ b → b < i .1 → anyOf (eqb b) (block i) ≡ true
   unfolding from
   block-in b l k = from-inside b (i .0) (suc (i .1 - suc (i .0))) l (omega arith)
 
-  block-low : (b : ℕ) → b < i .0 → anyOf (eqb b) (block i) ≡ false
+  pub block-low : (b : ℕ) → b < i .0 → anyOf (eqb b) (block i) ≡ false
   unfolding from
   block-low b l = from-below b (i .0) (suc (i .1 - suc (i .0))) l
 
-  block-high : (b : ℕ) → i .1 ≤ b → anyOf (eqb b) (block i) ≡ false
+  pub block-high : (b : ℕ) → i .1 ≤ b → anyOf (eqb b) (block i) ≡ false
   unfolding from
   block-high b l = from-above b (i .0) (suc (i .1 - suc (i .0))) (omega arith)
 

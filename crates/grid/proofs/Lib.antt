@@ -8,3 +8,5 @@ pub mod Cut
 pub mod Box
 pub mod Count
 pub mod Distinct
+pub mod Number
+pub mod Numbered

@@ -1,0 +1,44 @@
+-- What each way out of the check shows, in plain terms. Rests on the columns' laws.
+-- Assumes nothing.
+use mathlib.Core.Path.{_≡_}
+use mathlib.Core.Bool.{Bool, true, false, _&&_}
+use mathlib.Core.List.{List}
+use Prim.Native.Nat.{ℕ, suc, _+_, _*_, _≤_, _<_}
+use native.Mathlib.Omega.{arith}
+use lib.Dec.{eqb}
+use lib.ListN.{getD}
+use Rattle.laws.specs.Lists.{every}
+use Rattle.grid.specs.Group.{at, agree}
+use Rattle.paving.specs.Grid.{grid, chosen, agreeFrom}
+use Rattle.paving.proofs.Room.{marks-in, marks-out, marks-end, at-grid}
+
+module _ (cells sizes marks : List ℕ) (v : ℕ) where
+  pub check-leaf : (left node base : ℕ) → left ≡ 0 → eqb (getD cells node 0) v ≡ agree eqb v (chosen marks sizes left base) (grid cells sizes left node)
+  unfolding agree chosen grid
+  check-leaf left node base e = rw e
+
+  pub check-node : (left i node base : ℕ) (r : Bool) → left ≡ suc i → r ≡ agreeFrom cells sizes i node marks base v 0
+      → r ≡ agree eqb v (chosen marks sizes left base) (grid cells sizes left node)
+  unfolding agree chosen agreeFrom
+  check-node left i node base r e h = rw e h
+
+  module _ (i node base n j : ℕ) (e : n ≡ getD sizes i 0) where
+    pub columns-end : n ≤ j → true ≡ agreeFrom cells sizes i node marks base v j
+    unfolding agreeFrom every
+    columns-end h = rw (marks-end marks base (getD sizes i 0) j (omega arith))
+
+    pub columns-out : (r : Bool) → j < n → (getD marks (base + j) 0 ≡ 1 → ⊥) → r ≡ agreeFrom cells sizes i node marks base v (j + 1) → r ≡ agreeFrom cells sizes i node marks base v j
+    unfolding agreeFrom
+    columns-out r h m k = rw (marks-out marks base (getD sizes i 0) j (omega arith) m) k
+
+    pub columns-in : (b r : Bool) → j < n → getD marks (base + j) 0 ≡ 1 → b ≡ agree eqb v (chosen marks sizes i (base + n)) (grid cells sizes i (node * n + j))
+        → r ≡ b && agreeFrom cells sizes i node marks base v (j + 1) → r ≡ agreeFrom cells sizes i node marks base v j
+    unfolding agreeFrom every
+    columns-in b r h m a k =
+        rw (marks-in marks base (getD sizes i 0) j (omega arith) m, at-grid cells sizes i node j (omega arith), ← (rw e at a)) k
+
+pub and-yes : (b r s : Bool) → b ≡ true → r ≡ s → r ≡ b && s
+and-yes b r s e h = rw e h
+
+pub and-no : (b s : Bool) → b ≡ false → false ≡ b && s
+and-no b s e = rw e

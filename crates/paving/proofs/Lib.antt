@@ -1,0 +1,9 @@
+pub mod Room
+pub mod Classes
+pub mod Agreeing
+pub mod Marks
+pub mod Popping
+pub mod Emptying
+pub mod Sweeping
+pub mod Points
+pub mod DayKinds

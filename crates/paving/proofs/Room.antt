@@ -1,0 +1,89 @@
+-- The columns of a node, one after the other, and the room for a child.
+-- Assumes nothing.
+use mathlib.Core.Path.{_≡_, ap, _∙_}
+use mathlib.Core.Bool.{cond}
+use mathlib.Core.List.{List, [], _∷_}
+use Prim.Native.Nat.{ℕ, zero, suc, _+_, _-_, _*_, _≤_, _<_}
+use native.Mathlib.Omega.{arith}
+use native.Mathlib.Nat.{mul-le-mul-right, le-mul-of-pos-right, mul-pos, mul-assoc}
+use lib.ListN.{getD}
+use borrow.Author.Tests.{lt-ltb, eq-eqb, ne-eqb}
+use Rattle.laws.specs.Lists.{from, keep}
+use Rattle.grid.specs.Group.{at}
+use Rattle.paving.specs.Grid.{Node, Room, sizeOf, widthOf, grid, marksFrom, marked}
+
+pub from-cons : (j n : ℕ) → j < n → from j (n - j) ≡ j ∷ from (j + 1) (n - (j + 1))
+unfolding from
+from-cons j n h =
+    let e : n - j ≡ suc (n - (j + 1)) = omega arith in
+    let q : suc j ≡ j + 1 = omega arith in
+    ap (from j) e ∙ ap (λ k. j ∷ from k (n - (j + 1))) q
+
+pub from-end : (j n : ℕ) → n ≤ j → from j (n - j) ≡ []
+unfolding from
+from-end j n h = let e : n - j ≡ 0 = omega arith in ap (from j) e
+
+pub marks-in : (marks : List ℕ) (base n j : ℕ) → j < n → getD marks (base + j) 0 ≡ 1 → marksFrom marks base n j ≡ j ∷ marksFrom marks base n (j + 1)
+unfolding marksFrom keep
+marks-in marks base n j h e = rw (from-cons j n h, eq-eqb _ _ e, keep)
+
+pub marks-out : (marks : List ℕ) (base n j : ℕ) → j < n → (getD marks (base + j) 0 ≡ 1 → ⊥) → marksFrom marks base n j ≡ marksFrom marks base n (j + 1)
+unfolding marksFrom keep
+marks-out marks base n j h e = rw (from-cons j n h, ne-eqb _ _ e, keep)
+
+pub marks-end : (marks : List ℕ) (base n j : ℕ) → n ≤ j → marksFrom marks base n j ≡ []
+unfolding marksFrom keep
+marks-end marks base n j h = rw (from-end j n h)
+
+pub at-grid : (cells sizes : List ℕ) (i node x : ℕ) → x < getD sizes i 0 → at (grid cells sizes (suc i) node) x ≡ grid cells sizes i (node * getD sizes i 0 + x)
+unfolding grid
+at-grid cells sizes i node x h = ap (λ b. cond b (grid cells sizes i (node * getD sizes i 0 + x)) (λ q. 0)) (lt-ltb x (getD sizes i 0) h)
+
+size-pos : (sizes : List ℕ) (l : ℕ) → ((k : ℕ) → k < l → 1 ≤ getD sizes k 0) → 1 ≤ sizeOf sizes l
+unfolding sizeOf
+size-pos sizes zero h = omega arith
+size-pos sizes (suc l) h = mul-pos (h l (omega arith)) (size-pos sizes l (λ k lt. h k (omega arith)))
+
+module _ (len : ℕ) (sizes : List ℕ) where
+  pub node-in : (l node : ℕ) → Node len sizes l node → node < len
+  node-in l node r =
+      let a : node + 1 ≤ (node + 1) * sizeOf sizes l = le-mul-of-pos-right (node + 1) (size-pos sizes l (r .filled)) in
+      let b = r .below in
+      omega arith
+
+  pub node-child : (i node n j : ℕ) → n ≡ getD sizes i 0 → j < n → Node len sizes (suc i) node → Node len sizes i (node * n + j)
+  unfolding sizeOf
+  node-child i node n j e h r =
+      let m = getD sizes i 0 in
+      let s = sizeOf sizes i in
+      let a : node * n + j + 1 ≤ (node + 1) * n = omega arith in
+      let b : (node * n + j + 1) * s ≤ (node + 1) * n * s = mul-le-mul-right s a in
+      let c : (node + 1) * n * s ≡ (node + 1) * (m * s) = mul-assoc (node + 1) n s ∙ ap (λ k. (node + 1) * (k * s)) e in
+      let d = r .below in
+      let q = r .dims in
+      record { dims = omega arith; filled = λ k lt. r .filled k (omega arith); below = omega arith }
+
+-- the same room where a length is another one's equal
+pub room-len : (len n places : ℕ) (sizes : List ℕ) (l node base : ℕ) → n ≡ len → Room len places sizes l node base → Room n places sizes l node base
+room-len len n places sizes l node base e r = rw e r
+
+pub room-len₂ : (len m places : ℕ) (sizes : List ℕ) (l node base : ℕ) → m ≡ places → Room len places sizes l node base → Room len m sizes l node base
+room-len₂ len m places sizes l node base e r = rw e r
+
+module _ (len places : ℕ) (sizes : List ℕ) where
+  pub room-at : (l k node base : ℕ) → l ≡ k → Room len places sizes l node base → Room len places sizes k node base
+  room-at l k node base e r = rw e at r
+
+  pub room-node : (l node base : ℕ) → Room len places sizes l node base → node < len
+  room-node l node base r = node-in len sizes l node (r .column)
+
+  pub room-child : (i node base n j : ℕ) → n ≡ getD sizes i 0 → j < n → Room len places sizes (suc i) node base → Room len places sizes i (node * n + j) (base + n)
+  unfolding widthOf
+  room-child i node base n j e h r = let w = r .marked in record { column = node-child len sizes i node n j e h (r .column); marked = omega arith }
+
+  pub room-width : (i node base n : ℕ) → n ≡ getD sizes i 0 → Room len places sizes (suc i) node base → base + n + widthOf sizes i ≤ places
+  unfolding widthOf
+  room-width i node base n e r = let w = r .marked in omega arith
+
+  pub room-marks : (i node base n : ℕ) → n ≡ getD sizes i 0 → Room len places sizes (suc i) node base → base + n ≤ places
+  room-marks i node base n e r = omega (arith, room-width i node base n e r)

@@ -1,0 +1,101 @@
+-- The loop: what is left gives what the start gives, whatever takes the groups in; a group fewer at each round. Rests on grid's sweeps.
+-- Assumes nothing.
+use mathlib.Core.Path.{_≡_, refl, sym, ap, _∙_, subst}
+use mathlib.Core.Bool.{Bool, true, false, cond}
+use mathlib.Core.List.{List, [], _∷_, _++_}
+use mathlib.Core.Option.{some}
+use Prim.Native.Nat.{ℕ, suc, _+_, _≤_, _<_}
+use native.Mathlib.Omega.{arith}
+use lib.Dec.{eqb, ltb, leb}
+use lib.ListN.{getD}
+use Rattle.laws.specs.Lists.{OnSome}
+use Rattle.laws.proofs.Tests.{exact-eqb}
+use Rattle.grid.specs.Group.{Set, Map, Group, clear, takeOut, sweep, groups}
+use Rattle.grid.proofs.Value.{tally, pop-less}
+use Rattle.grid.proofs.Steps.{sweep-unroll}
+use Rattle.paving.specs.Grid.{axes, grid, lowestKind, inClass, popAt, popped, Cleared}
+use Rattle.paving.specs.Sweep.{swept, classesFrom, groupsFrom, emitted}
+use Rattle.paving.specs.declared.Popped.{Popped}
+use Rattle.paving.specs.declared.Popped.the-variants.{Value, Nothing}
+use Rattle.paving.proofs.Room.{from-cons, from-end}
+
+-- how many cells are of a class: the measure of the loop
+unfoldable pub matching : List ℕ → List ℕ → List ℕ → ℕ → ℕ → ℕ
+matching cells kinds sizes k l = tally (inClass kinds k) (axes sizes l) (grid cells sizes l 0)
+
+pub emitted-append : {S : Type 0} (emit : S → Group ℕ ℕ → S) (s : S) (xs ys : List (Group ℕ ℕ)) → emitted emit s (xs ++ ys) ≡ emitted emit (emitted emit s xs) ys
+unfolding emitted
+emitted-append emit s [] ys = refl
+emitted-append emit s (x ∷ xs) ys = emitted-append emit (emit s x) xs ys
+
+-- no class has the empty cell
+pub empty-unmatched : (kinds : List ℕ) (k : ℕ) → getD kinds 0 0 ≡ 0 → inClass kinds k 0 ≡ false
+unfolding inClass lowestKind
+empty-unmatched kinds k z = rw z (go (ltb k 3) (ltb k 5))
+  where
+    go : (a b : Bool) → cond (ltb 0 (cond a 1 (cond b 3 1))) false (leb 0 k) ≡ false
+    go true b = refl
+    go false true = refl
+    go false false = refl
+
+-- ## One class
+module _ (cells kinds sizes : List ℕ) (k l : ℕ) (z : getD kinds 0 0 ≡ 0) where
+  unmatched : inClass kinds k 0 ≡ false
+  unmatched = empty-unmatched kinds k z
+
+  unroll : swept cells kinds sizes k l
+      ≡ takeOut eqb eqb 0 (grid cells sizes l 0) (λ f. sweep eqb eqb 0 (inClass kinds k) (axes sizes l) f) (popAt cells kinds sizes k l 0)
+  unfolding swept popAt
+  unroll = sweep-unroll exact-eqb exact-eqb 0 (axes sizes l) (inClass kinds k) unmatched (grid cells sizes l 0)
+
+  swept-none : (f : Popped) (S : Set ℕ) → popped f S ≡ popAt cells kinds sizes k l 0 → f ≡ Nothing → swept cells kinds sizes k l ≡ ([], grid cells sizes l 0)
+  unfolding popped takeOut
+  swept-none f S h q = unroll ∙ ap (takeOut eqb eqb 0 (grid cells sizes l 0) (λ f. sweep eqb eqb 0 (inClass kinds k) (axes sizes l) f)) (sym (rw q at h))
+
+  -- nothing popped: nothing more to take in, and the cells are what is left
+  pub loop-end : {T : Type 0} (emit : T → Group ℕ ℕ → T) (f : Popped) (S : Set ℕ) → popped f S ≡ popAt cells kinds sizes k l 0 → f ≡ Nothing → (s r : T) (m : Map ℕ ℕ)
+      → emitted emit s (swept cells kinds sizes k l .0) ≡ r → swept cells kinds sizes k l .1 ≡ m → (s ≡ r) × (grid cells sizes l 0 ≡ m)
+  unfolding emitted
+  loop-end emit f S h q s r m g w =
+      let e = sym (swept-none f S h q) in
+      (ap (λ p. emitted emit s (p .0)) e ∙ g, ap (λ p. p .1) e ∙ w)
+
+  module _ (after : List ℕ) (f : Popped) (v : ℕ) (S : Set ℕ) (h : popped f S ≡ popAt cells kinds sizes k l 0) (q : f ≡ Value v)
+      (c : Cleared cells after sizes l 0 S) where
+    one : popAt cells kinds sizes k l 0 ≡ some (v, S)
+    unfolding popped
+    one = sym (rw q at h)
+
+    swept-some : swept cells kinds sizes k l ≡ ((v, S) ∷ swept after kinds sizes k l .0, swept after kinds sizes k l .1)
+    unfolding takeOut swept
+    swept-some =
+        unroll ∙ ap (takeOut eqb eqb 0 (grid cells sizes l 0) (λ f. sweep eqb eqb 0 (inClass kinds k) (axes sizes l) f)) one
+        ∙ ap (λ g. ((v, S) ∷ sweep eqb eqb 0 (inClass kinds k) (axes sizes l) g .0, sweep eqb eqb 0 (inClass kinds k) (axes sizes l) g .1)) (sym (c 0))
+
+    pub matching-falls : matching after kinds sizes k l < matching cells kinds sizes k l
+    unfolding matching popAt
+    matching-falls =
+        subst (λ g. tally (inClass kinds k) (axes sizes l) g < tally (inClass kinds k) (axes sizes l) (grid cells sizes l 0)) (sym (c 0))
+        (subst (OnSome (λ g. tally (inClass kinds k) (axes sizes l) (clear eqb 0 (g .1) (grid cells sizes l 0)) < tally (inClass kinds k) (axes sizes l) (grid cells sizes l 0))) one
+        (pop-less exact-eqb exact-eqb 0 (inClass kinds k) (inClass kinds k) (λ v e. e) unmatched (axes sizes l) (grid cells sizes l 0)))
+
+    -- the group taken in: what is left to take in, and what is left in the end, is that of the cells without it
+    pub loop-round : {T : Type 0} (emit : T → Group ℕ ℕ → T) (s s₁ r : T) (m : Map ℕ ℕ) → emitted emit s (swept cells kinds sizes k l .0) ≡ r → swept cells kinds sizes k l .1 ≡ m
+        → s₁ ≡ emit s (v, S) → (emitted emit s₁ (swept after kinds sizes k l .0) ≡ r) × (swept after kinds sizes k l .1 ≡ m)
+    unfolding emitted
+    loop-round emit s s₁ r m g w a = (
+      ap (λ u. emitted emit u (swept after kinds sizes k l .0)) a ∙ ap (λ p. emitted emit s (p .0)) (sym swept-some) ∙ g,
+      ap (λ p. p .1) (sym swept-some) ∙ w,
+    )
+
+-- ## Class after class
+module _ (cells kinds sizes : List ℕ) (last k l : ℕ) where
+  pub groups-end : {T : Type 0} (emit : T → Group ℕ ℕ → T) (s : T) → last < k → s ≡ emitted emit s (groupsFrom cells kinds sizes last k l)
+  unfolding emitted groupsFrom classesFrom groups
+  groups-end emit s h = rw (from-end k (suc last) h)
+
+  pub groups-step : {T : Type 0} (emit : T → Group ℕ ℕ → T) (after : List ℕ) (s s₁ r : T) → k ≤ last → s₁ ≡ emitted emit s (swept cells kinds sizes k l .0)
+      → grid after sizes l 0 ≡ swept cells kinds sizes k l .1 → r ≡ emitted emit s₁ (groupsFrom after kinds sizes last (k + 1) l)
+      → r ≡ emitted emit s (groupsFrom cells kinds sizes last k l)
+  unfolding swept groupsFrom classesFrom groups
+  groups-step emit after s s₁ r h a c g = rw (from-cons k (suc last) (omega arith), emitted-append, ← a, ← c) g

@@ -1,0 +1,4 @@
+pub mod Walk
+pub mod Covering
+pub mod Drawing
+pub mod Meaning

@@ -1,0 +1,23 @@
+use borrow.Author.Needs.{needs}
+use Rattle.paving_update.proofs.Walk.{covers-yes, covers-no}
+use Rattle.paving_update.proofs.covers.Statement.{statement}
+use Rattle.paving_update.proofs.covers.Tie as tie
+
+pub covers-spec : {M : Type 1} → statement M
+covers-spec =
+    tie.close
+    (tie.spec
+    (λ c. search needs)
+    (λ c. search needs)
+    (λ c. search needs)
+    (λ c. search needs)
+    (λ c. search needs)
+    (λ c. search needs)
+    (λ c. search needs)
+    (λ c. search needs)
+    (λ c. search needs)
+    (λ c. search needs)
+    (λ c. search needs)
+    (λ c. search needs)
+    (λ c. covers-yes _ _ _ _ _ (c .before .if1 .taken))
+    (λ c. covers-no _ _ _ _ _ (c .if1 .left)))

@@ -1,0 +1,2 @@
+pub mod Update
+pub mod Boxes

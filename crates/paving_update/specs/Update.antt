@@ -1,0 +1,91 @@
+-- A rule drawn over the boxes of a grid: the boxes that its ranges cover, once for each combination, and what a box's list becomes.
+-- Assumes nothing.
+use mathlib.Core.Bool.{Bool, true, cond}
+use mathlib.Core.List.{List, [], _∷_, flatMap}
+use Prim.Native.Nat.{ℕ, zero, suc, _+_, _-_, _*_, _≤_, _<_}
+use lib.Dec.{ltb}
+use lib.ListN.{length, getD, set}
+use Rattle.laws.specs.Lists.{from}
+use Rattle.grid.specs.Cut.{Range, holds}
+
+-- ## Tables
+-- The places of a dimension in the table of cuts and in that of ranges (start, end, start, end ..); those of a box among the lists: its
+-- count, then its rules.
+abbrev pub cutPlaces : ℕ
+cutPlaces = 2112
+
+abbrev pub rangePlaces : ℕ
+rangePlaces = 64
+
+abbrev pub listPlaces : ℕ
+listPlaces = 33
+
+-- how many rules a list has at most
+abbrev pub listLimit : ℕ
+listLimit = 32
+
+-- tables that have a row for each dimension: its cuts, one more than its size, and its ranges
+pub record Lawful (sizes counts cuts ranges : List ℕ) : Type 0 where
+  pub all-counts : length sizes ≤ length counts
+  pub all-cuts : length sizes * cutPlaces ≤ length cuts
+  pub all-ranges : length sizes * rangePlaces ≤ length ranges
+  pub size : (i : ℕ) → i < length sizes → getD sizes i 0 < cutPlaces
+  pub count : (i : ℕ) → i < length sizes → getD counts i 0 * 2 ≤ rangePlaces
+
+-- a cut, a range
+unfoldable pub cutOf : List ℕ → ℕ → ℕ → ℕ
+cutOf cuts i x = getD cuts (i * cutPlaces + x) 0
+
+unfoldable pub rangeOf : List ℕ → ℕ → ℕ → Range
+rangeOf ranges i r = (getD ranges (i * rangePlaces + 2 * r) 0, getD ranges (i * rangePlaces + 2 * r + 1) 0)
+
+-- does a range cover a column? It does where the column's start lies in it: a range's ends are cuts
+unfoldable pub covered : List ℕ → List ℕ → ℕ → ℕ → ℕ → Bool
+covered cuts ranges i r x = holds (cutOf cuts i x) (rangeOf ranges i r)
+
+-- how many ranges the first of l dimensions has
+unfoldable pub countOf : List ℕ → ℕ → ℕ
+countOf counts zero = 0
+countOf counts (suc i) = getD counts i 0
+
+-- ## The covered boxes, with repeats
+module _ (sizes counts cuts ranges : List ℕ) where
+  -- below the columns of a node from x on that the range r of dimension i covers; `below` gives those of a column
+  unfoldable pub overColumns : ℕ → (ℕ → List ℕ) → ℕ → ℕ → ℕ → List ℕ
+  overColumns i below node r x =
+      flatMap (λ y. cond (covered cuts ranges i r y) (below (node * getD sizes i 0 + y)) []) (from x (getD sizes i 0 - x))
+
+  -- the same for the ranges from r on
+  unfoldable pub overRanges : ℕ → (ℕ → List ℕ) → ℕ → ℕ → List ℕ
+  overRanges i below node r = flatMap (λ q. overColumns i below node q 0) (from r (getD counts i 0 - r))
+
+  -- all that lie below a node with l dimensions left
+  unfoldable pub leaves : ℕ → ℕ → List ℕ
+  leaves zero node = node ∷ []
+  leaves (suc i) node = overRanges i (leaves i) node 0
+
+  -- those of the last `rest` ranges of the first dimension
+  unfoldable pub leavesOf : ℕ → ℕ → ℕ → List ℕ
+  leavesOf zero node rest = node ∷ []
+  leavesOf (suc i) node rest = overRanges i (leaves i) node (getD counts i 0 - rest)
+
+-- ## The lists
+-- all lists, and whether one was too long
+pub record Drawn : Type 0 where
+  pub lists : List ℕ
+  pub over : Bool
+
+abbrev pub drawn : List ℕ → Bool → Drawn
+drawn lists over = record { lists = lists; over = over }
+
+-- a rule at a box: it replaces the list, or it stands at its end, where there is room
+unfoldable pub drawOne : ℕ → Bool → Drawn → ℕ → Drawn
+drawOne rule replaces s node =
+    let count = getD (s .lists) (node * listPlaces) 0 in
+    cond replaces (drawn (set (set (s .lists) (node * listPlaces + 1) rule) (node * listPlaces) 1) (s .over))
+    (cond (ltb count listLimit) (drawn (set (set (s .lists) (node * listPlaces + 1 + count) rule) (node * listPlaces) (count + 1)) (s .over)) (drawn (s .lists) true))
+
+-- at some boxes, one after the other
+unfoldable pub drawAll : ℕ → Bool → Drawn → List ℕ → Drawn
+drawAll rule replaces s [] = s
+drawAll rule replaces s (node ∷ nodes) = drawAll rule replaces (drawOne rule replaces s node) nodes

@@ -1,0 +1,195 @@
+// Update: a rule drawn over the boxes that its ranges cover, once for each combination of one covering range per dimension.
+// The walk over a rule's ranges and the walk into a node's columns call each other; a box's list is its count and its rules' numbers.
+ghost use mathlib.Core.Path.{_≡_};
+ghost use Prim.Native.Nat.{suc, _+_, _-_, _*_, _≤_, _<_, _/_};
+ghost use lib.ListN.{length, getD};
+ghost use Rattle.paving.specs.Grid.{Node};
+ghost use Rattle.paving_update.specs.Update.{cutPlaces, rangePlaces, listPlaces, Lawful, covered, countOf, leaves, leavesOf, overColumns, drawn, drawOne, drawAll};
+
+const CUT_PLACES: usize = 2112;
+
+const RANGE_PLACES: usize = 64;
+
+const LIST_PLACES: usize = 33;
+
+const LIST_LIMIT: u16 = 32;
+
+// A rule at a box. One that does not fit is remembered.
+fn draw(lists: &mut [u16], rule: u16, replaces: bool, over: bool, node: usize) -> bool
+    requires { ⌜ node * listPlaces + listPlaces ≤ length (now lists) ⌝ }
+    ensures { λ r. ⌜ drawn (now (lists .exit)) r ≡ drawOne rule replaces (drawn (now (lists .entry)) over) node ⌝ }
+{
+    let at = node * LIST_PLACES;
+    if replaces {
+        lists[at + 1] = rule;
+        lists[at] = 1;
+        return over;
+    }
+    let count = lists[at];
+    if count < LIST_LIMIT {
+        lists[at + 1 + paving::wide(count)] = rule;
+        lists[at] = count + 1;
+        return over;
+    }
+    true
+}
+
+// Whether a range covers a column.
+fn covers(cuts: &[u16], ranges: &[u16], dimension: usize, range: usize, column: usize) -> bool
+    requires { ⌜ (dimension * cutPlaces + column < length (now cuts)) × (dimension * rangePlaces + 2 * range + 1 < length (now ranges)) ⌝ }
+    ensures { λ r. ⌜ r ≡ covered (now (cuts .entry)) (now (ranges .entry)) dimension range column ⌝ }
+{
+    let start = cuts[dimension * CUT_PLACES + column];
+    let at = dimension * RANGE_PLACES + 2 * range;
+    if ranges[at] <= start {
+        start < ranges[at + 1]
+    } else {
+        false
+    }
+}
+
+// The number of ranges in the first of the dimensions left.
+fn count_of(counts: &[u16], left: usize) -> usize
+    requires { ⌜ left ≤ length (now counts) ⌝ }
+    ensures { λ r. ⌜ r ≡ countOf (now (counts .entry)) left ⌝ }
+{
+    if left == 0 {
+        return 0;
+    }
+    paving::wide(counts[left - 1])
+}
+
+// Draws a rule over the boxes below a node, for the last `rest` ranges of the first dimension left.
+pub fn update(
+    lists: &mut [u16],
+    sizes: &[u16],
+    counts: &[u16],
+    cuts: &[u16],
+    ranges: &[u16],
+    rule: u16,
+    replaces: bool,
+    over: bool,
+    left: usize,
+    node: usize,
+    rest: usize,
+) -> bool
+    requires { ⌜ Lawful (now sizes) (now counts) (now cuts) (now ranges) ⌝ }
+    requires { ⌜ Node (length (now lists) / listPlaces) (now sizes) left node ⌝ }
+    requires { ⌜ rest ≤ countOf (now counts) left ⌝ }
+    ensures { λ r. ⌜ drawn (now (lists .exit)) r
+        ≡ drawAll rule replaces (drawn (now (lists .entry)) over) (leavesOf (now (sizes .entry)) (now (counts .entry)) (now (cuts .entry)) (now (ranges .entry)) left node rest) ⌝ }
+{
+    if left == 0 {
+        return draw(lists, rule, replaces, over, node);
+    }
+    if rest == 0 {
+        return over;
+    }
+    let dimension = left - 1;
+    let count = paving::wide(counts[dimension]);
+    let width = paving::wide(sizes[dimension]);
+    let now = update_columns(
+        lists,
+        sizes,
+        counts,
+        cuts,
+        ranges,
+        rule,
+        replaces,
+        over,
+        dimension,
+        node,
+        width,
+        count - rest,
+        0,
+    );
+    update(
+        lists,
+        sizes,
+        counts,
+        cuts,
+        ranges,
+        rule,
+        replaces,
+        now,
+        left,
+        node,
+        rest - 1,
+    )
+}
+
+// The same below the columns of a node, from one on, that a range covers.
+fn update_columns(
+    lists: &mut [u16],
+    sizes: &[u16],
+    counts: &[u16],
+    cuts: &[u16],
+    ranges: &[u16],
+    rule: u16,
+    replaces: bool,
+    over: bool,
+    dimension: usize,
+    node: usize,
+    width: usize,
+    range: usize,
+    column: usize,
+) -> bool
+    requires { ⌜ Lawful (now sizes) (now counts) (now cuts) (now ranges) ⌝ }
+    requires { ⌜ Node (length (now lists) / listPlaces) (now sizes) (suc dimension) node ⌝ }
+    requires { ⌜ (width ≡ getD (now sizes) dimension 0) × (range < getD (now counts) dimension 0) ⌝ }
+    ensures { λ r. ⌜ drawn (now (lists .exit)) r
+        ≡ drawAll rule replaces (drawn (now (lists .entry)) over) (overColumns (now (sizes .entry)) (now (counts .entry)) (now (cuts .entry)) (now (ranges .entry)) dimension
+        (leaves (now (sizes .entry)) (now (counts .entry)) (now (cuts .entry)) (now (ranges .entry)) dimension) node range column) ⌝ }
+{
+    if column < width {
+        if covers(cuts, ranges, dimension, range, column) {
+            let rest = count_of(counts, dimension);
+            let now = update(
+                lists,
+                sizes,
+                counts,
+                cuts,
+                ranges,
+                rule,
+                replaces,
+                over,
+                dimension,
+                node * width + column,
+                rest,
+            );
+            update_columns(
+                lists,
+                sizes,
+                counts,
+                cuts,
+                ranges,
+                rule,
+                replaces,
+                now,
+                dimension,
+                node,
+                width,
+                range,
+                column + 1,
+            )
+        } else {
+            update_columns(
+                lists,
+                sizes,
+                counts,
+                cuts,
+                ranges,
+                rule,
+                replaces,
+                over,
+                dimension,
+                node,
+                width,
+                range,
+                column + 1,
+            )
+        }
+    } else {
+        over
+    }
+}
