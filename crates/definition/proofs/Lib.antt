@@ -13,4 +13,6 @@ pub mod Groups
 pub mod Spans
 pub mod Counts
 pub mod RuleCounts
+pub mod PaintedShows
+pub mod DayShows
 pub mod Worked

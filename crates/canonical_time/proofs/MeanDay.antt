@@ -1,0 +1,135 @@
+-- The words of a list, put together: the flat form of its day. Rests on the compression law in one dimension.
+-- Assumes nothing.
+use mathlib.Core.Path.{_≡_, refl, sym, ap, ap₂, _∙_, subst}
+use mathlib.Core.List.{List, [], _∷_, _++_, map, append-assoc, map-append}
+use mathlib.Core.Bool.{Bool, true, false}
+use Prim.Native.Nat.{ℕ, zero, suc, _+_, _-_, _≤_, _<_}
+use native.Mathlib.Omega.{arith}
+use lib.Dec.{eqb}
+use lib.ListN.{getD, length}
+use borrow.Author.Tests.{eqb-true, eqb-false}
+use Rattle.laws.specs.Lists.{All}
+use Rattle.grid.specs.Group.{Map, Group, sweep, groups}
+use Rattle.grid.specs.Cut.{Range, sameRange, between, intervals, boxes, starts, asJoined}
+use Rattle.grid.proofs.Interval.{Rising}
+use Rattle.grid.proofs.Cut.{Inside, intervals-rise}
+use Rattle.definition.specs.Rule.{State, closed, sameState}
+use Rattle.definition.specs.Day.{Stated, Day, flattened, minutesOf, minuteBounds, painting, grouped, stateClass, stateClasses, painted, asEntry, sortedEntry, entryOf, day}
+use Rattle.definition.specs.OverBoxes.{paintedOverIntervals, dayOverIntervals}
+use Rattle.definition.proofs.DayBox.{Simple, painting-simple, simple-inside, day-intervals}
+use Rattle.span_number.specs.Number.{stateNumber, stateAt, spanNumber}
+use Rattle.canonical_time.specs.Words.{part, entryWords}
+use Rattle.canonical_time.specs.Stroke.{strokesFrom, shown, cutsOf, cellsOf}
+use Rattle.canonical_time.specs.Row.{isOfClass, clearFrom, classLeft, classesWords}
+use Rattle.canonical_time.specs.Flatten.{statesFrom, spansFrom}
+use Rattle.canonical_time.specs.Groups.{groupWords}
+use Rattle.canonical_time.specs.Day.{flat, listRules, pairs}
+use Rattle.canonical_time.proofs.MeanList.{pairs-list}
+use Rattle.canonical_time.proofs.MeanStroke.{strokeAt, strokes-paint, cuts-mean, shown-mean}
+use Rattle.canonical_time.proofs.MeanGroup.{groups-mean}
+use Rattle.canonical_time.proofs.MeanClass.{intervalsAt, Agree, length-clear, class-mean}
+
+flat-append : (d e : Day) → flat (d ++ e) ≡ flat d ++ flat e
+unfolding flat
+flat-append [] e = refl
+flat-append (x ∷ d) e =
+    ap (entryWords (stateNumber (x .0)) (map spanNumber (x .1)) ++_) (flat-append d e) ∙ sym (append-assoc (entryWords (stateNumber (x .0)) (map spanNumber (x .1))) (flat d) (flat e))
+
+length-left : (c : ℕ) (vs : List ℕ) (j r : ℕ) → length (classLeft c vs j r) ≡ length vs
+unfolding classLeft
+length-left c vs j zero = refl
+length-left c vs j (suc r) = go (isOfClass c (getD vs j 0)) refl (λ ws. length-left c ws (j + 1) r)
+  where
+    go : (b : Bool) → isOfClass c (getD vs j 0) ≡ b → ((ws : List ℕ) → length (classLeft c ws (j + 1) r) ≡ length ws) → length (classLeft c vs j (suc r)) ≡ length vs
+    go true e ih = rw (e, classLeft) (ih (clearFrom vs (getD vs j 0) j (suc r)) ∙ length-clear vs (getD vs j 0) j (suc r))
+    go false e ih = rw (e, classLeft) (ih vs)
+
+-- k numbers from c on
+unfoldable upFrom : ℕ → ℕ → List ℕ
+upFrom c zero = []
+upFrom c (suc k) = c ∷ upFrom (c + 1) k
+
+module _ (cs : List ℕ) (n : ℕ) (climbs : (k : ℕ) → k < n → getD cs k 0 < getD cs (k + 1) 0) where
+  classes-mean : (k c : ℕ) (vs : List ℕ) (f : Map Range State) → 1 ≤ c → n ≤ length vs → Agree cs f vs 0 n
+      → classesWords cs n c vs k ≡ flat (map asEntry (map asJoined (groups sameState sameRange closed (map (λ c S. eqb (stateClass S) c) (upFrom c k)) (intervalsAt cs 0 n ∷ []) f)))
+  unfolding classesWords groups upFrom
+  classes-mean zero c vs f pos size a = unfold flat in refl
+  classes-mean (suc k) c vs f pos size a =
+      let t = class-mean cs n climbs c pos n 0 vs f [] (intervalsAt cs 0 n) refl (omega arith) (omega arith) a tt in
+      let s : List (Group Range State) × Map Range State = sweep sameState sameRange closed (λ S. eqb (stateClass S) c) (intervalsAt cs 0 n ∷ []) f in
+      let more : List (Group Range State) = groups sameState sameRange closed (map (λ c S. eqb (stateClass S) c) (upFrom (c + 1) k)) (intervalsAt cs 0 n ∷ []) (s .1) in
+      ap₂ _++_ (sym (t .words)) (classes-mean k (c + 1) (classLeft c vs 0 n) (s .1) (omega arith) (omega (arith, length-left c vs 0 n)) (t .left))
+      ∙ sym (flat-append (map asEntry (map asJoined (s .0))) (map asEntry (map asJoined more)))
+      ∙ ap flat (sym (ap (map asEntry) (map-append asJoined (s .0) more) ∙ map-append asEntry (map asJoined (s .0)) (map asJoined more)))
+
+-- ## Intervals and cells
+between-part : (cs : List ℕ) (j r : ℕ) → between (part cs j (suc r)) ≡ intervalsAt cs j r
+unfolding between part intervalsAt
+between-part cs j zero = refl
+between-part cs j (suc r) = ap ((getD cs j 0, getD cs (j + 1) 0) ∷_) (between-part cs (j + 1) r)
+
+rising-climbs : (cs : List ℕ) (lo j r : ℕ) → Rising lo (intervalsAt cs j r) → (k : ℕ) → j ≤ k → k < j + r → getD cs k 0 < getD cs (k + 1) 0
+unfolding intervalsAt
+rising-climbs cs lo j zero u k l h = absurd (omega arith)
+rising-climbs cs lo j (suc r) u k l h = go (eqb k j) refl (rising-climbs cs (getD cs (j + 1) 0) (j + 1) r (u .2) k)
+  where
+    go : (b : Bool) → eqb k j ≡ b → (j + 1 ≤ k → k < j + 1 + r → getD cs k 0 < getD cs (k + 1) 0) → getD cs k 0 < getD cs (k + 1) 0
+    go true e ih = subst (λ i. getD cs i 0 < getD cs (i + 1) 0) (sym (eqb-true k j e)) (u .1)
+    go false e ih = ih (omega (arith, eqb-false k j e)) (omega arith)
+
+part-at : (vs cs : List ℕ) (h : ℕ → ℕ) (j r : ℕ) → part vs j r ≡ map h (part cs j r) → (k : ℕ) → j ≤ k → k < j + r → getD vs k 0 ≡ h (getD cs k 0)
+unfolding part
+part-at vs cs h j zero e k l m = absurd (omega arith)
+part-at vs cs h j (suc r) e k l m = go (eqb k j) refl (part-at vs cs h (j + 1) r (cc) k)
+  where
+    go : (b : Bool) → eqb k j ≡ b → (j + 1 ≤ k → k < j + 1 + r → getD vs k 0 ≡ h (getD cs k 0)) → getD vs k 0 ≡ h (getD cs k 0)
+    go true q ih = let z : getD vs j 0 ≡ h (getD cs j 0) = cc in ap (λ i. getD vs i 0) (eqb-true k j q) ∙ z ∙ ap (λ i. h (getD cs i 0)) (sym (eqb-true k j q))
+    go false q ih = ih (omega (arith, eqb-false k j q)) (omega arith)
+
+simple-ranges : (xs : List Stated) → Simple xs → All (Inside minuteBounds) (map (λ x. minutesOf (x .1)) xs)
+simple-ranges [] h = tt
+simple-ranges (x ∷ xs) h = (let k = simple-inside (x .1) (h .0) in omega arith, simple-ranges xs (h .1))
+
+-- THE WORDS OF A LIST ARE THE FLAT FORM OF ITS DAY
+module _ (states counts spans list : List ℕ) (i r : ℕ) (xs ps cs vs : List ℕ) (N n : ℕ)
+    (flat-states : part xs 0 N ≡ statesFrom states counts list i r) (flat-spans : part ps 0 N ≡ spansFrom counts spans list i r)
+    (laid-cuts : part cs 0 (suc n) ≡ cutsOf (strokesFrom xs ps 0 N)) (size : n ≤ length vs)
+    (laid-cells : part vs 0 n ≡ cellsOf (strokesFrom xs ps 0 N) (part cs 0 n)) where
+  abbrev strokes : List ℕ
+  strokes = strokesFrom xs ps 0 N
+
+  abbrev ys : List Stated
+  ys = map strokeAt (strokesFrom xs ps 0 N)
+
+  whole : flattened (map entryOf (listRules states counts spans list i r)) ≡ pairs (part xs 0 N) (part ps 0 N)
+  whole = sym (ap₂ pairs flat-states flat-spans ∙ pairs-list states counts spans list i r)
+
+  paints : painting (flattened (map entryOf (listRules states counts spans list i r))) ≡ ys
+  paints = ap painting whole ∙ sym (strokes-paint xs ps 0 N)
+
+  all-simple : Simple ys
+  all-simple = subst Simple paints (painting-simple (flattened (map entryOf (listRules states counts spans list i r))))
+
+  same-intervals : intervals minuteBounds (map (λ x. minutesOf (x .1)) ys) ≡ intervalsAt cs 0 n
+  unfolding intervals
+  same-intervals = ap between (sym (laid-cuts ∙ cuts-mean strokes)) ∙ between-part cs 0 n
+
+  climbs : (k : ℕ) → k < n → getD cs k 0 < getD cs (k + 1) 0
+  climbs k h = rising-climbs cs 0 0 n (subst (Rising 0) same-intervals (intervals-rise minuteBounds (omega arith) (map (λ x. minutesOf (x .1)) ys) (simple-ranges ys all-simple))) k (omega arith) (omega arith)
+
+  shows : Agree cs (λ is. painted ys (starts is)) vs 0 n
+  unfolding cellsOf
+  shows k l h = sym (ap stateAt (part-at vs cs (shown 65536 strokes) 0 n laid-cells k l h) ∙ shown-mean 65536 strokes (getD cs k 0) ∙ (unfold stateAt in refl))
+
+  painted-words : classesWords cs n 1 vs 5 ≡ flat (paintedOverIntervals ys)
+  unfolding paintedOverIntervals boxes upFrom
+  painted-words =
+      classes-mean cs n climbs 5 1 vs (λ is. painted ys (starts is)) (omega arith) size shows
+      ∙ ap (λ D. flat (map asEntry (map asJoined (groups sameState sameRange closed stateClasses (D ∷ []) (λ is. painted ys (starts is)))))) (sym same-intervals)
+
+  pub day-words : classesWords cs n 1 vs 5 ++ groupWords xs ps 0 N ≡ flat (day (listRules states counts spans list i r))
+  unfolding dayOverIntervals
+  day-words =
+      ap₂ _++_ (painted-words ∙ ap (λ z. flat (paintedOverIntervals z)) (sym paints)) (groups-mean xs ps 0 N ∙ ap (λ z. flat (map sortedEntry (grouped z))) (sym whole))
+      ∙ sym (flat-append (paintedOverIntervals (painting (flattened (map entryOf (listRules states counts spans list i r))))) (map sortedEntry (grouped (flattened (map entryOf (listRules states counts spans list i r))))))
+      ∙ ap flat (sym (day-intervals (listRules states counts spans list i r)))

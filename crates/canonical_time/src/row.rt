@@ -1,0 +1,120 @@
+// The states of the intervals, swept class after class.
+use super::words::write_entry;
+use span_number::span;
+use span_number::state_class;
+ghost use mathlib.Core.Path.{_≡_};
+ghost use Prim.Native.Nat.{ℕ, _+_, _*_, _-_, _<_, _≤_};
+ghost use lib.ListN.{length, getD};
+ghost use Rattle.canonical_time.specs.Words.{lay};
+ghost use Rattle.canonical_time.specs.Row.{runUpTo, runsFrom, clearFrom, classWords, classLeft, classesWords};
+
+// Writes the run from a up to c, where there is one; answers how many words.
+fn write_run(buf: &mut [u64], at: usize, a: u64, c: u64) -> usize
+    requires { ⌜ (at < length (now buf)) × (a < 524288) × (c < 524288) ⌝ }
+    ensures { λ r. ⌜ (now (buf .exit) ≡ lay (now (buf .entry)) at (runUpTo a c)) × (r ≡ length (runUpTo a c)) × (r ≤ 1) ⌝ }
+{
+    if a < c {
+        buf[at] = span(a, c, 0, 0);
+        return 1;
+    }
+    0
+}
+
+// Writes the runs of a state from interval j on, where a run goes on from a; answers how many.
+fn write_runs(
+    buf: &mut [u64],
+    at: usize,
+    cs: &[u64],
+    vs: &[u64],
+    s: u64,
+    a: u64,
+    j: usize,
+    n: usize,
+) -> usize
+    requires { ⌜ (j ≤ n) × (at + (n - j) < length (now buf)) × (n < length (now cs)) × (n ≤ length (now vs)) × (a < 524288) ⌝ }
+    requires { ⌜ ((k : ℕ) → getD (now cs) k 0 < 524288) ⌝ }
+    ensures { λ r. ⌜ (now (buf .exit) ≡ lay (now (buf .entry)) at (runsFrom (now (cs .entry)) (now (vs .entry)) s a j (n - j)))
+        × (r ≡ length (runsFrom (now (cs .entry)) (now (vs .entry)) s a j (n - j))) × (r ≤ n - j + 1) ⌝ }
+{
+    let c = cs[j];
+    if j < n {
+        if vs[j] == s {
+            return write_runs(buf, at, cs, vs, s, a, j + 1, n);
+        }
+        let d = cs[j + 1];
+        let m = write_run(buf, at, a, c);
+        let r = write_runs(buf, at + m, cs, vs, s, d, j + 1, n);
+        return m + r;
+    }
+    write_run(buf, at, a, c)
+}
+
+// Empties the cells of a state from j on.
+fn clear(vs: &mut [u64], s: u64, j: usize, n: usize)
+    requires { ⌜ n ≤ length (now vs) ⌝ }
+    ensures { λ _. ⌜ now (vs .exit) ≡ clearFrom (now (vs .entry)) s j (n - j) ⌝ }
+{
+    if j < n {
+        if vs[j] == s {
+            vs[j] = 65536;
+            clear(vs, s, j + 1, n);
+        } else {
+            clear(vs, s, j + 1, n);
+        }
+    }
+}
+
+// Writes the entries of a class from interval j on and empties their cells; answers the place after them.
+fn sweep_class(
+    out: &mut [u64],
+    at: usize,
+    buf: &mut [u64],
+    cs: &[u64],
+    vs: &mut [u64],
+    class: u8,
+    j: usize,
+    n: usize,
+) -> usize
+    requires { ⌜ (j ≤ n) × (n ≤ 2048) × (at + (n - j) * 2051 < 2147483648) ⌝ }
+    requires { ⌜ (n < length (now buf)) × (n < length (now cs)) × (n ≤ length (now vs)) ⌝ }
+    requires { ⌜ ((k : ℕ) → getD (now cs) k 0 < 524288) ⌝ }
+    ensures { λ r. ⌜ (now (out .exit) ≡ lay (now (out .entry)) at (classWords (now (cs .entry)) class (now (vs .entry)) j (n - j)))
+        × (r ≡ at + length (classWords (now (cs .entry)) class (now (vs .entry)) j (n - j)))
+        × (now (vs .exit) ≡ classLeft class (now (vs .entry)) j (n - j)) × (r ≤ at + (n - j) * 2051) ⌝ }
+{
+    if j < n {
+        let s = vs[j];
+        if state_class(s) == class {
+            let c = cs[j];
+            let r = write_runs(buf, 0, cs, vs, s, c, j, n);
+            let next = write_entry(out, at, s, buf, r);
+            clear(vs, s, j, n);
+            return sweep_class(out, next, buf, cs, vs, class, j + 1, n);
+        }
+        return sweep_class(out, at, buf, cs, vs, class, j + 1, n);
+    }
+    at
+}
+
+// The painted states, class after class from this one on; answers the place after them.
+pub fn sweep_classes(
+    out: &mut [u64],
+    at: usize,
+    buf: &mut [u64],
+    cs: &[u64],
+    vs: &mut [u64],
+    class: u8,
+    n: usize,
+) -> usize
+    requires { ⌜ (n ≤ 2048) × (1 ≤ class) × (class ≤ 6) × (at + (6 - class) * 4202496 < 134217728) ⌝ }
+    requires { ⌜ (n < length (now buf)) × (n < length (now cs)) × (n ≤ length (now vs)) ⌝ }
+    requires { ⌜ ((k : ℕ) → getD (now cs) k 0 < 524288) ⌝ }
+    ensures { λ r. ⌜ (now (out .exit) ≡ lay (now (out .entry)) at (classesWords (now (cs .entry)) n class (now (vs .entry)) (6 - class)))
+        × (r ≡ at + length (classesWords (now (cs .entry)) n class (now (vs .entry)) (6 - class))) × (r < 134217728) ⌝ }
+{
+    if class > 5 {
+        return at;
+    }
+    let next = sweep_class(out, at, buf, cs, vs, class, 0, n);
+    sweep_classes(out, next, buf, cs, vs, class + 1, n)
+}

@@ -1,0 +1,13 @@
+-- `span_number::fixed_time` meets its contract.
+-- Assumes nothing.
+use borrow.Author.Needs.{needs}
+use Rattle.span_number.specs.Number.{timeNumber}
+use Rattle.span_number.proofs.fixed_time.Statement.{statement}
+use Rattle.span_number.proofs.fixed_time.Tie as tie
+
+returns : tie.Need-returns
+unfolding timeNumber
+returns c = search needs
+
+pub fixed-time-spec : {M : Type 1} → statement M
+fixed-time-spec = tie.close (tie.spec (λ c κs. search needs) returns)
