@@ -1,5 +1,5 @@
 #!/usr/bin/env python3
-"""The stored days as binary records: `python3 oracle/day_records.py` writes crates/day_replay/stdin from crates/replay/data/day.txt.
+"""The stored days as binary records: `python3 park/day_records.py` writes crates/day_replay/stdin from crates/replay/data/day.txt.
 
 A record is two words, how many rules and how many words their day has; then for each rule its state, how many spans it has and
 sixteen words of spans; then the words of the day: for each entry its state, how many spans, and these. Words have eight bytes, the
