@@ -1,4 +1,4 @@
--- How far each reading of the sheet goes at most: from a time's 19 bits to a rule's. Rests on the laws of readings.
+-- How far the reading of each item goes at most: from a time's 19 bits to a span's 52. Rests on the laws of readings.
 -- Assumes nothing.
 use mathlib.Core.Path.{_≡_, refl}
 use mathlib.Core.Option.{none}

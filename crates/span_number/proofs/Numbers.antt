@@ -46,8 +46,6 @@ same-states m n = same-flag _ _
     (λ h. rw (eqb-true m n h) (exact-state .self (stateAt n)))
 
 -- ## Times
-by-size-back : (b : ℕ) → b < 65536 → bySize (bySize b) ≡ b
-by-size-back b h = omega arith
 
 pub time-number : (n : ℕ) → timeNumber (timeAt n) ≡ n
 unfolding timeNumber timeAt
