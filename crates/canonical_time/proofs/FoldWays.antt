@@ -6,9 +6,8 @@ use mathlib.Core.Bool.{Bool, true, false}
 use Prim.Native.Nat.{ℕ, zero, suc, _+_, _*_, _-_, _/_, _%_, _≤_, _<_}
 use native.Mathlib.Omega.{arith}
 use lib.Dec.{eqb, ltb}
-use lib.ListN.{length, getD, set, length-append, length-map}
-use lib.Seq.{getD-set-same, getD-set-other}
-use borrow.Author.Tests.{eqb-true, eqb-false, ltb-true, ltb-false}
+use lib.ListN.{length, getD, set, length-append, length-map, length-set}
+use lib.Seq.{getD-set-same}
 use Rattle.laws.specs.Lists.{All}
 use Rattle.grid.specs.Cut.{cutAt}
 use Rattle.definition.specs.Day.{simple, day}
@@ -19,7 +18,7 @@ use Rattle.canonical_time.specs.Row.{classesWords}
 use Rattle.canonical_time.specs.Flatten.{sameStates, statesFrom, spansFrom}
 use Rattle.canonical_time.specs.Groups.{groupWords}
 use Rattle.canonical_time.specs.Day.{flat, listRules}
-use Rattle.canonical_time.proofs.Lay.{lay-append, part-lay, length-part, length-lay, put-past}
+use Rattle.canonical_time.proofs.Lay.{lay-append, part-lay, length-part, length-lay, getD-lay}
 use Rattle.canonical_time.proofs.FlattenWays.{length-same}
 use Rattle.canonical_time.proofs.MeanDay.{day-words}
 
@@ -69,21 +68,21 @@ unfolding cutsOf
 cuts-small [] = (omega arith, (omega arith, tt))
 cuts-small (w ∷ ws) = cut-small (w / 2048 % 2048) (cutAt (w % 2048) (cutsOf ws)) (omega arith) (cut-small (w % 2048) (cutsOf ws) (omega arith) (cuts-small ws))
 
-set-small : (s : List ℕ) (a x k : ℕ) → x < 2048 → getD s k 0 < 2048 → getD (set s a x) k 0 < 2048
-set-small s a x k h l = go (eqb k a) refl (ltb k (length s)) refl
-  where
-    go : (b : Bool) → eqb k a ≡ b → (t : Bool) → ltb k (length s) ≡ t → getD (set s a x) k 0 < 2048
-    go false e t f = rw (getD-set-other s a k x 0 (eqb-false k a e)) l
-    go true e true f = rw (eqb-true k a e) (rw (getD-set-same s a x 0 (omega (arith, eqb-true k a e, ltb-true k (length s) f))) h)
-    go true e false f = rw (sym (put-past s a x (omega (arith, eqb-true k a e, ltb-false k (length s) f)))) l
-
-lay-small : (s : List ℕ) (a : ℕ) (t : List ℕ) → All (λ c. c < 2048) t → ((k : ℕ) → getD s k 0 < 2048) → (k : ℕ) → getD (lay s a t) k 0 < 2048
+laid-small : (s : List ℕ) (a : ℕ) (t : List ℕ) → All (λ c. c < 2048) t → a + length t ≤ length s → (k : ℕ) → k < length t → getD (lay s a t) (a + k) 0 < 2048
 unfolding lay
-lay-small s a [] h l k = l k
-lay-small s a (x ∷ t) h l k = lay-small (set s a x) (a + 1) t (h .1) (λ i. set-small s a x i (h .0) (l i)) k
+laid-small s a [] h l k m = absurd (omega arith)
+laid-small s a (x ∷ t) h l zero m =
+    let e : getD (lay (set s a x) (a + 1) t) a 0 ≡ x = getD-lay (set s a x) a (a + 1) t (omega arith) ∙ getD-set-same s a x 0 (omega arith) in
+    let z : a + 0 ≡ a = omega arith in rw (z, e) (h .0)
+laid-small s a (x ∷ t) h l (suc k) m =
+    let z : a + suc k ≡ a + 1 + k = omega arith in rw z (laid-small (set s a x) (a + 1) t (h .1) (omega (arith, length-set s a x)) k (omega arith))
 
-pub cuts-bounded : (cs t ws : List ℕ) → ((k : ℕ) → getD cs k 0 ≡ 0) → t ≡ lay cs 0 (cutsOf ws) → (k : ℕ) → getD t k 0 < 524288
-cuts-bounded cs t ws z e k = let b = lay-small cs 0 (cutsOf ws) (cuts-small ws) (λ i. rw (z i) (omega arith)) k in let f : getD t k 0 ≡ getD (lay cs 0 (cutsOf ws)) k 0 = ap (λ v. getD v k 0) e in omega arith
+pub cuts-bounded : (before cuts strokes : List ℕ) (m : ℕ) → cuts ≡ lay before 0 (cutsOf strokes) → m ≡ length (cutsOf strokes) → 1 ≤ m → m ≤ length before
+    → (k : ℕ) → k ≤ m - 1 → getD cuts k 0 < 524288
+cuts-bounded before cuts strokes m e f one room k l =
+    let b = laid-small before 0 (cutsOf strokes) (cuts-small strokes) (omega arith) k (omega arith) in
+    let z : 0 + k ≡ k = omega arith in
+    let g : getD cuts k 0 ≡ getD (lay before 0 (cutsOf strokes)) (0 + k) 0 = ap₂ (λ v i. getD v i 0) e (sym z) in omega arith
 
 -- ## The whole
 module _ (states counts spans list xs₀ xs ps₀ ps q₀ q cs₀ cs vs₀ vs out₀ out₁ out₂ : List ℕ) (L N k m at r : ℕ)
@@ -94,7 +93,7 @@ module _ (states counts spans list xs₀ xs ps₀ ps q₀ q cs₀ cs vs₀ vs ou
     (filled : vs ≡ lay vs₀ 0 (cellsOf (part q 0 k) (part cs 0 (m - 1))))
     (swept : (out₁ ≡ lay out₀ 0 (classesWords cs (m - 1) 1 vs 5)) × (at ≡ 0 + length (classesWords cs (m - 1) 1 vs 5)))
     (grouped′ : (out₂ ≡ lay out₁ at (groupWords xs ps 0 (N - 0))) × (r ≡ at + length (groupWords xs ps 0 (N - 0))))
-    (short : L ≤ 32) (room-xs : 512 ≤ length xs₀) (room-ps : 512 ≤ length ps₀) (room-q : 1026 ≤ length q₀) (room-cs : 1026 ≤ length cs₀) (room-vs : 1026 ≤ length vs₀) where
+    (room-xs : 16 * L ≤ length xs₀) (room-ps : 16 * L ≤ length ps₀) (room-q : 32 * L + 2 ≤ length q₀) (room-cs : 32 * L + 2 ≤ length cs₀) (room-vs : 32 * L + 2 ≤ length vs₀) where
   pub fold-laid : (out₂ ≡ lay out₀ 0 (flat (day (listRules states counts spans list 0 L)))) × (r ≡ length (flat (day (listRules states counts spans list 0 L))))
   fold-laid =
       let zL : L - 0 ≡ L = omega arith in

@@ -32,7 +32,7 @@ fn write_runs(
     n: usize,
 ) -> usize
     requires { ⌜ (j ≤ n) × (at + (n - j) < length (now buf)) × (n < length (now cs)) × (n ≤ length (now vs)) × (a < 524288) ⌝ }
-    requires { ⌜ ((k : ℕ) → getD (now cs) k 0 < 524288) ⌝ }
+    requires { ⌜ ((k : ℕ) → k ≤ n → getD (now cs) k 0 < 524288) ⌝ }
     ensures { λ r. ⌜ (now (buf .exit) ≡ lay (now (buf .entry)) at (runsFrom (now (cs .entry)) (now (vs .entry)) s a j (n - j)))
         × (r ≡ length (runsFrom (now (cs .entry)) (now (vs .entry)) s a j (n - j))) × (r ≤ n - j + 1) ⌝ }
 {
@@ -75,12 +75,12 @@ fn sweep_class(
     j: usize,
     n: usize,
 ) -> usize
-    requires { ⌜ (j ≤ n) × (n ≤ 2048) × (at + (n - j) * 2051 < 2147483648) ⌝ }
+    requires { ⌜ (j ≤ n) × (n ≤ 65536) × (at + (n - j) * 65539 < 1099511627776) ⌝ }
     requires { ⌜ (n < length (now buf)) × (n < length (now cs)) × (n ≤ length (now vs)) ⌝ }
-    requires { ⌜ ((k : ℕ) → getD (now cs) k 0 < 524288) ⌝ }
+    requires { ⌜ ((k : ℕ) → k ≤ n → getD (now cs) k 0 < 524288) ⌝ }
     ensures { λ r. ⌜ (now (out .exit) ≡ lay (now (out .entry)) at (classWords (now (cs .entry)) class (now (vs .entry)) j (n - j)))
         × (r ≡ at + length (classWords (now (cs .entry)) class (now (vs .entry)) j (n - j)))
-        × (now (vs .exit) ≡ classLeft class (now (vs .entry)) j (n - j)) × (r ≤ at + (n - j) * 2051) ⌝ }
+        × (now (vs .exit) ≡ classLeft class (now (vs .entry)) j (n - j)) × (r ≤ at + (n - j) * 65539) ⌝ }
 {
     if j < n {
         let s = vs[j];
@@ -106,11 +106,11 @@ pub fn sweep_classes(
     class: u8,
     n: usize,
 ) -> usize
-    requires { ⌜ (n ≤ 2048) × (1 ≤ class) × (class ≤ 6) × (at + (6 - class) * 4202496 < 134217728) ⌝ }
+    requires { ⌜ (n ≤ 65536) × (1 ≤ class) × (class ≤ 6) × (at + (6 - class) * 4295163904 < 1099511627776) ⌝ }
     requires { ⌜ (n < length (now buf)) × (n < length (now cs)) × (n ≤ length (now vs)) ⌝ }
-    requires { ⌜ ((k : ℕ) → getD (now cs) k 0 < 524288) ⌝ }
+    requires { ⌜ ((k : ℕ) → k ≤ n → getD (now cs) k 0 < 524288) ⌝ }
     ensures { λ r. ⌜ (now (out .exit) ≡ lay (now (out .entry)) at (classesWords (now (cs .entry)) n class (now (vs .entry)) (6 - class)))
-        × (r ≡ at + length (classesWords (now (cs .entry)) n class (now (vs .entry)) (6 - class))) × (r < 134217728) ⌝ }
+        × (r ≡ at + length (classesWords (now (cs .entry)) n class (now (vs .entry)) (6 - class))) × (r < 1099511627776) ⌝ }
 {
     if class > 5 {
         return at;

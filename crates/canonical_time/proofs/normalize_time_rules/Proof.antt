@@ -1,64 +1,87 @@
 -- `canonical_time::normalize_time_rules` meets its contract.
 -- Assumes nothing.
+use mathlib.Core.Path.{_∙_}
 use native.Mathlib.Omega.{arith}
-use borrow.Author.Needs.{needs}
+use Rattle.canonical_time.proofs.FoldWays.{few-strokes, cuts-bounded, fold-laid}
 use Rattle.canonical_time.proofs.normalize_time_rules.Statement.{statement}
 use Rattle.canonical_time.proofs.normalize_time_rules.Tie as tie
 
-state-room-requires : tie.Need-state-room-requires
-state-room-requires c κs = search needs
+flatten-requires : tie.Need-flatten-requires
+flatten-requires c κs =
+    (c .before .before .before .before .before .before .before .before .before .before .before .before .pre .0, (omega arith, omega (arith, c .before .before .before .before .before .before .before .before .before .before .before .before .pre .1), omega (arith, c .before .before .before .before .before .before .before .before .before .before .before .before .pre .1)))
 
-span-room-requires : tie.Need-span-room-requires
-span-room-requires c κs = search needs
+strokes-requires : tie.Need-strokes-requires
+strokes-requires c κs =
+    (omega (arith, c .before .before .before .before .before .before .before .before .before .before .before .before .before .before .before .before .before .before .before .before .pre .1, c .before .before .before .before .before .before .before .flatten .ensures .3), omega (arith, c .before .before .before .before .before .before .before .before .before .before .before .before .before .before .before .before .before .before .before .before .pre .1, c .before .before .before .before .before .before .before .flatten .ensures .3, c .before .before .before .before .before .before .before .flatten .kept .0), omega (arith, c .before .before .before .before .before .before .before .before .before .before .before .before .before .before .before .before .before .before .before .before .pre .1, c .before .before .before .before .before .before .before .flatten .ensures .3, c .before .before .before .before .before .before .before .flatten .kept .1 .0))
 
-cut-room-requires : tie.Need-cut-room-requires
-cut-room-requires c κs = search needs
+cuts-requires : tie.Need-cuts-requires
+cuts-requires c κs =
+    let w = few-strokes _ _ _ _ (c .before .before .before .before .strokes .ensures .1) in (omega (arith, w, c .before .before .before .before .before .before .before .before .before .before .before .before .before .before .before .before .before .before .before .before .before .before .before .before .before .pre .1, c .before .before .before .before .before .before .before .before .before .before .before .before .flatten .ensures .3, c .before .before .before .before .strokes .kept .0), omega (arith, w, c .before .before .before .before .before .before .before .before .before .before .before .before .before .before .before .before .before .before .before .before .before .before .before .before .before .pre .1, c .before .before .before .before .before .before .before .before .before .before .before .before .flatten .ensures .3))
 
-cut-room-requires-2 : tie.Need-cut-room-requires-2
-cut-room-requires-2 c κs = search needs
+sub-cells : tie.Need-sub-cells
+sub-cells c =
+    omega (arith, c .before .before .before .before .before .cuts .ensures .2)
 
-cut-room-requires-3 : tie.Need-cut-room-requires-3
-cut-room-requires-3 c κs = search needs
+cells-requires : tie.Need-cells-requires
+cells-requires c κs =
+    let w = few-strokes _ _ _ _ (c .before .before .before .before .before .before .before .before .before .before .strokes .ensures .1) in (omega (arith, w, c .before .before .before .before .before .before .before .before .before .before .before .before .before .before .before .before .before .before .before .before .before .before .before .before .before .before .before .before .before .before .before .pre .1, c .before .before .before .before .before .before .before .before .before .before .before .before .before .before .before .before .before .before .flatten .ensures .3, c .before .before .before .before .before .before .before .before .before .before .strokes .kept .0), omega (arith, w, c .before .before .before .before .before .before .before .before .before .before .before .before .before .before .before .before .before .before .before .before .before .before .before .before .before .before .before .before .before .before .before .pre .1, c .before .before .before .before .before .before .before .before .before .before .before .before .before .before .before .before .before .before .flatten .ensures .3, c .before .before .before .before .before .cuts .ensures .3, c .before .before .before .before .before .cuts .kept .0), omega (arith, w, c .before .before .before .before .before .before .before .before .before .before .before .before .before .before .before .before .before .before .before .before .before .before .before .before .before .before .before .before .before .before .before .pre .1, c .before .before .before .before .before .before .before .before .before .before .before .before .before .before .before .before .before .before .flatten .ensures .3, c .before .before .before .before .before .cuts .ensures .3))
 
-slice-aggregate-fold-list : tie.Need-slice-aggregate-fold-list
-slice-aggregate-fold-list c = search needs
+sub-sweep-classes : tie.Need-sub-sweep-classes
+sub-sweep-classes c =
+    omega (arith, c .before .before .before .before .before .before .before .before .before .before .before .before .cuts .ensures .2)
 
-slice-aggregate-fold-list-2 : tie.Need-slice-aggregate-fold-list-2
-slice-aggregate-fold-list-2 c = search needs
+sweep-classes-requires : tie.Need-sweep-classes-requires
+sweep-classes-requires c κs =
+    let w = few-strokes _ _ _ _ (c .before .before .before .before .before .before .before .before .before .before .before .before .before .before .before .before .before .strokes .ensures .1) in ((omega (arith, w, c .before .before .before .before .before .before .before .before .before .before .before .before .before .before .before .before .before .before .before .before .before .before .before .before .before .before .before .before .before .before .before .before .before .before .before .before .before .before .pre .1, c .before .before .before .before .before .before .before .before .before .before .before .before .before .before .before .before .before .before .before .before .before .before .before .before .before .flatten .ensures .3, c .before .before .before .before .before .before .before .before .before .before .before .before .cuts .ensures .3), omega arith, omega arith, omega arith), ((omega (arith, w, c .before .before .before .before .before .before .before .before .before .before .before .before .before .before .before .before .before .before .before .before .before .before .before .before .before .before .before .before .before .before .before .before .before .before .before .before .before .before .pre .1, c .before .before .before .before .before .before .before .before .before .before .before .before .before .before .before .before .before .before .before .before .before .before .before .before .before .flatten .ensures .3, c .before .before .before .before .before .before .before .before .before .before .before .before .cuts .ensures .3, c .before .before .before .before .before .before .before .before .before .before .before .before .cuts .ensures .2, c .before .before .before .before .before .before .before .before .before .before .before .before .before .before .before .before .before .strokes .kept .0), omega (arith, w, c .before .before .before .before .before .before .before .before .before .before .before .before .before .before .before .before .before .before .before .before .before .before .before .before .before .before .before .before .before .before .before .before .before .before .before .before .before .before .pre .1, c .before .before .before .before .before .before .before .before .before .before .before .before .before .before .before .before .before .before .before .before .before .before .before .before .before .flatten .ensures .3, c .before .before .before .before .before .before .before .before .before .before .before .before .cuts .ensures .3, c .before .before .before .before .before .before .before .before .before .before .before .before .cuts .ensures .2, c .before .before .before .before .before .before .before .before .before .before .before .before .cuts .kept .0), omega (arith, w, c .before .before .before .before .before .before .before .before .before .before .before .before .before .before .before .before .before .before .before .before .before .before .before .before .before .before .before .before .before .before .before .before .before .before .before .before .before .before .pre .1, c .before .before .before .before .before .before .before .before .before .before .before .before .before .before .before .before .before .before .before .before .before .before .before .before .before .flatten .ensures .3, c .before .before .before .before .before .before .before .before .before .before .before .before .cuts .ensures .3, c .before .before .before .before .before .before .cells .kept .0)), cuts-bounded _ _ _ _ (c .before .before .before .before .before .before .before .before .before .before .before .before .cuts .ensures .0) (c .before .before .before .before .before .before .before .before .before .before .before .before .cuts .ensures .1) (omega (arith, c .before .before .before .before .before .before .before .before .before .before .before .before .cuts .ensures .2)) (omega (arith, w, c .before .before .before .before .before .before .before .before .before .before .before .before .before .before .before .before .before .before .before .before .before .before .before .before .before .before .before .before .before .before .before .before .before .before .before .before .before .before .pre .1, c .before .before .before .before .before .before .before .before .before .before .before .before .before .before .before .before .before .before .before .before .before .before .before .before .before .flatten .ensures .3, c .before .before .before .before .before .before .before .before .before .before .before .before .cuts .ensures .3))))
 
-slice-aggregate-fold-list-3 : tie.Need-slice-aggregate-fold-list-3
-slice-aggregate-fold-list-3 c = search needs
-
-slice-aggregate-fold-list-4 : tie.Need-slice-aggregate-fold-list-4
-slice-aggregate-fold-list-4 c = search needs
-
-slice-aggregate-fold-list-5 : tie.Need-slice-aggregate-fold-list-5
-slice-aggregate-fold-list-5 c = search needs
-
-fold-list-requires : tie.Need-fold-list-requires
-fold-list-requires c κs =
-    (c .before .before .before .before .before .before .before .before .before .before .before .before .before .before .before .before .pre .0, ((c .before .before .before .before .before .before .before .before .before .before .before .before .before .before .before .before .pre .1, omega (arith, c .before .before .before .before .before .before .before .before .before .before .state-room .ensures), omega (arith, c .before .before .before .before .before .before .before .before .before .span-room .ensures), omega (arith, c .before .before .before .before .before .before .before .before .cut-room .ensures .0), omega (arith, c .before .before .before .before .before .before .before .cut-room2 .ensures .0), omega (arith, c .before .before .before .before .before .before .cut-room3 .ensures .0)), c .before .before .before .before .before .before .before .cut-room2 .ensures .1))
+groups-requires : tie.Need-groups-requires
+groups-requires c κs =
+    (omega (arith, c .before .before .before .before .before .before .before .before .before .before .before .before .before .before .before .before .before .before .before .before .before .before .before .before .before .before .before .before .before .before .before .before .before .before .before .before .before .before .before .before .before .before .before .before .before .before .before .before .before .pre .1, c .before .before .before .before .before .before .before .before .before .before .before .before .before .before .before .before .before .before .before .before .before .before .before .before .before .before .before .before .before .before .before .before .before .before .before .before .flatten .ensures .3, c .before .before .before .before .before .before .before .before .before .before .before .before .before .before .before .before .before .before .before .before .before .before .before .before .before .before .before .before .before .before .before .before .before .before .before .before .flatten .kept .0), omega (arith, c .before .before .before .before .before .before .before .before .before .before .before .before .before .before .before .before .before .before .before .before .before .before .before .before .before .before .before .before .before .before .before .before .before .before .before .before .before .before .before .before .before .before .before .before .before .before .before .before .before .pre .1, c .before .before .before .before .before .before .before .before .before .before .before .before .before .before .before .before .before .before .before .before .before .before .before .before .before .before .before .before .before .before .before .before .before .before .before .before .flatten .ensures .3, c .before .before .before .before .before .before .before .before .before .before .before .before .before .before .before .before .before .before .before .before .before .before .before .before .before .before .before .before .before .before .before .before .before .before .before .before .flatten .kept .1 .0), omega (arith, c .before .before .before .before .before .before .before .before .before .before .before .before .before .before .before .before .before .before .before .before .before .before .before .before .before .before .before .before .before .before .before .before .before .before .before .before .before .before .before .before .before .before .before .before .before .before .before .before .before .pre .1, c .before .before .before .before .before .before .before .before .before .before .before .before .before .before .before .before .before .before .before .before .before .before .before .before .before .before .before .before .before .before .before .before .before .before .before .before .flatten .ensures .3, c .before .before .before .before .before .before .before .before .before .before .before .before .before .before .before .before .before .before .before .before .before .before .before .before .before .before .before .before .strokes .kept .0, c .before .before .before .before .before .before .before .before .before .before .sweep-classes .kept .1 .1 .0), omega (arith, c .before .before .before .before .before .before .before .before .before .before .before .before .before .before .before .before .before .before .before .before .before .before .before .before .before .before .before .before .before .before .before .before .before .before .before .before .before .before .before .before .before .before .before .before .before .before .before .before .before .pre .1, c .before .before .before .before .before .before .before .before .before .before .before .before .before .before .before .before .before .before .before .before .before .before .before .before .before .before .before .before .before .before .before .before .before .before .before .before .flatten .ensures .3, c .before .before .before .before .before .before .before .before .before .before .sweep-classes .ensures .2))
 
 same-length : tie.Need-same-length
-same-length c = search needs
+same-length c =
+    c .before .before .before .before .groups .kept .0 ∙ c .before .before .before .before .before .before .before .before .before .before .before .before .before .before .before .sweep-classes .kept .0
+
+same-length-2 : tie.Need-same-length-2
+same-length-2 c =
+    c .before .before .before .before .before .before .before .before .before .before .before .before .before .before .before .before .before .before .before .before .before .before .before .before .before .before .before .before .before .before .before .before .before .before .before .before .before .before .before .before .before .flatten .kept .0
+
+same-length-3 : tie.Need-same-length-3
+same-length-3 c =
+    c .before .before .before .before .before .before .before .before .before .before .before .before .before .before .before .before .before .before .before .before .before .before .before .before .before .before .before .before .before .before .before .before .before .before .before .before .before .before .before .before .before .flatten .kept .1 .0
+
+same-length-4 : tie.Need-same-length-4
+same-length-4 c =
+    c .before .before .before .before .groups .kept .1 .1 .0 ∙ c .before .before .before .before .before .before .before .before .before .before .before .before .before .before .before .sweep-classes .kept .1 .1 .0 ∙ c .before .before .before .before .before .before .before .before .before .before .before .before .before .before .before .before .before .before .before .before .before .before .before .before .before .before .before .before .before .before .before .before .before .strokes .kept .0
+
+same-length-5 : tie.Need-same-length-5
+same-length-5 c =
+    c .before .before .before .before .before .before .before .before .before .before .before .before .before .before .before .before .before .before .before .before .before .before .before .before .before .before .before .before .cuts .kept .0
+
+same-length-6 : tie.Need-same-length-6
+same-length-6 c =
+    c .before .before .before .before .before .before .before .before .before .before .before .before .before .before .before .sweep-classes .kept .1 .1 .1 .1 .0 ∙ c .before .before .before .before .before .before .before .before .before .before .before .before .before .before .before .before .before .before .before .before .before .before .cells .kept .0
 
 returns : tie.Need-returns
-returns c = search needs
+returns c =
+    let w = c .before .before .before .before .before .before .before .before .before .before .before .before .before .before .before .sweep-classes .ensures in fold-laid _ _ _ _ _ _ _ _ _ _ _ _ _ _ _ _ _ _ _ _ _ _ _ (c .before .before .before .before .before .before .before .before .before .before .before .before .before .before .before .before .before .before .before .before .before .before .before .before .before .before .before .before .before .before .before .before .before .before .before .before .before .before .before .before .before .flatten .ensures) (c .before .before .before .before .before .before .before .before .before .before .before .before .before .before .before .before .before .before .before .before .before .before .before .before .before .before .before .before .before .before .before .before .before .strokes .ensures) (c .before .before .before .before .before .before .before .before .before .before .before .before .before .before .before .before .before .before .before .before .before .before .before .before .before .before .before .before .cuts .ensures) (c .before .before .before .before .before .before .before .before .before .before .before .before .before .before .before .before .before .before .before .before .before .before .cells .ensures) (w .0, w .1) (c .before .before .before .before .groups .ensures) (c .before .before .before .before .before .before .before .before .before .before .before .before .before .before .before .before .before .before .before .before .before .before .before .before .before .before .before .before .before .before .before .before .before .before .before .before .before .before .before .before .before .before .before .before .before .before .before .before .before .before .before .before .before .before .pre .1 .1) (c .before .before .before .before .before .before .before .before .before .before .before .before .before .before .before .before .before .before .before .before .before .before .before .before .before .before .before .before .before .before .before .before .before .before .before .before .before .before .before .before .before .before .before .before .before .before .before .before .before .before .before .before .before .before .pre .1 .2) (c .before .before .before .before .before .before .before .before .before .before .before .before .before .before .before .before .before .before .before .before .before .before .before .before .before .before .before .before .before .before .before .before .before .before .before .before .before .before .before .before .before .before .before .before .before .before .before .before .before .before .before .before .before .before .pre .1 .3) (c .before .before .before .before .before .before .before .before .before .before .before .before .before .before .before .before .before .before .before .before .before .before .before .before .before .before .before .before .before .before .before .before .before .before .before .before .before .before .before .before .before .before .before .before .before .before .before .before .before .before .before .before .before .before .pre .1 .4) (c .before .before .before .before .before .before .before .before .before .before .before .before .before .before .before .before .before .before .before .before .before .before .before .before .before .before .before .before .before .before .before .before .before .before .before .before .before .before .before .before .before .before .before .before .before .before .before .before .before .before .before .before .before .before .pre .1 .5)
 
 pub normalize-time-rules-spec : {M : Type 1} → statement M
 normalize-time-rules-spec =
     tie.close
     (tie.spec
-    state-room-requires
-    span-room-requires
-    cut-room-requires
-    cut-room-requires-2
-    cut-room-requires-3
-    slice-aggregate-fold-list
-    slice-aggregate-fold-list-2
-    slice-aggregate-fold-list-3
-    slice-aggregate-fold-list-4
-    slice-aggregate-fold-list-5
-    fold-list-requires
+    flatten-requires
+    strokes-requires
+    cuts-requires
+    sub-cells
+    cells-requires
+    sub-sweep-classes
+    sweep-classes-requires
+    groups-requires
     same-length
+    same-length-2
+    same-length-3
+    same-length-4
+    same-length-5
+    same-length-6
     returns)

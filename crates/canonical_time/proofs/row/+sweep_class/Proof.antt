@@ -38,7 +38,7 @@ pub +sweep-class-spec : {M : Type 1} → statement M
     (λ c κs. search needs)
     (λ c. search needs)
     (λ c. search needs)
-    (λ c κs. ((omega arith, omega arith, omega arith, omega arith, c .before .before .before .before .before .before .before .before .before .before .before .pre .1 .1 .1 _), c .before .before .before .before .before .before .before .before .before .before .before .pre .1 .1 .1))
+    (λ c κs. ((omega arith, omega arith, omega arith, omega arith, c .before .before .before .before .before .before .before .before .before .before .before .pre .1 .1 .1 (c .before .before .before .before .before .before .before .before .before .before .before .args .j) (omega (arith, c .before .before .before .before .before .before .before .before .before .before .before .pre .1 .0 .0))), c .before .before .before .before .before .before .before .before .before .before .before .pre .1 .1 .1))
     (λ c κs. (omega (arith, c .before .before .before .before .write-runs .ensures .2, c .before .before .before .before .write-runs .kept .0, c .before .before .before .before .before .before .before .before .before .before .before .before .before .before .before .before .pre .1), omega (arith, c .before .before .before .before .write-runs .ensures .2, c .before .before .before .before .before .before .before .before .before .before .before .before .before .before .before .before .pre .1)))
     (λ c κs. omega (arith, c .before .before .before .before .before .before .before .before .before .before .before .before .before .before .before .before .before .before .before .before .pre .1))
     (λ c. search needs)
