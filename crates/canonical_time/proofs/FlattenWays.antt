@@ -1,13 +1,14 @@
--- The ways out of the functions that lay a list's spans with their states.
+-- The ways out of the functions that sets a list's spans with their states.
 -- Assumes nothing.
 use mathlib.Core.Path.{_≡_, refl, sym, ap, ap₂, _∙_}
 use mathlib.Core.List.{List, [], _++_}
 use Prim.Native.Nat.{ℕ, zero, suc, _+_, _*_, _-_, _≤_, _<_}
 use native.Mathlib.Omega.{arith}
 use lib.ListN.{length, getD, set, length-append}
-use Rattle.canonical_time.specs.Words.{lay, part}
+use lib.Seq.{sets}
+use Rattle.words.specs.Words.{part}
 use Rattle.canonical_time.specs.Flatten.{sameStates, statesFrom, spansFrom, Tables}
-use Rattle.canonical_time.proofs.Lay.{left-in, left-none, lay-append, length-part}
+use Rattle.words.proofs.Sets.{left-in, left-none, sets-next, sets-append, length-part}
 
 pub length-same : (S n : ℕ) → length (sameStates S n) ≡ n
 unfolding sameStates
@@ -16,29 +17,29 @@ length-same S (suc n) = ap suc (length-same S n)
 
 module _ (spans : List ℕ) (S k b e : ℕ) (x p : List ℕ) where
   pub push-more : b < e → (r : ℕ) (y q : List ℕ)
-      → (r ≡ k + 1 + (e - (b + 1))) × (y ≡ lay (set x k S) (k + 1) (sameStates S (e - (b + 1)))) × (q ≡ lay (set p k (getD spans b 0)) (k + 1) (part spans (b + 1) (e - (b + 1))))
-      → (r ≡ k + (e - b)) × (y ≡ lay x k (sameStates S (e - b))) × (q ≡ lay p k (part spans b (e - b)))
-  unfolding lay part sameStates
+      → (r ≡ k + 1 + (e - (b + 1))) × (y ≡ sets (set x k S) (k + 1) (sameStates S (e - (b + 1)))) × (q ≡ sets (set p k (getD spans b 0)) (k + 1) (part spans (b + 1) (e - (b + 1))))
+      → (r ≡ k + (e - b)) × (y ≡ sets x k (sameStates S (e - b))) × (q ≡ sets p k (part spans b (e - b)))
+  unfolding part sameStates
   push-more h r y q l = (
     omega arith,
-    l .1 ∙ sym (ap (λ n. lay x k (sameStates S n)) (left-in b e h)),
-    l .2 ∙ sym (ap (λ n. lay p k (part spans b n)) (left-in b e h)),
+    l .1 ∙ sets-next x k S (sameStates S (e - (b + 1))) ∙ sym (ap (λ n. sets x k (sameStates S n)) (left-in b e h)),
+    l .2 ∙ sets-next p k (getD spans b 0) (part spans (b + 1) (e - (b + 1))) ∙ sym (ap (λ n. sets p k (part spans b n)) (left-in b e h)),
   )
 
-  pub push-none : e ≤ b → (k ≡ k + (e - b)) × (x ≡ lay x k (sameStates S (e - b))) × (p ≡ lay p k (part spans b (e - b)))
-  unfolding lay part sameStates
-  push-none h = (omega arith, sym (ap (λ n. lay x k (sameStates S n)) (left-none b e h)), sym (ap (λ n. lay p k (part spans b n)) (left-none b e h)))
+  pub push-none : e ≤ b → (k ≡ k + (e - b)) × (x ≡ sets x k (sameStates S (e - b))) × (p ≡ sets p k (part spans b (e - b)))
+  unfolding part sameStates
+  push-none h = (omega arith, sym (ap (λ n. sets x k (sameStates S n)) (left-none b e h)), sym (ap (λ n. sets p k (part spans b n)) (left-none b e h)))
 
 -- a list's spans laid from k on, with their states, and the place after them
 abbrev pub Flat : List ℕ → List ℕ → List ℕ → List ℕ → ℕ → ℕ → ℕ → List ℕ → List ℕ → ℕ → List ℕ → List ℕ → Type 0
 Flat states counts spans list i n k x p r y q =
-    (r ≡ k + length (statesFrom states counts list i (n - i))) × (y ≡ lay x k (statesFrom states counts list i (n - i)))
-    × (q ≡ lay p k (spansFrom counts spans list i (n - i))) × (r ≤ k + 16 * (n - i))
+    (r ≡ k + length (statesFrom states counts list i (n - i))) × (y ≡ sets x k (statesFrom states counts list i (n - i)))
+    × (q ≡ sets p k (spansFrom counts spans list i (n - i))) × (r ≤ k + 16 * (n - i))
 
 module _ (states counts spans list : List ℕ) (i n k : ℕ) (x p : List ℕ) where
   pub flat-more : i < n → (rule c : ℕ) → rule ≡ getD list i 0 → c ≡ getD counts rule 0 → c ≤ 16 → (next : ℕ) (x₁ p₁ : List ℕ)
-      → (next ≡ k + (rule * 16 + c - rule * 16)) × (x₁ ≡ lay x k (sameStates (getD states rule 0) (rule * 16 + c - rule * 16)))
-      × (p₁ ≡ lay p k (part spans (rule * 16) (rule * 16 + c - rule * 16)))
+      → (next ≡ k + (rule * 16 + c - rule * 16)) × (x₁ ≡ sets x k (sameStates (getD states rule 0) (rule * 16 + c - rule * 16)))
+      × (p₁ ≡ sets p k (part spans (rule * 16) (rule * 16 + c - rule * 16)))
       → (r : ℕ) (y q : List ℕ) → Flat states counts spans list (i + 1) n next x₁ p₁ r y q → Flat states counts spans list i n k x p r y q
   unfolding statesFrom spansFrom
   flat-more h rule c e f few next x₁ p₁ l r y q m =
@@ -50,23 +51,23 @@ module _ (states counts spans list : List ℕ) (i n k : ℕ) (x p : List ℕ) wh
       let rest : List ℕ = spansFrom counts spans list (i + 1) (n - (i + 1)) in
       let a : statesFrom states counts list i (n - i) ≡ one ++ more = ap (statesFrom states counts list i) (left-in i n h) in
       let b : spansFrom counts spans list i (n - i) ≡ some ++ rest = ap (spansFrom counts spans list i) (left-in i n h) in
-      let u : x₁ ≡ lay x k one = l .1 ∙ ap₂ (λ v w. lay x k (sameStates v w)) (ap (λ v. getD states v 0) e) (z ∙ g) in
-      let v : p₁ ≡ lay p k some = l .2 ∙ ap₂ (λ v w. lay p k (part spans v w)) (ap (λ v. v * 16) e) (z ∙ g) in
+      let u : x₁ ≡ sets x k one = l .1 ∙ ap₂ (λ v w. sets x k (sameStates v w)) (ap (λ v. getD states v 0) e) (z ∙ g) in
+      let v : p₁ ≡ sets p k some = l .2 ∙ ap₂ (λ v w. sets p k (part spans v w)) (ap (λ v. v * 16) e) (z ∙ g) in
       let place : next ≡ k + length one = omega (arith, l .0, z, g, length-same (getD states (getD list i 0) 0) (getD counts (getD list i 0) 0)) in
       let same : next ≡ k + length some = omega (arith, l .0, z, g, length-part spans (getD list i 0 * 16) (getD counts (getD list i 0) 0)) in (
         m .0 ∙ omega (arith, place, length-append one more, ap length a),
-        m .1 ∙ ap₂ (λ v w. lay v w more) u place ∙ sym (lay-append x k one more) ∙ ap (lay x k) (sym a),
-        m .2 ∙ ap₂ (λ v w. lay v w rest) v same ∙ sym (lay-append p k some rest) ∙ ap (lay p k) (sym b),
+        m .1 ∙ ap₂ (λ v w. sets v w more) u place ∙ sym (sets-append x k one more) ∙ ap (sets x k) (sym a),
+        m .2 ∙ ap₂ (λ v w. sets v w rest) v same ∙ sym (sets-append p k some rest) ∙ ap (sets p k) (sym b),
         omega (arith, m .3, l .0, z),
       )
 
   pub flat-none : n ≤ i → Flat states counts spans list i n k x p k x p
-  unfolding statesFrom spansFrom lay
+  unfolding statesFrom spansFrom
   flat-none h =
       let a : statesFrom states counts list i (n - i) ≡ [] = ap (statesFrom states counts list i) (left-none i n h) in
       let b : spansFrom counts spans list i (n - i) ≡ [] = ap (spansFrom counts spans list i) (left-none i n h) in
       let z : k ≡ k + 0 = omega arith in
-      (z ∙ sym (ap (λ v. k + length v) a), sym (ap (lay x k) a), sym (ap (lay p k) b), omega arith)
+      (z ∙ sym (ap (λ v. k + length v) a), sym (ap (sets x k) a), sym (ap (sets p k) b), omega arith)
 
 -- a rule that the list names stands in the tables
 pub named-rule : (states counts spans list : List ℕ) → Tables states counts spans list → (i n rule : ℕ) → n ≤ length list → i < n → rule ≡ getD list i 0

@@ -7,18 +7,18 @@ use Prim.Native.Nat.{ℕ, zero, suc, _+_, _*_, _-_, _/_, _%_, _≤_, _<_}
 use native.Mathlib.Omega.{arith}
 use lib.Dec.{eqb, ltb}
 use lib.ListN.{length, getD, set, length-append, length-map, length-set}
-use lib.Seq.{getD-set-same}
+use lib.Seq.{sets, length-sets, getD-set-same}
 use Rattle.laws.specs.Lists.{All}
 use Rattle.grid.specs.Cut.{cutAt}
 use Rattle.definition.specs.Day.{simple, day}
 use Rattle.span_number.specs.Number.{spanAt}
-use Rattle.canonical_time.specs.Words.{lay, part}
-use Rattle.canonical_time.specs.Stroke.{strokesOfRun, strokesFrom, cutsOf, cellsOf}
-use Rattle.canonical_time.specs.Row.{classesWords}
+use Rattle.words.specs.Words.{part}
+use Rattle.day_paint.specs.Stroke.{strokesOfRun, strokesFrom, cutsOf, cellsOf}
+use Rattle.day_row.specs.Row.{classesWords}
 use Rattle.canonical_time.specs.Flatten.{sameStates, statesFrom, spansFrom}
-use Rattle.canonical_time.specs.Groups.{groupWords}
-use Rattle.canonical_time.specs.Day.{flat, listRules}
-use Rattle.canonical_time.proofs.Lay.{lay-append, part-lay, length-part, length-lay, getD-lay}
+use Rattle.day_group.specs.Groups.{groupWords}
+use Rattle.day_words.specs.Day.{flat, listRules}
+use Rattle.words.proofs.Sets.{sets-append, part-sets, length-part, getD-sets}
 use Rattle.canonical_time.proofs.FlattenWays.{length-same}
 use Rattle.canonical_time.proofs.MeanDay.{day-words}
 
@@ -68,33 +68,32 @@ unfolding cutsOf
 cuts-small [] = (omega arith, (omega arith, tt))
 cuts-small (w ∷ ws) = cut-small (w / 2048 % 2048) (cutAt (w % 2048) (cutsOf ws)) (omega arith) (cut-small (w % 2048) (cutsOf ws) (omega arith) (cuts-small ws))
 
-laid-small : (s : List ℕ) (a : ℕ) (t : List ℕ) → All (λ c. c < 2048) t → a + length t ≤ length s → (k : ℕ) → k < length t → getD (lay s a t) (a + k) 0 < 2048
-unfolding lay
+laid-small : (s : List ℕ) (a : ℕ) (t : List ℕ) → All (λ c. c < 2048) t → a + length t ≤ length s → (k : ℕ) → k < length t → getD (sets s a t) (a + k) 0 < 2048
 laid-small s a [] h l k m = absurd (omega arith)
 laid-small s a (x ∷ t) h l zero m =
-    let e : getD (lay (set s a x) (a + 1) t) a 0 ≡ x = getD-lay (set s a x) a (a + 1) t (omega arith) ∙ getD-set-same s a x 0 (omega arith) in
+    let e : getD (sets (set s a x) (suc a) t) a 0 ≡ x = getD-sets (set s a x) a (suc a) t (omega arith) ∙ getD-set-same s a x 0 (omega arith) in
     let z : a + 0 ≡ a = omega arith in rw (z, e) (h .0)
 laid-small s a (x ∷ t) h l (suc k) m =
-    let z : a + suc k ≡ a + 1 + k = omega arith in rw z (laid-small (set s a x) (a + 1) t (h .1) (omega (arith, length-set s a x)) k (omega arith))
+    let z : a + suc k ≡ suc a + k = omega arith in rw z (laid-small (set s a x) (suc a) t (h .1) (omega (arith, length-set s a x)) k (omega arith))
 
-pub cuts-bounded : (before cuts strokes : List ℕ) (m : ℕ) → cuts ≡ lay before 0 (cutsOf strokes) → m ≡ length (cutsOf strokes) → 1 ≤ m → m ≤ length before
+pub cuts-bounded : (before cuts strokes : List ℕ) (m : ℕ) → cuts ≡ sets before 0 (cutsOf strokes) → m ≡ length (cutsOf strokes) → 1 ≤ m → m ≤ length before
     → (k : ℕ) → k ≤ m - 1 → getD cuts k 0 < 524288
 cuts-bounded before cuts strokes m e f one room k l =
     let b = laid-small before 0 (cutsOf strokes) (cuts-small strokes) (omega arith) k (omega arith) in
     let z : 0 + k ≡ k = omega arith in
-    let g : getD cuts k 0 ≡ getD (lay before 0 (cutsOf strokes)) (0 + k) 0 = ap₂ (λ v i. getD v i 0) e (sym z) in omega arith
+    let g : getD cuts k 0 ≡ getD (sets before 0 (cutsOf strokes)) (0 + k) 0 = ap₂ (λ v i. getD v i 0) e (sym z) in omega arith
 
 -- ## The whole
 module _ (states counts spans list xs₀ xs ps₀ ps q₀ q cs₀ cs vs₀ vs out₀ out₁ out₂ : List ℕ) (L N k m at r : ℕ)
-    (flattened′ : (N ≡ 0 + length (statesFrom states counts list 0 (L - 0))) × (xs ≡ lay xs₀ 0 (statesFrom states counts list 0 (L - 0)))
-    × (ps ≡ lay ps₀ 0 (spansFrom counts spans list 0 (L - 0))) × (N ≤ 0 + 16 * (L - 0)))
-    (stroked : (q ≡ lay q₀ 0 (strokesFrom xs ps 0 (N - 0))) × (k ≡ 0 + length (strokesFrom xs ps 0 (N - 0))))
-    (cut : (cs ≡ lay cs₀ 0 (cutsOf (part q 0 k))) × (m ≡ length (cutsOf (part q 0 k))) × (2 ≤ m) × (m ≤ 2 * k + 2))
-    (filled : vs ≡ lay vs₀ 0 (cellsOf (part q 0 k) (part cs 0 (m - 1))))
-    (swept : (out₁ ≡ lay out₀ 0 (classesWords cs (m - 1) 1 vs 5)) × (at ≡ 0 + length (classesWords cs (m - 1) 1 vs 5)))
-    (grouped′ : (out₂ ≡ lay out₁ at (groupWords xs ps 0 (N - 0))) × (r ≡ at + length (groupWords xs ps 0 (N - 0))))
+    (flattened′ : (N ≡ 0 + length (statesFrom states counts list 0 (L - 0))) × (xs ≡ sets xs₀ 0 (statesFrom states counts list 0 (L - 0)))
+    × (ps ≡ sets ps₀ 0 (spansFrom counts spans list 0 (L - 0))) × (N ≤ 0 + 16 * (L - 0)))
+    (stroked : (q ≡ sets q₀ 0 (strokesFrom xs ps 0 (N - 0))) × (k ≡ 0 + length (strokesFrom xs ps 0 (N - 0))))
+    (cut : (cs ≡ sets cs₀ 0 (cutsOf (part q 0 k))) × (m ≡ length (cutsOf (part q 0 k))) × (2 ≤ m) × (m ≤ 2 * k + 2))
+    (filled : vs ≡ sets vs₀ 0 (cellsOf (part q 0 k) (part cs 0 (m - 1))))
+    (swept : (out₁ ≡ sets out₀ 0 (classesWords cs (m - 1) 1 vs 5)) × (at ≡ 0 + length (classesWords cs (m - 1) 1 vs 5)))
+    (grouped′ : (out₂ ≡ sets out₁ at (groupWords xs ps 0 (N - 0))) × (r ≡ at + length (groupWords xs ps 0 (N - 0))))
     (room-xs : 16 * L ≤ length xs₀) (room-ps : 16 * L ≤ length ps₀) (room-q : 32 * L + 2 ≤ length q₀) (room-cs : 32 * L + 2 ≤ length cs₀) (room-vs : 32 * L + 2 ≤ length vs₀) where
-  pub fold-laid : (out₂ ≡ lay out₀ 0 (flat (day (listRules states counts spans list 0 L)))) × (r ≡ length (flat (day (listRules states counts spans list 0 L))))
+  pub fold-laid : (out₂ ≡ sets out₀ 0 (flat (day (listRules states counts spans list 0 L)))) × (r ≡ length (flat (day (listRules states counts spans list 0 L))))
   fold-laid =
       let zL : L - 0 ≡ L = omega arith in
       let zN : N - 0 ≡ N = omega arith in
@@ -105,29 +104,29 @@ module _ (states counts spans list xs₀ xs ps₀ ps q₀ q cs₀ cs vs₀ vs ou
       let fewQ : length Q ≤ N = strokes-few xs ps 0 N in
       let nX : N ≡ length X = omega (arith, flattened′ .0) in
       let a : part xs 0 N ≡ statesFrom states counts list 0 L =
-      ap₂ (λ v w. part v 0 w) (flattened′ .1) nX ∙ part-lay xs₀ 0 X (omega (arith, flattened′ .0, flattened′ .3)) ∙ ap (statesFrom states counts list 0) zL in
+      ap₂ (λ v w. part v 0 w) (flattened′ .1) nX ∙ part-sets xs₀ 0 X (omega (arith, flattened′ .0, flattened′ .3)) ∙ ap (statesFrom states counts list 0) zL in
       let nP : N ≡ length P = omega (arith, flattened′ .0) in
       let b : part ps 0 N ≡ spansFrom counts spans list 0 L =
-      ap₂ (λ v w. part v 0 w) (flattened′ .2) nP ∙ part-lay ps₀ 0 P (omega (arith, flattened′ .3)) ∙ ap (spansFrom counts spans list 0) zL in
+      ap₂ (λ v w. part v 0 w) (flattened′ .2) nP ∙ part-sets ps₀ 0 P (omega (arith, flattened′ .3)) ∙ ap (spansFrom counts spans list 0) zL in
       let kQ : k ≡ length Q = omega (arith, stroked .1, ap (λ v. length (strokesFrom xs ps 0 v)) zN) in
       let q-read : part q 0 k ≡ Q =
-      ap₂ (λ v w. part v 0 w) (stroked .0 ∙ ap (λ v. lay q₀ 0 (strokesFrom xs ps 0 v)) zN) kQ ∙ part-lay q₀ 0 Q (omega (arith, flattened′ .3)) in
+      ap₂ (λ v w. part v 0 w) (stroked .0 ∙ ap (λ v. sets q₀ 0 (strokesFrom xs ps 0 v)) zN) kQ ∙ part-sets q₀ 0 Q (omega (arith, flattened′ .3)) in
       let C : List ℕ = cutsOf Q in
       let mC : m ≡ length C = cut .1 ∙ ap (λ v. length (cutsOf v)) q-read in
-      let csC : cs ≡ lay cs₀ 0 C = cut .0 ∙ ap (λ v. lay cs₀ 0 (cutsOf v)) q-read in
+      let csC : cs ≡ sets cs₀ 0 C = cut .0 ∙ ap (λ v. sets cs₀ 0 (cutsOf v)) q-read in
       let sm : suc (m - 1) ≡ m = omega (arith, cut .2) in
-      let c-read : part cs 0 (suc (m - 1)) ≡ C = ap₂ (λ v w. part v 0 w) csC (sm ∙ mC) ∙ part-lay cs₀ 0 C (omega (arith, cut .3, flattened′ .3)) in
+      let c-read : part cs 0 (suc (m - 1)) ≡ C = ap₂ (λ v w. part v 0 w) csC (sm ∙ mC) ∙ part-sets cs₀ 0 C (omega (arith, cut .3, flattened′ .3)) in
       let Vs : List ℕ = cellsOf Q (part cs 0 (m - 1)) in
       let nV : m - 1 ≡ length Vs = sym (cells-length Q (part cs 0 (m - 1)) ∙ length-part cs 0 (m - 1)) in
-      let vsV : vs ≡ lay vs₀ 0 Vs = filled ∙ ap (λ v. lay vs₀ 0 (cellsOf v (part cs 0 (m - 1)))) q-read in
-      let v-read : part vs 0 (m - 1) ≡ Vs = ap₂ (λ v w. part v 0 w) vsV nV ∙ part-lay vs₀ 0 Vs (omega (arith, cut .3, flattened′ .3)) in
-      let room : m - 1 ≤ length vs = omega (arith, ap length vsV, length-lay vs₀ 0 Vs, cut .3, flattened′ .3) in
+      let vsV : vs ≡ sets vs₀ 0 Vs = filled ∙ ap (λ v. sets vs₀ 0 (cellsOf v (part cs 0 (m - 1)))) q-read in
+      let v-read : part vs 0 (m - 1) ≡ Vs = ap₂ (λ v w. part v 0 w) vsV nV ∙ part-sets vs₀ 0 Vs (omega (arith, cut .3, flattened′ .3)) in
+      let room : m - 1 ≤ length vs = omega (arith, ap length vsV, length-sets vs₀ 0 Vs, cut .3, flattened′ .3) in
       let A : List ℕ = classesWords cs (m - 1) 1 vs 5 in
       let B : List ℕ = groupWords xs ps 0 N in
       let all : A ++ B ≡ flat (day (listRules states counts spans list 0 L)) = day-words states counts spans list 0 L xs ps cs vs N (m - 1) a b c-read room v-read in
       let place : at ≡ 0 + length A = swept .1 in (
-        grouped′ .0 ∙ ap₂ (λ v w. lay v w (groupWords xs ps 0 (N - 0))) (swept .0) place ∙ ap (λ w. lay (lay out₀ 0 A) (0 + length A) (groupWords xs ps 0 w)) zN
-            ∙ sym (lay-append out₀ 0 A B) ∙ ap (lay out₀ 0) all,
+        grouped′ .0 ∙ ap₂ (λ v w. sets v w (groupWords xs ps 0 (N - 0))) (swept .0) place ∙ ap (λ w. sets (sets out₀ 0 A) (0 + length A) (groupWords xs ps 0 w)) zN
+            ∙ sym (sets-append out₀ 0 A B) ∙ ap (sets out₀ 0) all,
         omega (arith, grouped′ .1, place, ap (λ w. length (groupWords xs ps 0 w)) zN, length-append A B, ap length all),
       )
     where

@@ -1,13 +1,4 @@
-pub mod Lay
-pub mod StrokeWays
-pub mod RowWays
-pub mod GroupWays
 pub mod FlattenWays
 pub mod MeanList
-pub mod MeanGroup
-pub mod MeanStroke
-pub mod DayWays
-pub mod MeanRuns
-pub mod MeanClass
 pub mod MeanDay
 pub mod FoldWays

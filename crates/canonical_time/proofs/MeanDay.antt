@@ -18,16 +18,16 @@ use Rattle.definition.specs.Day.{Stated, Day, flattened, minutesOf, minuteBound
 use Rattle.definition.specs.OverBoxes.{paintedOverIntervals, dayOverIntervals}
 use Rattle.definition.proofs.DayBox.{Simple, painting-simple, simple-inside, day-intervals}
 use Rattle.span_number.specs.Number.{stateNumber, stateAt, spanNumber}
-use Rattle.canonical_time.specs.Words.{part, entryWords}
-use Rattle.canonical_time.specs.Stroke.{strokesFrom, shown, cutsOf, cellsOf}
-use Rattle.canonical_time.specs.Row.{isOfClass, clearFrom, classLeft, classesWords}
+use Rattle.words.specs.Words.{part, entryWords}
+use Rattle.day_paint.specs.Stroke.{strokesFrom, shown, cutsOf, cellsOf}
+use Rattle.day_row.specs.Row.{isOfClass, clearFrom, classLeft, classesWords}
 use Rattle.canonical_time.specs.Flatten.{statesFrom, spansFrom}
-use Rattle.canonical_time.specs.Groups.{groupWords}
-use Rattle.canonical_time.specs.Day.{flat, listRules, pairs}
+use Rattle.day_group.specs.Groups.{groupWords}
+use Rattle.day_words.specs.Day.{flat, listRules, pairs}
 use Rattle.canonical_time.proofs.MeanList.{pairs-list}
-use Rattle.canonical_time.proofs.MeanStroke.{strokeAt, strokes-paint, cuts-mean, shown-mean}
-use Rattle.canonical_time.proofs.MeanGroup.{groups-mean}
-use Rattle.canonical_time.proofs.MeanClass.{intervalsAt, Agree, length-clear, class-mean}
+use Rattle.day_paint.proofs.MeanStroke.{strokeAt, strokes-paint, cuts-mean, shown-mean}
+use Rattle.day_group.proofs.MeanGroup.{groups-mean}
+use Rattle.day_row.proofs.MeanClass.{intervalsAt, Agree, length-clear, class-mean}
 
 flat-append : (d e : Day) → flat (d ++ e) ≡ flat d ++ flat e
 unfolding flat

@@ -6,9 +6,9 @@ use Prim.Native.Nat.{ℕ, zero, suc, _+_, _*_}
 use lib.ListN.{getD}
 use Rattle.definition.specs.Day.{stated, flattened, entryOf}
 use Rattle.span_number.specs.Number.{stateAt, spanAt}
-use Rattle.canonical_time.specs.Words.{part}
+use Rattle.words.specs.Words.{part}
 use Rattle.canonical_time.specs.Flatten.{sameStates, statesFrom, spansFrom}
-use Rattle.canonical_time.specs.Day.{listRules, pairs}
+use Rattle.day_words.specs.Day.{listRules, pairs}
 
 pairs-run : (S n a : ℕ) (spans X P : List ℕ) → pairs (sameStates S n ++ X) (part spans a n ++ P) ≡ stated (stateAt S, map spanAt (part spans a n)) ++ pairs X P
 unfolding pairs sameStates part

@@ -3,7 +3,7 @@
 use mathlib.Core.List.{List, [], _∷_, _++_}
 use Prim.Native.Nat.{ℕ, zero, suc, _+_, _*_, _<_, _≤_}
 use lib.ListN.{getD, length}
-use Rattle.canonical_time.specs.Words.{part}
+use Rattle.words.specs.Words.{part}
 
 -- a state n times
 unfoldable pub sameStates : ℕ → ℕ → List ℕ

@@ -1,21 +1,16 @@
 // From a list to a day, as the Rust's canonical_time.rs: the simple spans paint, the others stay in groups.
-pub mod day;
 pub mod flatten;
-pub mod group;
-pub mod row;
-pub mod stroke;
-pub mod words;
 
+use day_group::groups;
+use day_row::sweep_classes;
 use flatten::flatten;
-use group::groups;
-use row::sweep_classes;
 ghost use mathlib.Core.Path.{_≡_};
 ghost use Prim.Native.Nat.{_+_, _*_, _≤_};
 ghost use lib.ListN.{length};
+ghost use lib.Seq.{sets};
 ghost use Rattle.definition.specs.Day.{day};
-ghost use Rattle.canonical_time.specs.Words.{lay};
 ghost use Rattle.canonical_time.specs.Flatten.{Tables};
-ghost use Rattle.canonical_time.specs.Day.{flat, listRules};
+ghost use Rattle.day_words.specs.Day.{flat, listRules};
 
 // The day of a list of rule numbers over tables, in its flat form; answers how many words it has. Five lent buffers are scratch:
 // they need room by the list's length, may hold anything before, and what they hold after is left unsaid but for their lengths.
@@ -34,7 +29,7 @@ pub fn normalize_time_rules(
     requires { ⌜ Tables (now states) (now counts) (now spans) (now list) ⌝ }
     requires { ⌜ (length (now list) ≤ 1024) × (16 * length (now list) ≤ length (now stated)) × (16 * length (now list) ≤ length (now spanned))
         × (32 * length (now list) + 2 ≤ length (now strokes)) × (32 * length (now list) + 2 ≤ length (now cuts)) × (32 * length (now list) + 2 ≤ length (now cells)) ⌝ }
-    ensures { λ r. ⌜ (now (out .exit) ≡ lay (now (out .entry)) 0 (flat (day (listRules (now (states .entry)) (now (counts .entry)) (now (spans .entry)) (now (list .entry)) 0 (length (now (list .entry)))))))
+    ensures { λ r. ⌜ (now (out .exit) ≡ sets (now (out .entry)) 0 (flat (day (listRules (now (states .entry)) (now (counts .entry)) (now (spans .entry)) (now (list .entry)) 0 (length (now (list .entry)))))))
         × (r ≡ length (flat (day (listRules (now (states .entry)) (now (counts .entry)) (now (spans .entry)) (now (list .entry)) 0 (length (now (list .entry))))))) ⌝ }
 {
     let n = flatten(
@@ -48,9 +43,9 @@ pub fn normalize_time_rules(
         0,
         list.len(),
     );
-    let k = stroke::strokes(strokes, 0, stated, spanned, 0, n);
-    let m = stroke::cuts(cuts, strokes, k);
-    stroke::cells(cells, strokes, k, cuts, m - 1);
+    let k = day_paint::write_strokes(strokes, 0, stated, spanned, 0, n);
+    let m = day_paint::write_cuts(cuts, strokes, k);
+    day_paint::write_cells(cells, strokes, k, cuts, m - 1);
     let at = sweep_classes(out, 0, strokes, cuts, cells, 1, m - 1);
     groups(out, at, strokes, stated, spanned, 0, n)
 }

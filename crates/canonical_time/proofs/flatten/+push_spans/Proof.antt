@@ -25,26 +25,26 @@ abbrev push-spans-below : ℕ → In 3 push-spans-kinds.ps
 push-spans-below t =
     and 3 push-spans-kinds.ps (falls 3 push-spans-kinds.ps _<_ μ-push-spans t) push-spans.Pre
 
-push-spans-mul-xs : (t : ℕ) →
-    push-spans-lts.Need-mul-xs
+push-spans-mul-stated : (t : ℕ) →
+    push-spans-lts.Need-mul-stated
     (push-spans-below t, push-spans.Post)
     (push-spans-at t)
     push-spans.Post
-push-spans-mul-xs t c = search needs
+push-spans-mul-stated t c = search needs
 
-push-spans-mul-ps : (t : ℕ) →
-    push-spans-lts.Need-mul-ps
+push-spans-mul-spanned : (t : ℕ) →
+    push-spans-lts.Need-mul-spanned
     (push-spans-below t, push-spans.Post)
     (push-spans-at t)
     push-spans.Post
-push-spans-mul-ps t c = search needs
+push-spans-mul-spanned t c = search needs
 
-push-spans-mul-ps-2 : (t : ℕ) →
-    push-spans-lts.Need-mul-ps-2
+push-spans-mul-spanned-2 : (t : ℕ) →
+    push-spans-lts.Need-mul-spanned-2
     (push-spans-below t, push-spans.Post)
     (push-spans-at t)
     push-spans.Post
-push-spans-mul-ps-2 t c = search needs
+push-spans-mul-spanned-2 t c = search needs
 
 push-spans-returns : (t : ℕ) →
     push-spans-lts.Need-returns
@@ -58,11 +58,11 @@ pub +push-spans-spec : {M : Type 1} → statement M
 +push-spans-spec = close μ-push-spans λ t. push-spans-lts.spec (push-spans-below t, push-spans.Post)
     (push-spans-at t)
     push-spans.Post
-    (push-spans-mul-xs t)
+    (push-spans-mul-stated t)
     (λ c. search needs)
-    (push-spans-mul-ps t)
+    (push-spans-mul-spanned t)
     (λ c. search needs)
-    (push-spans-mul-ps-2 t)
+    (push-spans-mul-spanned-2 t)
     (λ c. search needs)
     (λ c. search needs)
     (λ c. search needs)

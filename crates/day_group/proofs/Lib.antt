@@ -1,0 +1,2 @@
+pub mod GroupWays
+pub mod MeanGroup

@@ -1,0 +1,2 @@
+pub mod StrokeWays
+pub mod MeanStroke

@@ -1,0 +1,80 @@
+-- What strokes mean: the painting of a list, the cuts at its ends, and what it shows.
+-- Assumes nothing.
+use mathlib.Core.Path.{_≡_, refl, sym, ap, ap₂, _∙_}
+use mathlib.Core.List.{List, [], _∷_, map}
+use mathlib.Core.Bool.{Bool, true, false, _&&_, cond}
+use Prim.Native.Nat.{ℕ, zero, suc, _+_, _*_, _-_, _/_, _%_}
+use native.Mathlib.Omega.{arith}
+use lib.Dec.{eqb, leb, ltb}
+use lib.ListN.{getD}
+use borrow.Author.Tests.{lt-ltb, eqb-true}
+use Rattle.laws.specs.Lists.{keep}
+use Rattle.grid.specs.Cut.{cutAt, cuts}
+use Rattle.definition.specs.Day.{Stated, simple, minutesOf, minuteBounds, within, stated, runOf, painting, lastOver, plainSpan}
+use Rattle.span_number.specs.Number.{stateAt, spanAt, timeAt, repeatsAt}
+use Rattle.span_number.proofs.Numbers.{same-states}
+use Rattle.span_number.proofs.Laws.{simple-bounds}
+use Rattle.words.specs.Words.{part}
+use Rattle.day_paint.specs.Stroke.{strokeNumber, strokesOfRun, strokesFrom, strokeOver, shown, cutsOf}
+use Rattle.day_words.specs.Day.{pairs}
+
+abbrev pub strokeAt : ℕ → Stated
+strokeAt n = (stateAt (n / 4194304), plainSpan (n / 2048 % 2048, n % 2048))
+
+-- a simple span is the plain one of its minutes
+plain-span : (p : ℕ) → simple (spanAt p) ≡ true → spanAt p ≡ plainSpan (p / 8589934592, p / 16384 % 524288)
+unfolding spanAt timeAt repeatsAt
+plain-span p h =
+    let k = simple-bounds p h in
+    let f : p / 8192 % 2 ≡ 0 = omega (arith, k .2) in
+    let r : p % 8192 ≡ 0 = omega (arith, k .2) in
+    rw (lt-ltb (p / 8589934592) 262144 (omega (arith, k .0, k .1)), lt-ltb (p / 16384 % 524288) 262144 (omega (arith, k .1)), f, r)
+
+stroke-back : (x p : ℕ) → simple (spanAt p) ≡ true → strokeAt (strokeNumber x p) ≡ (stateAt x, spanAt p)
+unfolding strokeNumber
+stroke-back x p h =
+    let k = simple-bounds p h in
+    let a : (x * 4194304 + p / 8589934592 * 2048 + p / 16384 % 524288) / 4194304 ≡ x = omega (arith, k .0, k .1) in
+    let b : (x * 4194304 + p / 8589934592 * 2048 + p / 16384 % 524288) / 2048 % 2048 ≡ p / 8589934592 = omega (arith, k .0, k .1) in
+    let c : (x * 4194304 + p / 8589934592 * 2048 + p / 16384 % 524288) % 2048 ≡ p / 16384 % 524288 = omega (arith, k .0, k .1) in
+    λ i. (ap stateAt a i, (ap₂ (λ v w. plainSpan (v, w)) b c ∙ sym (plain-span p h)) i)
+
+-- ## The painting
+run-strokes : (xs ps : List ℕ) (S i r : ℕ) → map strokeAt (strokesOfRun xs ps S i r) ≡ stated (stateAt S, keep simple (runOf (stateAt S) (pairs (part xs i r) (part ps i r))))
+unfolding strokesOfRun part pairs runOf keep
+run-strokes xs ps S i zero = refl
+run-strokes xs ps S i (suc r) = go (eqb (getD xs i 0) S) refl (simple (spanAt (getD ps i 0))) refl (run-strokes xs ps S (i + 1) r)
+  where
+    go : (a : Bool) → eqb (getD xs i 0) S ≡ a → (b : Bool) → simple (spanAt (getD ps i 0)) ≡ b
+        → map strokeAt (strokesOfRun xs ps S (i + 1) r) ≡ stated (stateAt S, keep simple (runOf (stateAt S) (pairs (part xs (i + 1) r) (part ps (i + 1) r))))
+        → map strokeAt (strokesOfRun xs ps S i (suc r)) ≡ stated (stateAt S, keep simple (runOf (stateAt S) ((stateAt (getD xs i 0), spanAt (getD ps i 0)) ∷ pairs (part xs (i + 1) r) (part ps (i + 1) r))))
+    go false e b f ih = rw (e, strokesOfRun, same-states (getD xs i 0) S ∙ e, runOf)
+    go true e true f ih =
+        rw (e, strokesOfRun, f, strokesOfRun, same-states (getD xs i 0) S ∙ e, runOf, f, keep)
+        (ap₂ _∷_ (stroke-back (getD xs i 0) (getD ps i 0) f ∙ ap (λ s. (stateAt s, spanAt (getD ps i 0))) (eqb-true (getD xs i 0) S e)) ih)
+    go true e false f ih = rw (e, strokesOfRun, f, strokesOfRun, same-states (getD xs i 0) S ∙ e, runOf, f, keep) ih
+
+pub strokes-paint : (xs ps : List ℕ) (i r : ℕ) → map strokeAt (strokesFrom xs ps i r) ≡ painting (pairs (part xs i r) (part ps i r))
+unfolding strokesFrom part pairs painting
+strokes-paint xs ps i zero = refl
+strokes-paint xs ps i (suc r) = go (simple (spanAt (getD ps i 0))) refl (strokes-paint xs ps (i + 1) r)
+  where
+    go : (b : Bool) → simple (spanAt (getD ps i 0)) ≡ b → map strokeAt (strokesFrom xs ps (i + 1) r) ≡ painting (pairs (part xs (i + 1) r) (part ps (i + 1) r))
+        → map strokeAt (strokesFrom xs ps i (suc r)) ≡ painting ((stateAt (getD xs i 0), spanAt (getD ps i 0)) ∷ pairs (part xs (i + 1) r) (part ps (i + 1) r))
+    go true e ih = rw (e, strokesFrom, painting) (ap₂ _∷_ (stroke-back (getD xs i 0) (getD ps i 0) e) ih)
+    go false e ih = rw (e, strokesFrom, painting) (run-strokes xs ps (getD xs i 0) (i + 1) r)
+
+-- ## Cuts and what is shown
+pub cuts-mean : (strokes : List ℕ) → cutsOf strokes ≡ cuts minuteBounds (map (λ x. minutesOf (x .1)) (map strokeAt strokes))
+unfolding cutsOf cuts
+cuts-mean [] = refl
+cuts-mean (x ∷ xs) = ap (λ cs. cutAt (x / 2048 % 2048) (cutAt (x % 2048) cs)) (cuts-mean xs)
+
+pub shown-mean : (S : ℕ) (strokes : List ℕ) (m : ℕ) → stateAt (shown S strokes m) ≡ lastOver within (stateAt S) (map strokeAt strokes) m
+unfolding shown lastOver strokeOver
+shown-mean S [] m = refl
+shown-mean S (x ∷ xs) m = shown-mean (strokeOver x m S) xs m ∙ ap (λ R. lastOver within R (map strokeAt xs) m) (go (leb (x / 2048 % 2048) m && ltb m (x % 2048)))
+  where
+    go : (b : Bool) → stateAt (cond b (x / 4194304) S) ≡ cond b (stateAt (x / 4194304)) (stateAt S)
+    go true = refl
+    go false = refl

@@ -1,0 +1,193 @@
+-- The ways out of the functions that choose the strokes of a list, and that read and cut them.
+-- Assumes nothing.
+use mathlib.Core.Path.{_≡_, refl, sym, ap, ap₂, _∙_}
+use mathlib.Core.List.{List, [], _∷_}
+use mathlib.Core.Bool.{Bool, true, false}
+use Prim.Native.Nat.{ℕ, suc, _+_, _*_, _-_, _/_, _%_, _≤_, _<_}
+use native.Mathlib.Omega.{arith}
+use lib.Dec.{eqb, ltb}
+use lib.ListN.{length, getD, set}
+use lib.Seq.{sets}
+use borrow.Author.Tests.{lt-ltb, le-ltb, le-leb, lt-leb, eq-eqb, ne-eqb}
+use Rattle.grid.specs.Cut.{cutAt}
+use Rattle.definition.specs.Day.{simple}
+use Rattle.span_number.specs.Number.{spanAt}
+use Rattle.words.specs.Words.{part}
+use Rattle.day_paint.specs.Stroke.{strokeNumber, strokesOfRun, strokesFrom, strokeOver, shown, cutsOf, cellsOf}
+use Rattle.words.proofs.Sets.{left-in, left-none, sets-next, sets-sets, part-sets}
+
+-- a text laid from k on, and the place after it
+abbrev pub Laid : List ℕ → List ℕ → ℕ → ℕ → List ℕ → Type 0
+Laid s t k r words = (t ≡ sets s k words) × (r ≡ k + length words)
+
+none-laid : (s : List ℕ) (k : ℕ) (words : List ℕ) → words ≡ [] → Laid s s k k words
+none-laid s k words e = (sym (ap (sets s k) e), let h : k ≡ k + 0 = omega arith in h ∙ sym (ap (λ w. k + length w) e))
+
+same-laid : (s t : List ℕ) (k r : ℕ) (words more : List ℕ) → words ≡ more → Laid s t k r more → Laid s t k r words
+same-laid s t k r words more e h = (h .0 ∙ ap (sets s k) (sym e), h .1 ∙ ap (λ w. k + length w) (sym e))
+
+one-laid : (s t : List ℕ) (k r x : ℕ) (words : List ℕ) → Laid (set s k x) t (k + 1) r words → Laid s t k r (x ∷ words)
+one-laid s t k r x words h = (h .0 ∙ sets-next s k x words, let e : k + 1 + length words ≡ k + suc (length words) = omega arith in h .1 ∙ e)
+
+module _ (xs ps : List ℕ) (q t : List ℕ) (k r i n : ℕ) where
+  module _ (S : ℕ) where
+    pub run-paints : i < n → getD xs i 0 ≡ S → simple (spanAt (getD ps i 0)) ≡ true → (x : ℕ) → x ≡ strokeNumber (getD xs i 0) (getD ps i 0)
+        → Laid (set q k x) t (k + 1) r (strokesOfRun xs ps S (i + 1) (n - (i + 1))) → Laid q t k r (strokesOfRun xs ps S i (n - i))
+    unfolding strokesOfRun
+    run-paints h e s x f l =
+        same-laid q t k r _ (x ∷ strokesOfRun xs ps S (i + 1) (n - (i + 1)))
+        (ap (strokesOfRun xs ps S i) (left-in i n h) ∙ rw (eq-eqb (getD xs i 0) S e, strokesOfRun, s, strokesOfRun) (ap (_∷ strokesOfRun xs ps S (i + 1) (n - (i + 1))) (sym f)))
+        (one-laid q t k r x (strokesOfRun xs ps S (i + 1) (n - (i + 1))) l)
+
+    pub run-skips : i < n → getD xs i 0 ≡ S → simple (spanAt (getD ps i 0)) ≡ false
+        → Laid q t k r (strokesOfRun xs ps S (i + 1) (n - (i + 1))) → Laid q t k r (strokesOfRun xs ps S i (n - i))
+    unfolding strokesOfRun
+    run-skips h e s l =
+        same-laid q t k r _ (strokesOfRun xs ps S (i + 1) (n - (i + 1)))
+        (ap (strokesOfRun xs ps S i) (left-in i n h) ∙ rw (eq-eqb (getD xs i 0) S e, strokesOfRun, s, strokesOfRun)) l
+
+    pub run-over : i < n → (getD xs i 0 ≡ S → ⊥) → Laid q q k k (strokesOfRun xs ps S i (n - i))
+    unfolding strokesOfRun
+    run-over h e = none-laid q k _ (ap (strokesOfRun xs ps S i) (left-in i n h) ∙ rw (ne-eqb (getD xs i 0) S e, strokesOfRun))
+
+    pub run-ends : n ≤ i → Laid q q k k (strokesOfRun xs ps S i (n - i))
+    unfolding strokesOfRun
+    run-ends h = none-laid q k _ (ap (strokesOfRun xs ps S i) (left-none i n h))
+
+  pub list-paints : i < n → simple (spanAt (getD ps i 0)) ≡ true → (x : ℕ) → x ≡ strokeNumber (getD xs i 0) (getD ps i 0)
+      → Laid (set q k x) t (k + 1) r (strokesFrom xs ps (i + 1) (n - (i + 1))) → Laid q t k r (strokesFrom xs ps i (n - i))
+  unfolding strokesFrom
+  list-paints h s x f l =
+      same-laid q t k r _ (x ∷ strokesFrom xs ps (i + 1) (n - (i + 1)))
+      (ap (strokesFrom xs ps i) (left-in i n h) ∙ rw (s, strokesFrom) (ap (_∷ strokesFrom xs ps (i + 1) (n - (i + 1))) (sym f)))
+      (one-laid q t k r x (strokesFrom xs ps (i + 1) (n - (i + 1))) l)
+
+  pub list-runs : i < n → simple (spanAt (getD ps i 0)) ≡ false
+      → Laid q t k r (strokesOfRun xs ps (getD xs i 0) (i + 1) (n - (i + 1))) → Laid q t k r (strokesFrom xs ps i (n - i))
+  unfolding strokesFrom
+  list-runs h s l =
+      same-laid q t k r _ (strokesOfRun xs ps (getD xs i 0) (i + 1) (n - (i + 1)))
+      (ap (strokesFrom xs ps i) (left-in i n h) ∙ rw (s, strokesFrom)) l
+
+  pub list-ends : n ≤ i → Laid q q k k (strokesFrom xs ps i (n - i))
+  unfolding strokesFrom
+  list-ends h = none-laid q k _ (ap (strokesFrom xs ps i) (left-none i n h))
+
+-- ## What a stroke leaves at a minute
+module _ (x m S : ℕ) where
+  pub over-in : x / 2048 % 2048 ≤ m → m < x % 2048 → x / 4194304 ≡ strokeOver x m S
+  unfolding strokeOver
+  over-in h k = rw (le-leb (x / 2048 % 2048) m h, lt-ltb m (x % 2048) k)
+
+  pub over-after : x / 2048 % 2048 ≤ m → x % 2048 ≤ m → S ≡ strokeOver x m S
+  unfolding strokeOver
+  over-after h k = rw (le-leb (x / 2048 % 2048) m h, le-ltb m (x % 2048) k)
+
+  pub over-before : m < x / 2048 % 2048 → S ≡ strokeOver x m S
+  unfolding strokeOver
+  over-before h = rw (lt-leb (x / 2048 % 2048) m h)
+
+pub shown-step : (q : List ℕ) (S m i k s : ℕ) → i < k → s ≡ strokeOver (getD q i 0) m S → shown s (part q (i + 1) (k - (i + 1))) m ≡ shown S (part q i (k - i)) m
+unfolding shown part
+shown-step q S m i k s h e = ap (λ v. shown v (part q (i + 1) (k - (i + 1))) m) e ∙ sym (ap (λ n. shown S (part q i n) m) (left-in i k h))
+
+pub shown-end : (q : List ℕ) (S m i k : ℕ) → k ≤ i → S ≡ shown S (part q i (k - i)) m
+unfolding shown part
+shown-end q S m i k h = sym (ap (λ n. shown S (part q i n) m) (left-none i k h))
+
+pub shown-start : (q : List ℕ) (S m k : ℕ) → shown S (part q 0 (k - 0)) m ≡ shown S (part q 0 k) m
+shown-start q S m k = let z : k - 0 ≡ k = omega arith in ap (λ n. shown S (part q 0 n) m) z
+
+-- ## Cuts
+length-cutAt : (x : ℕ) (cs : List ℕ) → (length cs ≤ length (cutAt x cs)) × (length (cutAt x cs) ≤ suc (length cs))
+unfolding cutAt
+length-cutAt x [] = omega arith
+length-cutAt x (y ∷ cs) = go (ltb x y) refl (eqb x y) refl (length-cutAt x cs)
+  where
+    go : (s : Bool) → ltb x y ≡ s → (t : Bool) → eqb x y ≡ t → (length cs ≤ length (cutAt x cs)) × (length (cutAt x cs) ≤ suc (length cs))
+        → (length (y ∷ cs) ≤ length (cutAt x (y ∷ cs))) × (length (cutAt x (y ∷ cs)) ≤ suc (length (y ∷ cs)))
+    go true e t f ih = rw (e, cutAt) (omega arith)
+    go false e true f ih = rw (e, f, cutAt) (omega arith)
+    go false e false f ih = rw (e, f, cutAt) (omega arith)
+
+two-cuts : (ws : List ℕ) → 2 ≤ length (cutsOf ws)
+unfolding cutsOf
+two-cuts [] = omega arith
+two-cuts (w ∷ ws) = omega (arith, length-cutAt (w / 2048 % 2048) (cutAt (w % 2048) (cutsOf ws)), length-cutAt (w % 2048) (cutsOf ws), two-cuts ws)
+
+-- the cuts of k strokes, from stroke j on, at the front of a buffer
+pub record CutsLaid (cs₀ cs q : List ℕ) (k j m : ℕ) : Type 0 where
+  pub at-most : j ≤ k
+  pub laid : cs ≡ sets cs₀ 0 (cutsOf (part q j (k - j)))
+  pub counted : m ≡ length (cutsOf (part q j (k - j)))
+  pub few : m ≤ 2 * (k - j) + 2
+
+-- both bounds written, and what is laid over them
+pub cuts-base : (cs : List ℕ) (ws : List ℕ) → 2 ≤ length ws → sets (set (set cs 0 0) 1 1440) 0 ws ≡ sets cs 0 ws
+cuts-base cs ws h = sets-sets cs 0 (0 ∷ 1440 ∷ []) ws h
+
+pub cuts-start : (cs q : List ℕ) (k : ℕ) → CutsLaid (set (set cs 0 0) 1 1440) (set (set cs 0 0) 1 1440) q k k 2
+unfolding cutsOf part
+cuts-start cs q k =
+    let e : k - k ≡ 0 = omega arith in
+    record { at-most = omega arith; laid = sym (ap (λ n. sets (set (set cs 0 0) 1 1440) 0 (cutsOf (part q k n))) e ∙ cuts-base cs (0 ∷ 1440 ∷ []) (omega arith)); counted = sym (ap (λ n. length (cutsOf (part q k n))) e); few = omega arith }
+
+-- one cut more at the front
+module _ (cs₀ cs t : List ℕ) (x m r : ℕ) (words : List ℕ) (room : length words ≤ length cs₀) (e : cs ≡ sets cs₀ 0 words) (f : m ≡ length words)
+    (g : t ≡ sets cs 0 (cutAt x (part cs 0 m))) (h : r ≡ length (cutAt x (part cs 0 m))) where
+  read : part cs 0 m ≡ words
+  read = ap₂ (λ v n. part v 0 n) e f ∙ part-sets cs₀ 0 words (omega arith)
+
+  pub cut-laid : (t ≡ sets cs₀ 0 (cutAt x words)) × (r ≡ length (cutAt x words)) × (r ≤ suc m) × (m ≤ r)
+  cut-laid = (
+    g ∙ ap (λ w. sets cs 0 (cutAt x w)) read ∙ ap (λ v. sets v 0 (cutAt x words)) e ∙ sets-sets cs₀ 0 words (cutAt x words) (length-cutAt x words .0),
+    h ∙ ap (λ w. length (cutAt x w)) read,
+    omega (arith, h ∙ ap (λ w. length (cutAt x w)) read, length-cutAt x words),
+    omega (arith, h ∙ ap (λ w. length (cutAt x w)) read, length-cutAt x words),
+  )
+
+pub cuts-more : (cs₀ cs q : List ℕ) (k j m : ℕ) → 2 * k + 2 ≤ length cs₀ → CutsLaid cs₀ cs q k j m → 0 < j
+    → (t u : List ℕ) (r w : ℕ) → t ≡ sets cs 0 (cutAt (getD q (j - 1) 0 % 2048) (part cs 0 m)) → r ≡ length (cutAt (getD q (j - 1) 0 % 2048) (part cs 0 m))
+    → u ≡ sets t 0 (cutAt (getD q (j - 1) 0 / 2048 % 2048) (part t 0 r)) → w ≡ length (cutAt (getD q (j - 1) 0 / 2048 % 2048) (part t 0 r))
+    → CutsLaid cs₀ u q k (j - 1) w
+unfolding cutsOf part
+cuts-more cs₀ cs q k j m room l pos t u r w a b c d =
+    let words = cutsOf (part q j (k - j)) in
+    let first = cut-laid cs₀ cs t (getD q (j - 1) 0 % 2048) m r (cutsOf (part q j (k - j))) (omega (arith, l .few, l .counted, l .at-most)) (l .laid) (l .counted) a b in
+    let second = cut-laid cs₀ t u (getD q (j - 1) 0 / 2048 % 2048) r w (cutAt (getD q (j - 1) 0 % 2048) (cutsOf (part q j (k - j))))
+    (omega (arith, first .1, first .2, l .few, l .at-most)) (first .0) (first .1) c d in
+    let n : k - (j - 1) ≡ suc (k - j) = omega (arith, l .at-most) in
+    let p : j - 1 + 1 ≡ j = omega arith in
+    let z : cutsOf (part q (j - 1) (k - (j - 1))) ≡ cutAt (getD q (j - 1) 0 / 2048 % 2048) (cutAt (getD q (j - 1) 0 % 2048) (cutsOf (part q j (k - j)))) =
+    ap (λ v. cutsOf (part q (j - 1) v)) n ∙ ap (λ v. cutAt (getD q (j - 1) 0 / 2048 % 2048) (cutAt (getD q (j - 1) 0 % 2048) (cutsOf (part q v (k - j))))) p in
+    record {
+      at-most = omega (arith, l .at-most);
+      laid = second .0 ∙ ap (sets cs₀ 0) (sym z);
+      counted = second .1 ∙ ap length (sym z);
+      few = omega (arith, first .2, second .2, l .few, l .at-most);
+    }
+
+pub cuts-end : (cs₀ cs q : List ℕ) (k j m : ℕ) → CutsLaid (set (set cs₀ 0 0) 1 1440) cs q k j m → j ≡ 0 → (cs ≡ sets cs₀ 0 (cutsOf (part q 0 k))) × (m ≡ length (cutsOf (part q 0 k))) × (2 ≤ m) × (m ≤ 2 * k + 2)
+cuts-end cs₀ cs q k j m l e =
+    let n : k - j ≡ k = omega arith in
+    let z : cutsOf (part q j (k - j)) ≡ cutsOf (part q 0 k) = ap₂ (λ a b. cutsOf (part q a b)) e n in
+    (l .laid ∙ ap (sets (set (set cs₀ 0 0) 1 1440) 0) z ∙ cuts-base cs₀ (cutsOf (part q 0 k)) (two-cuts (part q 0 k)), l .counted ∙ ap length z, omega (arith, l .counted, two-cuts (part q j (k - j))), omega (arith, l .few))
+
+-- ## Cells
+pub cells-more : (vs cs strokes : List ℕ) (j n x : ℕ) → j < n → x ≡ shown 65536 strokes (getD cs j 0)
+    → sets (set vs j x) (j + 1) (cellsOf strokes (part cs (j + 1) (n - (j + 1)))) ≡ sets vs j (cellsOf strokes (part cs j (n - j)))
+unfolding cellsOf part
+cells-more vs cs strokes j n x h e =
+    ap (λ v. sets (set vs j v) (j + 1) (cellsOf strokes (part cs (j + 1) (n - (j + 1))))) e
+    ∙ sets-next vs j (shown 65536 strokes (getD cs j 0)) (cellsOf strokes (part cs (j + 1) (n - (j + 1)))) ∙ sym (ap (λ m. sets vs j (cellsOf strokes (part cs j m))) (left-in j n h))
+
+pub cells-start : (vs cs strokes : List ℕ) (n : ℕ) → sets vs 0 (cellsOf strokes (part cs 0 (n - 0))) ≡ sets vs 0 (cellsOf strokes (part cs 0 n))
+cells-start vs cs strokes n = let z : n - 0 ≡ n = omega arith in ap (λ m. sets vs 0 (cellsOf strokes (part cs 0 m))) z
+
+pub cells-end : (vs cs strokes : List ℕ) (j n : ℕ) → n ≤ j → vs ≡ sets vs j (cellsOf strokes (part cs j (n - j)))
+unfolding cellsOf part
+cells-end vs cs strokes j n h = sym (ap (λ m. sets vs j (cellsOf strokes (part cs j m))) (left-none j n h))
+
+pub stroke-made : (state span w s e : ℕ) → w ≡ state → s ≡ span / 8589934592 → e ≡ span / 16384 % 524288 → w * 4194304 + s * 2048 + e ≡ strokeNumber state span
+unfolding strokeNumber
+stroke-made state span w s e h k l = rw (h, k, l)

@@ -1,0 +1,47 @@
+-- Painting, in numbers. A stroke is a simple span with its state: state, start and end as digits of one number.
+-- Assumes nothing.
+use mathlib.Core.List.{List, [], _∷_, map}
+use mathlib.Core.Bool.{true, false, _&&_, cond}
+use Prim.Native.Nat.{ℕ, zero, suc, _+_, _*_, _/_, _%_}
+use lib.Dec.{eqb, leb, ltb}
+use lib.ListN.{getD}
+use Rattle.grid.specs.Cut.{cutAt}
+use Rattle.definition.specs.Day.{simple}
+use Rattle.span_number.specs.Number.{spanAt}
+
+unfoldable pub strokeNumber : ℕ → ℕ → ℕ
+strokeNumber state span = state * 4194304 + span / 8589934592 * 2048 + span / 16384 % 524288
+
+-- ## Which spans paint, along a list of states and spans
+-- the simple spans of the run of a state
+unfoldable pub strokesOfRun : List ℕ → List ℕ → ℕ → ℕ → ℕ → List ℕ
+strokesOfRun states spans S i zero = []
+strokesOfRun states spans S i (suc r) = elim (eqb (getD states i 0) S) [
+  | false ↦ []
+  | true ↦ elim (simple (spanAt (getD spans i 0))) [ true ↦ strokeNumber (getD states i 0) (getD spans i 0) ∷ strokesOfRun states spans S (i + 1) r | false ↦ strokesOfRun states spans S (i + 1) r ]
+]
+
+unfoldable pub strokesFrom : List ℕ → List ℕ → ℕ → ℕ → List ℕ
+strokesFrom states spans i zero = []
+strokesFrom states spans i (suc r) = elim (simple (spanAt (getD spans i 0))) [
+  | true ↦ strokeNumber (getD states i 0) (getD spans i 0) ∷ strokesFrom states spans (i + 1) r
+  | false ↦ strokesOfRun states spans (getD states i 0) (i + 1) r
+]
+
+-- ## What strokes show
+unfoldable pub strokeOver : ℕ → ℕ → ℕ → ℕ
+strokeOver x m S = cond (leb (x / 2048 % 2048) m && ltb m (x % 2048)) (x / 4194304) S
+
+-- the state of the last stroke that covers the minute
+unfoldable pub shown : ℕ → List ℕ → ℕ → ℕ
+shown S [] m = S
+shown S (x ∷ strokes) m = shown (strokeOver x m S) strokes m
+
+-- ## Cuts and cells
+unfoldable pub cutsOf : List ℕ → List ℕ
+cutsOf [] = 0 ∷ 1440 ∷ []
+cutsOf (x ∷ strokes) = cutAt (x / 2048 % 2048) (cutAt (x % 2048) (cutsOf strokes))
+
+-- the state of each interval, at its start
+unfoldable pub cellsOf : List ℕ → List ℕ → List ℕ
+cellsOf strokes cuts = map (shown 65536 strokes) cuts

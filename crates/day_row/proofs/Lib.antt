@@ -1,0 +1,3 @@
+pub mod RowWays
+pub mod MeanRuns
+pub mod MeanClass

@@ -1,0 +1,120 @@
+// The states of the intervals, swept class after class.
+use span_number::span;
+use span_number::state_class;
+use words::write_entry;
+ghost use mathlib.Core.Path.{_≡_};
+ghost use Prim.Native.Nat.{ℕ, _+_, _*_, _-_, _<_, _≤_};
+ghost use lib.ListN.{length, getD};
+ghost use lib.Seq.{sets};
+ghost use Rattle.day_row.specs.Row.{runUpTo, runsFrom, clearFrom, classWords, classLeft, classesWords};
+
+// Writes the run from a up to c, where there is one; answers how many words.
+fn write_run(buf: &mut [u64], at: usize, a: u64, c: u64) -> usize
+    requires { ⌜ (at < length (now buf)) × (a < 524288) × (c < 524288) ⌝ }
+    ensures { λ r. ⌜ (now (buf .exit) ≡ sets (now (buf .entry)) at (runUpTo a c)) × (r ≡ length (runUpTo a c)) × (r ≤ 1) ⌝ }
+{
+    if a < c {
+        buf[at] = span(a, c, 0, 0);
+        return 1;
+    }
+    0
+}
+
+// Writes the runs of a state from interval j on, where a run goes on from a; answers how many.
+fn write_runs(
+    buf: &mut [u64],
+    at: usize,
+    cuts: &[u64],
+    cells: &[u64],
+    s: u64,
+    a: u64,
+    j: usize,
+    n: usize,
+) -> usize
+    requires { ⌜ (j ≤ n) × (at + (n - j) < length (now buf)) × (n < length (now cuts)) × (n ≤ length (now cells)) × (a < 524288) ⌝ }
+    requires { ⌜ ((k : ℕ) → k ≤ n → getD (now cuts) k 0 < 524288) ⌝ }
+    ensures { λ r. ⌜ (now (buf .exit) ≡ sets (now (buf .entry)) at (runsFrom (now (cuts .entry)) (now (cells .entry)) s a j (n - j)))
+        × (r ≡ length (runsFrom (now (cuts .entry)) (now (cells .entry)) s a j (n - j))) × (r ≤ n - j + 1) ⌝ }
+{
+    let c = cuts[j];
+    if j < n {
+        if cells[j] == s {
+            return write_runs(buf, at, cuts, cells, s, a, j + 1, n);
+        }
+        let d = cuts[j + 1];
+        let m = write_run(buf, at, a, c);
+        let r = write_runs(buf, at + m, cuts, cells, s, d, j + 1, n);
+        return m + r;
+    }
+    write_run(buf, at, a, c)
+}
+
+// Empties the cells of a state from j on.
+fn clear(cells: &mut [u64], s: u64, j: usize, n: usize)
+    requires { ⌜ n ≤ length (now cells) ⌝ }
+    ensures { λ _. ⌜ now (cells .exit) ≡ clearFrom (now (cells .entry)) s j (n - j) ⌝ }
+{
+    if j < n {
+        if cells[j] == s {
+            cells[j] = 65536;
+            clear(cells, s, j + 1, n);
+        } else {
+            clear(cells, s, j + 1, n);
+        }
+    }
+}
+
+// Writes the entries of a class from interval j on and empties their cells; answers the place after them.
+fn sweep_class(
+    out: &mut [u64],
+    at: usize,
+    buf: &mut [u64],
+    cuts: &[u64],
+    cells: &mut [u64],
+    class: u8,
+    j: usize,
+    n: usize,
+) -> usize
+    requires { ⌜ (j ≤ n) × (n ≤ 65536) × (at + (n - j) * 65539 < 1099511627776) ⌝ }
+    requires { ⌜ (n < length (now buf)) × (n < length (now cuts)) × (n ≤ length (now cells)) ⌝ }
+    requires { ⌜ ((k : ℕ) → k ≤ n → getD (now cuts) k 0 < 524288) ⌝ }
+    ensures { λ r. ⌜ (now (out .exit) ≡ sets (now (out .entry)) at (classWords (now (cuts .entry)) class (now (cells .entry)) j (n - j)))
+        × (r ≡ at + length (classWords (now (cuts .entry)) class (now (cells .entry)) j (n - j)))
+        × (now (cells .exit) ≡ classLeft class (now (cells .entry)) j (n - j)) × (r ≤ at + (n - j) * 65539) ⌝ }
+{
+    if j < n {
+        let s = cells[j];
+        if state_class(s) == class {
+            let c = cuts[j];
+            let r = write_runs(buf, 0, cuts, cells, s, c, j, n);
+            let next = write_entry(out, at, s, buf, r);
+            clear(cells, s, j, n);
+            return sweep_class(out, next, buf, cuts, cells, class, j + 1, n);
+        }
+        return sweep_class(out, at, buf, cuts, cells, class, j + 1, n);
+    }
+    at
+}
+
+// The painted states, class after class from this one on; answers the place after them.
+pub fn sweep_classes(
+    out: &mut [u64],
+    at: usize,
+    buf: &mut [u64],
+    cuts: &[u64],
+    cells: &mut [u64],
+    class: u8,
+    n: usize,
+) -> usize
+    requires { ⌜ (n ≤ 65536) × (1 ≤ class) × (class ≤ 6) × (at + (6 - class) * 4295163904 < 1099511627776) ⌝ }
+    requires { ⌜ (n < length (now buf)) × (n < length (now cuts)) × (n ≤ length (now cells)) ⌝ }
+    requires { ⌜ ((k : ℕ) → k ≤ n → getD (now cuts) k 0 < 524288) ⌝ }
+    ensures { λ r. ⌜ (now (out .exit) ≡ sets (now (out .entry)) at (classesWords (now (cuts .entry)) n class (now (cells .entry)) (6 - class)))
+        × (r ≡ at + length (classesWords (now (cuts .entry)) n class (now (cells .entry)) (6 - class))) × (r < 1099511627776) ⌝ }
+{
+    if class > 5 {
+        return at;
+    }
+    let next = sweep_class(out, at, buf, cuts, cells, class, 0, n);
+    sweep_classes(out, next, buf, cuts, cells, class + 1, n)
+}
