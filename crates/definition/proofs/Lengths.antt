@@ -1,14 +1,16 @@
--- How far the reading of each item goes at most: from a time's 19 bits to a span's 52. Rests on the laws of readings.
+-- How far the reading of each item goes at most, from a time's 19 bits to a span's 52; and how far a rule's. Rests on the laws of readings.
 -- Assumes nothing.
 use mathlib.Core.Path.{_≡_, refl}
+use mathlib.Core.List.{List}
 use mathlib.Core.Option.{none}
 use mathlib.Core.Bool.{Bool, true, false}
-use Prim.Native.Nat.{ℕ, _≤_}
+use Prim.Native.Nat.{ℕ, _+_, _*_, _≤_}
 use native.Mathlib.Omega.{arith}
 use lib.Dec.{eqb}
-use Rattle.definition.specs.Field.{Layout, noBits}
-use Rattle.definition.specs.Sheet.{yearRange, monthsLayout, monthsOfLayout, monthdayOf, monthdayRange, weekRange, holidayLayout, weekdayOf, weekDayRange, fixedLayout, timeOf, time, repeatsOf, repeatsLayout, span}
-use Rattle.definition.proofs.Reading.{Short, field-short, none-short, then-short, via-short, tagged-short}
+use borrow.Author.Tests.{leb-true}
+use Rattle.definition.specs.Field.{got, Layout, noBits}
+use Rattle.definition.specs.Sheet.{yearRange, monthsLayout, monthsOfLayout, monthdayOf, monthdayRange, weekRange, holidayLayout, weekdayOf, weekDayRange, fixedLayout, timeOf, time, repeatsOf, repeatsLayout, span, form1, limits1, Counts, Title, Head, title, counts, head, body, rule}
+use Rattle.definition.proofs.Reading.{then-parts, via-parts, tagged-parts, field-passed, Short, field-end, field-short, none-short, then-short, via-short, tagged-short, several-short}
 
 -- what is short enough is shorter than more
 less : {A : Type 0} (L : Layout A) (m n : ℕ) → m ≤ n → Short L m → Short L n
@@ -71,3 +73,58 @@ repeats-body t = go (eqb t 0) refl
 pub span-short : Short span 52
 unfolding span repeatsLayout
 span-short = via-short _ _ _ 52 (then-short _ _ 19 33 time-short (then-short _ _ 19 14 time-short (then-short _ _ 1 13 (field-short _ _ 1) (tagged-short _ _ _ 1 12 (field-short _ _ 1) repeats-body))))
+
+-- ## How far a rule goes
+-- counts keep their limit, and take fifty bits
+pub counts-low : (s : List ℕ) (p : ℕ) (n : Counts) (q : ℕ) → (counts form1 limits1) .read s p ≡ got n q
+    → (n .0 ≤ limits1 .items) × (n .1 .0 ≤ limits1 .items) × (n .1 .1 .0 ≤ limits1 .items) × (n .1 .1 .1 .0 ≤ limits1 .items) × (n .1 .1 .1 .1 ≤ limits1 .spans) × (q ≡ p + 50)
+unfolding counts
+counts-low s p n q e =
+    let y = then-parts _ _ s p n q e in
+    let m = then-parts _ _ s (y .0) (n .1) q (y .2) in
+    let w = then-parts _ _ s (m .0) (n .1 .1) q (m .2) in
+    let d = then-parts _ _ s (w .0) (n .1 .1 .1) q (w .2) in (
+      leb-true _ _ (field-passed _ _ _ s p _ _ (y .1)),
+      leb-true _ _ (field-passed _ _ _ s (y .0) _ _ (m .1)),
+      leb-true _ _ (field-passed _ _ _ s (m .0) _ _ (w .1)),
+      leb-true _ _ (field-passed _ _ _ s (w .0) _ _ (d .1)),
+      leb-true _ _ (field-passed _ _ _ s (d .0) _ _ (d .2)),
+      omega (
+        arith,
+        field-end _ _ 10 s p (n .0) (y .0) (y .1),
+        field-end _ _ 10 s (y .0) (n .1 .0) (m .0) (m .1),
+        field-end _ _ 10 s (m .0) (n .1 .1 .0) (w .0) (w .1),
+        field-end _ _ 10 s (w .0) (n .1 .1 .1 .0) (d .0) (d .1),
+        field-end _ _ 10 s (d .0) (n .1 .1 .1 .1) q (d .2),
+      ),
+    )
+
+-- a title takes twenty
+pub title-end : (s : List ℕ) (p : ℕ) (t : Title) (q : ℕ) → (title form1 limits1) .read s p ≡ got t q → q ≡ p + 20
+unfolding title
+title-end s p t q e =
+    let o = then-parts _ _ s p t q e in
+    let k = then-parts _ _ s (o .0) (t .1) q (o .2) in
+    let a = via-parts _ _ _ s p _ _ (o .1) in
+    let b = via-parts _ _ _ s (o .0) _ _ (k .1) in
+    omega (arith, field-end _ _ 2 s p (a .0) (o .0) (a .1), field-end _ _ 2 s (o .0) (b .0) (k .0) (b .1), field-end _ _ 16 s (k .0) (t .1 .1) q (k .2))
+
+body-short : (n : Counts) → Short (body form1 limits1 n) (n .0 * 44 + (n .1 .0 * 34 + (n .1 .1 .0 * 20 + (n .1 .1 .1 .0 * 33 + n .1 .1 .1 .1 * 52))))
+unfolding body
+body-short n =
+    then-short _ _ _ _ (several-short _ 44 years-short (n .0)) (then-short _ _ _ _ (several-short _ 34 monthdays-short (n .1 .0))
+    (then-short _ _ _ _ (several-short _ 20 weeks-short (n .1 .1 .0)) (then-short _ _ _ _ (several-short _ 33 weekdays-short (n .1 .1 .1 .0)) (several-short _ 52 span-short (n .1 .1 .1 .1)))))
+
+head-parts : (s : List ℕ) (p : ℕ) (h : Head) (q : ℕ) → (head form1 limits1) .read s p ≡ got h q
+    → (j : ℕ) × ((title form1 limits1) .read s p ≡ got (h .0) j) × ((counts form1 limits1) .read s j ≡ got (h .1) q)
+unfolding head
+head-parts s p h q e = then-parts _ _ s p h q e
+
+-- "16 items of each sort, 16 spans": 70 bits of head, then 183 bits sixteen times
+pub rule-short : Short (rule form1 limits1) 2998
+unfolding rule
+rule-short s p r q e =
+    let w = tagged-parts _ _ _ s p r q e in
+    let k = head-parts s p (w .0) (w .1) (w .2) in
+    let low = counts-low s (k .0) (w .0 .1) (w .1) (k .2) in
+    omega (arith, title-end s p (w .0 .0) (k .0) (k .1), low .0, low .1, low .2, low .3, low .4, low .5, via-short _ _ _ _ (body-short (w .0 .1)) s (w .1) r q (w .3))

@@ -63,6 +63,43 @@ then-parts {A} {B} L M s p v q e = go (L .read s p) refl e
     go (refused c i) h g = clash c i v q g
     go (got x j) h g = later x j h (M .read s j) refl g
 
+-- what was made of another value
+pub via-parts : {A B : Type 0} (make : A → B) (parts : B → A) (L : Layout A) (s : List ℕ) (p : ℕ) (y : B) (q : ℕ) → (via make parts L) .read s p ≡ got y q
+    → (x : A) × (L .read s p ≡ got x q) × (make x ≡ y)
+unfolding via
+via-parts {A} {B} make parts L s p y q e = go (L .read s p) refl e
+  where
+    go : (r : Read A) → L .read s p ≡ r → andThen (λ x j. got (make x) j) r ≡ got y q → (x : A) × (L .read s p ≡ got x q) × (make x ≡ y)
+    go (refused c i) h g = clash c i y q g
+    go (got x j) h g = let z : j ≡ q = cc in let m : make x ≡ y = cc in (x, h ∙ ap (got x) z, m)
+
+-- a tag, and what it asked for
+pub tagged-parts : {A B : Type 0} (L : Layout A) (M : A → Layout B) (tag : B → A) (s : List ℕ) (p : ℕ) (y : B) (q : ℕ) → (tagged L M tag) .read s p ≡ got y q
+    → (t : A) × (j : ℕ) × (L .read s p ≡ got t j) × ((M t) .read s j ≡ got y q)
+unfolding tagged
+tagged-parts {A} L M tag s p y q e = go (L .read s p) refl e
+  where
+    go : (r : Read A) → L .read s p ≡ r → andThen (λ t j. (M t) .read s j) r ≡ got y q → (t : A) × (j : ℕ) × (L .read s p ≡ got t j) × ((M t) .read s j ≡ got y q)
+    go (refused c i) h g = clash c i y q g
+    go (got t j) h g = (t, j, h, g)
+
+-- the first of several, and the others
+pub all-parts : {A : Type 0} (r : List ℕ → ℕ → Read A) (n : ℕ) (s : List ℕ) (p : ℕ) (xs : List A) (q : ℕ) → readAll r (suc n) s p ≡ got xs q
+    → (x : A) × (j : ℕ) × (ys : List A) × (r s p ≡ got x j) × (readAll r n s j ≡ got ys q) × (x ∷ ys ≡ xs)
+unfolding readAll
+all-parts {A} r n s p xs q e = first (r s p) refl e
+  where
+    Parts : Type 0
+    Parts = (x : A) × (j : ℕ) × (ys : List A) × (r s p ≡ got x j) × (readAll r n s j ≡ got ys q) × (x ∷ ys ≡ xs)
+
+    second : (x : A) (j : ℕ) → r s p ≡ got x j → (w : Read (List A)) → readAll r n s j ≡ w → andThen (λ ys i. got (x ∷ ys) i) w ≡ got xs q → Parts
+    second x j h (refused c i) k g = clash c i xs q g
+    second x j h (got ys i) k g = let z : i ≡ q = cc in let m : x ∷ ys ≡ xs = cc in (x, j, ys, h, k ∙ ap (got ys) z, m)
+
+    first : (w : Read A) → r s p ≡ w → andThen (λ x j. andThen (λ ys i. got (x ∷ ys) i) (readAll r n s j)) w ≡ got xs q → Parts
+    first (refused c i) h g = clash c i xs q g
+    first (got x j) h g = second x j h (readAll r n s j) refl g
+
 -- a value that was read passed its test
 pub field-passed : (c : ℕ) (ok : ℕ → Bool) (w : ℕ) (s : List ℕ) (p v q : ℕ) → (field c ok w) .read s p ≡ got v q → ok v ≡ true
 unfolding field readField
@@ -95,50 +132,19 @@ unfolding noBits
 none-short x s p y q e = let z : p ≡ q = cc in omega arith
 
 pub then-short : {A B : Type 0} (L : Layout A) (M : Layout B) (m n : ℕ) → Short L m → Short M n → Short (L then M) (m + n)
-unfolding _then_
-then-short {A} {B} L M m n a b s p v q e = go (L .read s p) refl e
-  where
-    later : (x : A) (j : ℕ) → L .read s p ≡ got x j → (r : Read B) → M .read s j ≡ r → andThen (λ y i. got (x, y) i) r ≡ got v q → (p ≤ q) × (q ≤ p + (m + n))
-    later x j h (refused c i) k g = clash c i v q g
-    later x j h (got y i) k g = let z : i ≡ q = cc in omega (arith, a s p x j h, b s j y i k)
-
-    go : (r : Read A) → L .read s p ≡ r → andThen (λ x j. andThen (λ y i. got (x, y) i) (M .read s j)) r ≡ got v q → (p ≤ q) × (q ≤ p + (m + n))
-    go (refused c i) h g = clash c i v q g
-    go (got x j) h g = later x j h (M .read s j) refl g
+then-short L M m n a b s p v q e = let k = then-parts L M s p v q e in omega (arith, a s p (v .0) (k .0) (k .1), b s (k .0) (v .1) q (k .2))
 
 pub via-short : {A B : Type 0} (make : A → B) (parts : B → A) (L : Layout A) (n : ℕ) → Short L n → Short (via make parts L) n
-unfolding via
-via-short {A} make parts L n a s p y q e = go (L .read s p) refl e
-  where
-    go : (r : Read A) → L .read s p ≡ r → andThen (λ x j. got (make x) j) r ≡ got y q → (p ≤ q) × (q ≤ p + n)
-    go (refused c i) h g = clash c i y q g
-    go (got x j) h g = let z : j ≡ q = cc in omega (arith, a s p x j h)
+via-short make parts L n a s p y q e = let k = via-parts make parts L s p y q e in a s p (k .0) q (k .1)
 
 pub tagged-short : {A B : Type 0} (L : Layout A) (M : A → Layout B) (tag : B → A) (m n : ℕ) → Short L m → ((t : A) → Short (M t) n) → Short (tagged L M tag) (m + n)
-unfolding tagged
-tagged-short {A} L M tag m n a b s p y q e = go (L .read s p) refl e
-  where
-    go : (r : Read A) → L .read s p ≡ r → andThen (λ t j. (M t) .read s j) r ≡ got y q → (p ≤ q) × (q ≤ p + (m + n))
-    go (refused c i) h g = clash c i y q g
-    go (got t j) h g = omega (arith, a s p t j h, b t s j y q g)
+tagged-short L M tag m n a b s p y q e = let k = tagged-parts L M tag s p y q e in omega (arith, a s p (k .0) (k .1) (k .2), b (k .0) s (k .1) y q (k .3))
 
 all-short : {A : Type 0} (L : Layout A) (m : ℕ) → Short L m → (n : ℕ) (s : List ℕ) (p : ℕ) (xs : List A) (q : ℕ) → readAll (L .read) n s p ≡ got xs q → (p ≤ q) × (q ≤ p + n * m)
 unfolding readAll
 all-short L m a zero s p xs q e = let z : p ≡ q = cc in omega arith
-all-short {A} L m a (suc n) s p xs q e = first (L .read s p) refl e (all-short L m a n s)
-  where
-    Rest : Type 0
-    Rest = (p : ℕ) (ys : List A) (q : ℕ) → readAll (L .read) n s p ≡ got ys q → (p ≤ q) × (q ≤ p + n * m)
-
-    second : (x : A) (j : ℕ) → L .read s p ≡ got x j → (r : Read (List A)) → readAll (L .read) n s j ≡ r → andThen (λ ys i. got (x ∷ ys) i) r ≡ got xs q
-        → Rest → (p ≤ q) × (q ≤ p + suc n * m)
-    second x j h (refused c i) k g ih = clash c i xs q g
-    second x j h (got ys i) k g ih = let z : i ≡ q = cc in omega (arith, a s p x j h, ih j ys i k)
-
-    first : (r : Read A) → L .read s p ≡ r → andThen (λ x j. andThen (λ ys i. got (x ∷ ys) i) (readAll (L .read) n s j)) r ≡ got xs q
-        → Rest → (p ≤ q) × (q ≤ p + suc n * m)
-    first (refused c i) h g ih = clash c i xs q g
-    first (got x j) h g ih = second x j h (readAll (L .read) n s j) refl g ih
+all-short L m a (suc n) s p xs q e =
+    let k = all-parts (L .read) n s p xs q e in omega (arith, a s p (k .0) (k .1) (k .3), all-short L m a n s (k .1) (k .2) q (k .4))
 
 pub several-short : {A : Type 0} (L : Layout A) (m : ℕ) → Short L m → (n : ℕ) → Short (several n L) (n * m)
 unfolding several

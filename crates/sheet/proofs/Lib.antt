@@ -6,3 +6,4 @@ pub mod RuleRows
 pub mod Endings
 pub mod Whole
 pub mod Backs
+pub mod Begins

@@ -2,13 +2,10 @@
 -- Assumes nothing.
 use mathlib.Core.Path.{_≡_, refl, sym, ap, _∙_}
 use mathlib.Core.List.{List}
-use Prim.Native.Nat.{ℕ, _+_, _≤_}
-use native.Mathlib.Omega.{arith}
-use borrow.Author.Tests.{leb-true}
+use Prim.Native.Nat.{ℕ}
 use Rattle.definition.specs.Field.{Read, got, refused, andThen, _then_, via, tagged}
 use Rattle.definition.specs.Rule.{operatorOf, kindOf}
 use Rattle.definition.specs.Sheet.{form1, limits1, Title, Counts, Body, ruleWith, title, counts, head, body, rule}
-use Rattle.definition.proofs.Reading.{then-parts, field-passed, field-end, Short, field-short, then-short, via-short}
 use Rattle.sheet.specs.declared.rule.CountsRead.{CountsRead}
 use Rattle.sheet.specs.declared.rule.CountsRead.the-variants as countsRead
 use Rattle.sheet.specs.declared.rule.TitleRead.{TitleRead}
@@ -43,35 +40,6 @@ module _ (s : List ℕ) (p : ℕ) where
   pub rule-stops : (c q : ℕ) → (title form1 limits1) .read s p ≡ refused c q → ends ((rule form1 limits1) .read s p) ≡ refused c q
   unfolding rule tagged head _then_
   rule-stops c q e = rw e
-
--- ## How far a rule goes
--- counts keep their limit, and take fifty bits
-pub counts-low : (s : List ℕ) (p : ℕ) (n : Counts) (q : ℕ) → (counts form1 limits1) .read s p ≡ got n q
-    → (n .0 ≤ limits1 .items) × (n .1 .0 ≤ limits1 .items) × (n .1 .1 .0 ≤ limits1 .items) × (n .1 .1 .1 .0 ≤ limits1 .items) × (n .1 .1 .1 .1 ≤ limits1 .spans) × (q ≡ p + 50)
-unfolding counts
-counts-low s p n q e =
-    let y = then-parts _ _ s p n q e in
-    let m = then-parts _ _ s (y .0) (n .1) q (y .2) in
-    let w = then-parts _ _ s (m .0) (n .1 .1) q (m .2) in
-    let d = then-parts _ _ s (w .0) (n .1 .1 .1) q (w .2) in (
-      leb-true _ _ (field-passed _ _ _ s p _ _ (y .1)),
-      leb-true _ _ (field-passed _ _ _ s (y .0) _ _ (m .1)),
-      leb-true _ _ (field-passed _ _ _ s (m .0) _ _ (w .1)),
-      leb-true _ _ (field-passed _ _ _ s (w .0) _ _ (d .1)),
-      leb-true _ _ (field-passed _ _ _ s (d .0) _ _ (d .2)),
-      omega (
-        arith,
-        field-end _ _ 10 s p (n .0) (y .0) (y .1),
-        field-end _ _ 10 s (y .0) (n .1 .0) (m .0) (m .1),
-        field-end _ _ 10 s (m .0) (n .1 .1 .0) (w .0) (w .1),
-        field-end _ _ 10 s (w .0) (n .1 .1 .1 .0) (d .0) (d .1),
-        field-end _ _ 10 s (d .0) (n .1 .1 .1 .1) q (d .2),
-      ),
-    )
-
-pub title-short : Short (title form1 limits1) 20
-unfolding title
-title-short = then-short _ _ 2 18 (via-short _ _ _ 2 (field-short _ _ 2)) (then-short _ _ 2 16 (via-short _ _ _ 2 (field-short _ _ 2)) (field-short _ _ 16))
 
 -- what a reader of the head says, once its case is known
 pub took-counts : {r : Read Counts} (t : CountsRead) (y m w d n q : ℕ) → asCounts t ≡ r → t ≡ countsRead.Counts y m w d n q → r ≡ got (y, (m, (w, (d, n)))) q

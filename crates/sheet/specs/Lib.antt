@@ -1,4 +1,5 @@
 pub mod End
 pub mod Head
 pub mod Rules
+pub mod Begin
 pub mod Back

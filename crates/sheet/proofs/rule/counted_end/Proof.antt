@@ -3,7 +3,8 @@
 use mathlib.Core.Path.{sym, _∙_}
 use native.Mathlib.Omega.{arith}
 use borrow.Author.Needs.{needs}
-use Rattle.sheet.proofs.RuleEnds.{counted-goes, counted-stops, counts-low, took-counts, stopped-counts}
+use Rattle.definition.proofs.Lengths.{counts-low}
+use Rattle.sheet.proofs.RuleEnds.{counted-goes, counted-stops, took-counts, stopped-counts}
 use Rattle.sheet.proofs.rule.counted_end.Statement.{statement}
 use Rattle.sheet.proofs.rule.counted_end.Tie as tie
 

@@ -1,16 +1,17 @@
--- `sheet::rule::rule_end` meets its contract: a title of at most twenty bits, then what is counted.
+-- `sheet::rule::rule_end` meets its contract: a title of twenty bits, then what is counted.
 -- Assumes nothing.
 use mathlib.Core.Path.{sym, _∙_}
 use native.Mathlib.Omega.{arith}
 use borrow.Author.Needs.{needs}
-use Rattle.sheet.proofs.RuleEnds.{rule-goes, rule-stops, title-short, took-title, stopped-title}
+use Rattle.definition.proofs.Lengths.{title-end}
+use Rattle.sheet.proofs.RuleEnds.{rule-goes, rule-stops, took-title, stopped-title}
 use Rattle.sheet.proofs.rule.rule_end.Statement.{statement}
 use Rattle.sheet.proofs.rule.rule_end.Tie as tie
 
 counted-end-requires : tie.Need-counted-end-requires
 counted-end-requires c κs =
-    let short = title-short _ _ _ _ (took-title _ _ _ _ _ (c .before .before .before .title-at .ensures) (c .before .head .given .1)) in
-    omega (arith, short)
+    let end = title-end _ _ _ _ (took-title _ _ _ _ _ (c .before .before .before .title-at .ensures) (c .before .head .given .1)) in
+    omega (arith, end)
 
 pub rule-end-spec : {M : Type 1} → statement M
 rule-end-spec =

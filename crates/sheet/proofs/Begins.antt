@@ -1,0 +1,140 @@
+-- The beginnings that a check notes are those of the rules that the definition reads: at each one its rule is read, and from it on up to
+-- the last rule's end stand the bits of the rules from it on.
+-- Assumes nothing.
+use mathlib.Core.Path.{_≡_, refl, sym, ap, ap₂, _∙_, subst}
+use mathlib.Core.List.{List, _∷_, flatMap}
+use mathlib.Core.Option.{Option, none, some}
+use mathlib.Core.Bool.{Bool, true, false}
+use Prim.Native.Nat.{ℕ, zero, suc, _+_, _*_, _-_, _≤_, _<_, _^_}
+use native.Mathlib.Omega.{arith}
+use lib.Dec.{ltb}
+use lib.ListN.{length, take, drop, getD, set, length-set}
+use lib.Seq.{getD-set-same, getD-set-other}
+use Rattle.definition.specs.Field.{Read, got, refused, andThen, badEnd, bytesFor, sheetBits, counted, readAll, several}
+use Rattle.definition.specs.Rule.{Rule}
+use Rattle.definition.specs.Sheet.{form1, limits1, rule, rules, firstSet, ended, decode}
+use Rattle.definition.proofs.Bits.{Bits, Bytes, sheet-bits}
+use Rattle.definition.proofs.Faithful.{Stand, clash, several-faithful}
+use Rattle.definition.proofs.Reading.{all-parts, tagged-parts}
+use Rattle.definition.proofs.Lengths.{rule-short}
+use Rattle.definition.proofs.SheetRead.{rule-faithful}
+use Rattle.sheet.specs.End.{ends}
+use Rattle.sheet.specs.Rules.{ruleEnds, noted, begun, checked}
+use Rattle.sheet.specs.Begin.{noRule, ruleOf, ruleAt, Readable}
+use Rattle.sheet.proofs.RuleRows.{noted-goes}
+use Rattle.sheet.proofs.Whole.{count-begun, count-low}
+
+-- the i-th of some rules that end at q begins at p
+pub record Begins (s : List ℕ) (q : ℕ) (rs : List Rule) (i p : ℕ) : Type 0 where
+  pub readable : Readable s p
+  pub begun-rule : ruleAt s p ≡ getD rs i noRule
+  pub low : p < 2 ^ 25
+  pub stands : Stand (flatMap ((rule form1 limits1) .write) (drop i rs)) s p q
+
+-- ## A rule that is read
+pub rule-read : (s : List ℕ) (p : ℕ) (r : Rule) (q : ℕ) → (rule form1 limits1) .read s p ≡ got r q → Readable s p × (ruleAt s p ≡ r)
+unfolding ruleAt
+rule-read s p r q e = (record { end = q; read = e ∙ ap (λ x. got x q) (sym (ap ruleOf e)) }, ap ruleOf e)
+
+-- ## Noted beginnings
+-- notes from place i on leave the places before it
+noted-before : (s : List ℕ) (n i p : ℕ) (begins : List ℕ) (k : ℕ) → k < i → getD (noted s n i p begins) k 0 ≡ getD begins k 0
+unfolding noted
+noted-before s zero i p begins k l = refl
+noted-before s (suc n) i p begins k l = go (ruleEnds s p) refl (λ q bs. noted-before s n (i + 1) q bs k (omega arith))
+  where
+    other : getD (set begins i p) k 0 ≡ getD begins k 0
+    other = getD-set-other begins i k p 0 (λ z. omega arith)
+
+    go : (w : Read (Unit {0})) → ruleEnds s p ≡ w → ((q : ℕ) (bs : List ℕ) → getD (noted s n (i + 1) q bs) k 0 ≡ getD bs k 0)
+        → getD (noted s (suc n) i p begins) k 0 ≡ getD begins k 0
+    go (got u q) h ih = rw (h, noted) (ih q (set begins i p) ∙ other)
+    go (refused c q) h ih = rw (h, noted) other
+
+module _ (s : List ℕ) (bits : Bits s) (q : ℕ) where
+  -- the rule noted first, and one that is noted later
+  first-begin : (n : ℕ) (rs : List Rule) (i p : ℕ) (begins : List ℕ) → i < length begins → p < 2 ^ 25 → readAll ((rule form1 limits1) .read) (suc n) s p ≡ got rs q
+      → Begins s q rs 0 (getD (noted s (suc n) i p begins) (i + 0) 0)
+  unfolding several
+  first-begin n rs i p begins room low e =
+      let w = all-parts ((rule form1 limits1) .read) n s p rs q e in
+      let first = rule-read s p (w .0) (w .1) (w .3) in
+      let z : i + 0 ≡ i = omega arith in
+      let here : getD (noted s (suc n) i p begins) (i + 0) 0 ≡ p =
+      ap (λ j. getD (noted s (suc n) i p begins) j 0) z ∙ ap (λ bs. getD bs i 0) (noted-goes s p i begins (suc n) n (w .1) refl (ap ends (w .3)))
+      ∙ noted-before s n (i + 1) (w .1) (set begins i p) i (omega arith) ∙ getD-set-same begins i p 0 room
+      in
+      subst (Begins s q rs 0) (sym here) (record {
+        readable = first .0;
+        begun-rule = first .1 ∙ ap (λ xs. getD xs 0 noRule) (w .5);
+        low = low;
+        stands = (several-faithful (rule-faithful form1 limits1) (suc n)) .written s bits p rs q e .2;
+      })
+
+  later-begin : (n : ℕ) (r : Rule) (rs : List Rule) (i p j : ℕ) (begins : List ℕ) → (rule form1 limits1) .read s p ≡ got r j → (k : ℕ)
+      → Begins s q rs k (getD (noted s n (i + 1) j (set begins i p)) (i + 1 + k) 0) → Begins s q (r ∷ rs) (suc k) (getD (noted s (suc n) i p begins) (i + suc k) 0)
+  later-begin n r rs i p j begins e k later =
+      let z : i + 1 + k ≡ i + suc k = omega arith in
+      let place : getD (noted s n (i + 1) j (set begins i p)) (i + 1 + k) 0 ≡ getD (noted s (suc n) i p begins) (i + suc k) 0 =
+      ap (λ m. getD (noted s n (i + 1) j (set begins i p)) m 0) z ∙ ap (λ bs. getD bs (i + suc k) 0) (sym (noted-goes s p i begins (suc n) n j refl (ap ends e)))
+      in
+      subst (Begins s q (r ∷ rs) (suc k)) place (record { readable = later .readable; begun-rule = later .begun-rule; low = later .low; stands = later .stands })
+
+  noted-begin : (n : ℕ) (rs : List Rule) (i p : ℕ) (begins : List ℕ) → i + n ≤ length begins → p + n * 2998 < 2 ^ 25 → readAll ((rule form1 limits1) .read) n s p ≡ got rs q
+      → (k : ℕ) → k < n → Begins s q rs k (getD (noted s n i p begins) (i + k) 0)
+  noted-begin zero rs i p begins room low e k l = absurd (omega arith)
+  noted-begin (suc n) rs i p begins room low e zero l = first-begin n rs i p begins (omega arith) (omega arith) e
+  noted-begin (suc n) rs i p begins room low e (suc k) l =
+      let w = all-parts ((rule form1 limits1) .read) n s p rs q e in
+      subst (λ xs. Begins s q xs (suc k) (getD (noted s (suc n) i p begins) (i + suc k) 0)) (w .5)
+      (later-begin n (w .0) (w .2) i p (w .1) begins (w .3) k
+      (noted-begin n (w .2) (i + 1) (w .1) (set begins i p) (omega (arith, length-set begins i p)) (omega (arith, rule-short s p (w .0) (w .1) (w .3))) (w .4) k (omega arith)))
+
+-- ## A whole sheet
+-- what is known to end well was read
+ended-got : {A : Type 0} (s : List ℕ) (x y : A) (q e : ℕ) → ended s x q ≡ got y e → got x q ≡ got y e
+unfolding ended
+ended-got {A} s x y q e h = first (firstSet (take (8 * bytesFor q - q) (drop q s)) q) refl
+  where
+    second : firstSet (take (8 * bytesFor q - q) (drop q s)) q ≡ none → (b : Bool) → ltb (8 * bytesFor q) (length s) ≡ b → got x q ≡ got y e
+    second f true k = clash badEnd (8 * bytesFor q) y e (rw (f, k, ended) at h)
+    second f false k = rw (f, k, ended) at h
+
+    first : (o : Option ℕ) → firstSet (take (8 * bytesFor q - q) (drop q s)) q ≡ o → got x q ≡ got y e
+    first (some p) f = clash badEnd p y e (rw (f, ended) at h)
+    first none f = second f (ltb (8 * bytesFor q) (length s)) refl
+
+module _ (sheet : List ℕ) (rs : List Rule) (q : ℕ) where
+  -- a count of rules, and as many rules
+  decode-parts : decode form1 limits1 sheet ≡ got rs q
+      → (n : ℕ) × (p : ℕ) × ((counted (form1 .ruleCount) (limits1 .rules)) .read (sheetBits sheet) 0 ≡ got n p) × (readAll ((rule form1 limits1) .read) n (sheetBits sheet) p ≡ got rs q)
+  unfolding decode rules several
+  decode-parts e = tagged-parts _ _ _ (sheetBits sheet) 0 rs q (go ((rules form1 limits1) .read (sheetBits sheet) 0) refl e)
+    where
+      go : (w : Read (List Rule)) → (rules form1 limits1) .read (sheetBits sheet) 0 ≡ w → andThen (ended (sheetBits sheet)) w ≡ got rs q
+          → (rules form1 limits1) .read (sheetBits sheet) 0 ≡ got rs q
+      go (refused c p) h g = clash c p rs q g
+      go (got x j) h g = h ∙ ended-got (sheetBits sheet) x rs j q g
+
+  -- WHERE RULES BEGIN
+  pub rules-begin : Bytes sheet → decode form1 limits1 sheet ≡ got rs q → (begins : List ℕ) → 64 ≤ length begins
+      → (i : ℕ) → i < length rs → Begins (sheetBits sheet) q rs i (getD (begun sheet begins) i 0)
+  unfolding several
+  rules-begin b e begins room i l =
+      let w = decode-parts e in
+      let s = sheetBits sheet in
+      let low = count-low sheet b (w .0) (w .1) (w .2) in
+      let long = several-faithful (rule-faithful form1 limits1) (w .0) .written s (sheet-bits sheet b) (w .1) rs q (w .3) .0 in
+      let z : 0 + i ≡ i = omega arith in
+      subst (Begins s q rs i) (ap₂ (λ bs j. getD bs j 0) (sym (count-begun sheet (w .0) (w .1) (w .2) begins)) z)
+      (noted-begin s (sheet-bits sheet b) q (w .0) rs 0 (w .1) begins (omega (arith, low .0)) (omega (arith, low .0, low .1)) (w .3) i (omega (arith, long)))
+
+-- a sheet that was checked was read, to the same end and to as many rules
+pub checked-rules : (sheet : List ℕ) (n q : ℕ) → checked sheet ≡ got n q → (rs : List Rule) × (decode form1 limits1 sheet ≡ got rs q) × (length rs ≡ n)
+unfolding checked
+checked-rules sheet n q e = go (decode form1 limits1 sheet) refl e
+  where
+    go : (w : Read (List Rule)) → decode form1 limits1 sheet ≡ w → andThen (λ rs q. got (length rs) q) w ≡ got n q
+        → (rs : List Rule) × (decode form1 limits1 sheet ≡ got rs q) × (length rs ≡ n)
+    go (refused c p) h g = clash c p n q g
+    go (got rs p) h g = let z : p ≡ q = cc in let m : length rs ≡ n = cc in (rs, h ∙ ap (got rs) z, m)

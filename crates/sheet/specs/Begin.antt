@@ -1,0 +1,24 @@
+-- The rule that begins at a bit.
+-- Assumes nothing.
+use mathlib.Core.Path.{_≡_}
+use mathlib.Core.List.{List, []}
+use Prim.Native.Nat.{ℕ}
+use Rattle.definition.specs.Field.{Read, got, refused}
+use Rattle.definition.specs.Rule.{Normal, closed, Rule}
+use Rattle.definition.specs.Sheet.{form1, limits1, rule}
+
+-- what stands for a rule where none is read
+abbrev pub noRule : Rule
+noRule = record { operator = Normal; state = closed; years = []; monthdays = []; weeks = []; weekdays = []; spans = [] }
+
+abbrev pub ruleOf : Read Rule → Rule
+ruleOf (got r q) = r
+ruleOf (refused c p) = noRule
+
+unfoldable pub ruleAt : List ℕ → ℕ → Rule
+ruleAt s p = ruleOf ((rule form1 limits1) .read s p)
+
+-- a rule is read there
+pub record Readable (s : List ℕ) (p : ℕ) : Type 0 where
+  pub end : ℕ
+  pub read : (rule form1 limits1) .read s p ≡ got (ruleAt s p) end
