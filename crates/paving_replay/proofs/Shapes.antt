@@ -2,7 +2,7 @@
 -- Assumes nothing.
 use mathlib.Core.Path.{_≡_, refl}
 use mathlib.Core.Bool.{Bool, true, false, false≢true}
-use mathlib.Core.List.{List}
+use mathlib.Core.List.{List, [], _∷_}
 use Prim.Native.Nat.{ℕ, zero, suc, _*_, _≤_, _<_}
 use native.Mathlib.Omega.{arith}
 use lib.Dec.{eqb}
@@ -10,7 +10,7 @@ use lib.ListN.{length, getD}
 use borrow.Author.Tests.{eqb-true, eqb-false}
 use Rattle.paving.specs.Grid.{Node, Room, sizeOf, widthOf}
 use Rattle.paving_update.specs.Update.{Lawful, countOf}
-use Rattle.paving_replay.specs.Shape.{Shape}
+use Rattle.paving_replay.specs.Shape.{cutPlaces, Shape}
 
 pub shape-none : (sizes counts : List ℕ) (left : ℕ) → left ≡ 0 → Shape sizes counts left
 shape-none sizes counts left e = record { each = λ k h. absurd (omega arith) }
@@ -31,10 +31,26 @@ unfolding widthOf
 width-few sizes counts zero h = omega arith
 width-few sizes counts (suc l) h = omega (arith, h .each l (omega arith) .1, width-few sizes counts l (record { each = λ k m. h .each k (omega arith) }))
 
+-- where each dimension's cuts begin
+abbrev rowsOf : List ℕ
+rowsOf = 0 ∷ 2112 ∷ 4224 ∷ 6336 ∷ []
+
+rows-at : (i : ℕ) → i < 4 → getD {A = ℕ} rowsOf i 0 ≡ i * cutPlaces
+rows-at zero h = refl
+rows-at (suc zero) h = refl
+rows-at (suc (suc zero)) h = refl
+rows-at (suc (suc (suc zero))) h = refl
+rows-at (suc (suc (suc (suc i)))) h = absurd (omega arith)
+
 pub shape-lawful : (sizes counts cuts ranges : List ℕ) → 4 ≡ length sizes → 4 ≡ length counts → 8448 ≤ length cuts → 256 ≤ length ranges
-    → Shape sizes counts 4 → Lawful sizes counts cuts ranges
-shape-lawful sizes counts cuts ranges a b c d h =
-    record { all-counts = omega arith; all-cuts = omega arith; all-ranges = omega arith; size = λ i l. h .each i (omega arith) .1; count = λ i l. h .each i (omega arith) .2 }
+    → Shape sizes counts 4 → Lawful sizes counts rowsOf cuts ranges
+shape-lawful sizes counts cuts ranges a b c d h = record {
+  all-counts = omega arith;
+  all-rows = omega arith;
+  all-ranges = omega arith;
+  row = λ i l. omega (arith, rows-at i (omega arith), h .each i (omega arith) .1);
+  count = λ i l. h .each i (omega arith) .2;
+}
 
 pub shape-node : (cells : ℕ) (sizes counts : List ℕ) → 4 ≡ length sizes → sizeOf sizes 4 ≤ cells → Shape sizes counts 4 → Node cells sizes 4 0
 shape-node cells sizes counts a b h = record { dims = omega arith; filled = λ k l. h .each k l .0; below = omega arith }

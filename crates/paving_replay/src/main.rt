@@ -131,10 +131,12 @@ fn draw_rule(
     random::load(counts, ranges, parts, seed);
     if shaped(sizes, counts, 4) {
         let rest = paving::wide(counts[3]);
+        let rows = [0u16, 2112, 4224, 6336];
         return paving_update::update(
             lists,
             sizes,
             counts,
+            &rows,
             cuts,
             ranges,
             rule,

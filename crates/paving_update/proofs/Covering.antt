@@ -63,15 +63,15 @@ sum-count true x f k (q ∷ qs) = go (holds x (f q)) (sum-count true x f k qs)
 sum-count false x f k (q ∷ qs) = omega (arith, sum-count false x f k qs)
 
 -- ## The covered boxes
-module _ (sizes counts cuts ranges : List ℕ) where
+module _ (sizes counts rows cuts ranges : List ℕ) where
   column : (N i c d x q y k : ℕ) → x < getD sizes i 0 → y < getD sizes i 0
-      → count (eqb N) (leaves sizes counts cuts ranges i (c * getD sizes i 0 + y)) ≡ cond (eqb (d * getD sizes i 0 + x) (c * getD sizes i 0 + y)) k 0
-      → count (eqb N) (cond (covered cuts ranges i q y) (leaves sizes counts cuts ranges i (c * getD sizes i 0 + y)) [])
-      ≡ cond (eqb x y) (cond (eqb d c) (cond (covered cuts ranges i q x) k 0) 0) 0
+      → count (eqb N) (leaves sizes counts rows cuts ranges i (c * getD sizes i 0 + y)) ≡ cond (eqb (d * getD sizes i 0 + x) (c * getD sizes i 0 + y)) k 0
+      → count (eqb N) (cond (covered rows cuts ranges i q y) (leaves sizes counts rows cuts ranges i (c * getD sizes i 0 + y)) [])
+      ≡ cond (eqb x y) (cond (eqb d c) (cond (covered rows cuts ranges i q x) k 0) 0) 0
   unfolding count
   column N i c d x q y k h m ih = go (eqb x y) refl
     where
-      term : (b : Bool) → count (eqb N) (cond b (leaves sizes counts cuts ranges i (c * getD sizes i 0 + y)) []) ≡ cond b (cond (eqb d c && eqb x y) k 0) 0
+      term : (b : Bool) → count (eqb N) (cond b (leaves sizes counts rows cuts ranges i (c * getD sizes i 0 + y)) []) ≡ cond b (cond (eqb d c && eqb x y) k 0) 0
       term true = ih ∙ ap (λ b. cond b k 0) (number-eq (getD sizes i 0) d c x y h m)
       term false = refl
 
@@ -87,17 +87,17 @@ module _ (sizes counts cuts ranges : List ℕ) where
       neither false true = refl
       neither false false = refl
 
-      go : (e : Bool) → eqb x y ≡ e → count (eqb N) (cond (covered cuts ranges i q y) (leaves sizes counts cuts ranges i (c * getD sizes i 0 + y)) [])
-          ≡ cond e (cond (eqb d c) (cond (covered cuts ranges i q x) k 0) 0) 0
+      go : (e : Bool) → eqb x y ≡ e → count (eqb N) (cond (covered rows cuts ranges i q y) (leaves sizes counts rows cuts ranges i (c * getD sizes i 0 + y)) [])
+          ≡ cond e (cond (eqb d c) (cond (covered rows cuts ranges i q x) k 0) 0) 0
       go true e =
-          term (covered cuts ranges i q y) ∙ ap (λ b. cond (covered cuts ranges i q y) (cond (eqb d c && b) k 0) 0) e ∙ both (eqb d c) (covered cuts ranges i q y)
-          ∙ ap (λ z. cond (eqb d c) (cond (covered cuts ranges i q z) k 0) 0) (sym (eqb-true x y e))
+          term (covered rows cuts ranges i q y) ∙ ap (λ b. cond (covered rows cuts ranges i q y) (cond (eqb d c && b) k 0) 0) e ∙ both (eqb d c) (covered rows cuts ranges i q y)
+          ∙ ap (λ z. cond (eqb d c) (cond (covered rows cuts ranges i q z) k 0) 0) (sym (eqb-true x y e))
       go false e =
-          term (covered cuts ranges i q y) ∙ ap (λ b. cond (covered cuts ranges i q y) (cond (eqb d c && b) k 0) 0) e ∙ neither (eqb d c) (covered cuts ranges i q y)
+          term (covered rows cuts ranges i q y) ∙ ap (λ b. cond (covered rows cuts ranges i q y) (cond (eqb d c && b) k 0) 0) e ∙ neither (eqb d c) (covered rows cuts ranges i q y)
 
   -- THE COVERED BOXES: below its own node as often as there are combinations, below any other never
   pub covered-times : (l c d : ℕ) (p : List ℕ) → Within sizes l p
-      → count (eqb (boxOf sizes l d p)) (leaves sizes counts cuts ranges l c) ≡ cond (eqb d c) (combinations (selectorOf counts ranges l) (startOf cuts l p)) 0
+      → count (eqb (boxOf sizes l d p)) (leaves sizes counts rows cuts ranges l c) ≡ cond (eqb d c) (combinations (selectorOf counts ranges l) (startOf rows cuts l p)) 0
   unfolding leaves boxOf startOf selectorOf combinations count overRanges overColumns covered
   covered-times zero c d [] w = go (eqb d c)
     where
@@ -107,33 +107,33 @@ module _ (sizes counts cuts ranges : List ℕ) where
   covered-times zero c d (x ∷ p) w = absurd w
   covered-times (suc i) c d [] w = absurd w
   covered-times (suc i) c d (x ∷ p) w =
-      count-flat (eqb N) (λ q. overColumns sizes counts cuts ranges i (leaves sizes counts cuts ranges i) c q 0) (from 0 (getD counts i 0 - 0))
-      ∙ sum-ext (λ q. count (eqb N) (overColumns sizes counts cuts ranges i (leaves sizes counts cuts ranges i) c q 0)) (λ q. cond (eqb d c) (cond (holds (cutOf cuts i x) (rangeOf ranges i q)) k 0) 0) 0 (getD counts i 0 - 0)
+      count-flat (eqb N) (λ q. overColumns sizes counts rows cuts ranges i (leaves sizes counts rows cuts ranges i) c q 0) (from 0 (getD counts i 0 - 0))
+      ∙ sum-ext (λ q. count (eqb N) (overColumns sizes counts rows cuts ranges i (leaves sizes counts rows cuts ranges i) c q 0)) (λ q. cond (eqb d c) (cond (holds (cutOf rows cuts i x) (rangeOf ranges i q)) k 0) 0) 0 (getD counts i 0 - 0)
       (λ q _ _. one (λ y. covered-times i (c * getD sizes i 0 + y) (d * getD sizes i 0 + x) p (w .1)) q)
-      ∙ sum-count (eqb d c) (cutOf cuts i x) (rangeOf ranges i) k (from 0 (getD counts i 0 - 0))
-      ∙ ap (λ n. cond (eqb d c) (count (holds (cutOf cuts i x)) (map (rangeOf ranges i) (from 0 n)) * k) 0) all
+      ∙ sum-count (eqb d c) (cutOf rows cuts i x) (rangeOf ranges i) k (from 0 (getD counts i 0 - 0))
+      ∙ ap (λ n. cond (eqb d c) (count (holds (cutOf rows cuts i x)) (map (rangeOf ranges i) (from 0 n)) * k) 0) all
     where
       N : ℕ
       N = boxOf sizes i (d * getD sizes i 0 + x) p
 
       k : ℕ
-      k = combinations (selectorOf counts ranges i) (startOf cuts i p)
+      k = combinations (selectorOf counts ranges i) (startOf rows cuts i p)
 
       all : getD counts i 0 - 0 ≡ getD counts i 0
       all = omega arith
 
-      one : ((y : ℕ) → count (eqb N) (leaves sizes counts cuts ranges i (c * getD sizes i 0 + y)) ≡ cond (eqb (d * getD sizes i 0 + x) (c * getD sizes i 0 + y)) k 0)
-          → (q : ℕ) → count (eqb N) (overColumns sizes counts cuts ranges i (leaves sizes counts cuts ranges i) c q 0)
-          ≡ cond (eqb d c) (cond (holds (cutOf cuts i x) (rangeOf ranges i q)) k 0) 0
+      one : ((y : ℕ) → count (eqb N) (leaves sizes counts rows cuts ranges i (c * getD sizes i 0 + y)) ≡ cond (eqb (d * getD sizes i 0 + x) (c * getD sizes i 0 + y)) k 0)
+          → (q : ℕ) → count (eqb N) (overColumns sizes counts rows cuts ranges i (leaves sizes counts rows cuts ranges i) c q 0)
+          ≡ cond (eqb d c) (cond (holds (cutOf rows cuts i x) (rangeOf ranges i q)) k 0) 0
       one ih q =
-          count-flat (eqb N) (λ y. cond (covered cuts ranges i q y) (leaves sizes counts cuts ranges i (c * getD sizes i 0 + y)) []) (from 0 (getD sizes i 0 - 0))
-          ∙ sum-ext (λ y. count (eqb N) (cond (covered cuts ranges i q y) (leaves sizes counts cuts ranges i (c * getD sizes i 0 + y)) []))
-          (λ y. cond (eqb x y) (cond (eqb d c) (cond (covered cuts ranges i q x) k 0) 0) 0) 0 (getD sizes i 0 - 0)
+          count-flat (eqb N) (λ y. cond (covered rows cuts ranges i q y) (leaves sizes counts rows cuts ranges i (c * getD sizes i 0 + y)) []) (from 0 (getD sizes i 0 - 0))
+          ∙ sum-ext (λ y. count (eqb N) (cond (covered rows cuts ranges i q y) (leaves sizes counts rows cuts ranges i (c * getD sizes i 0 + y)) []))
+          (λ y. cond (eqb x y) (cond (eqb d c) (cond (covered rows cuts ranges i q x) k 0) 0) 0) 0 (getD sizes i 0 - 0)
           (λ y _ m. column N i c d x q y k (w .0) (omega arith) (ih y))
-          ∙ sum-one x (cond (eqb d c) (cond (covered cuts ranges i q x) k 0) 0) 0 (getD sizes i 0 - 0) (omega arith) (omega (arith, w .0))
+          ∙ sum-one x (cond (eqb d c) (cond (covered rows cuts ranges i q x) k 0) 0) 0 (getD sizes i 0 - 0) (omega arith) (omega (arith, w .0))
 
   -- each covered box is one of the boxes below its node
-  pub leaf-box : (l c m : ℕ) → Mem m (leaves sizes counts cuts ranges l c) → (p : List ℕ) × Within sizes l p × (boxOf sizes l c p ≡ m)
+  pub leaf-box : (l c m : ℕ) → Mem m (leaves sizes counts rows cuts ranges l c) → (p : List ℕ) × Within sizes l p × (boxOf sizes l c p ≡ m)
   unfolding leaves boxOf Mem overRanges overColumns flatMap from
   leaf-box zero c m (inl e) = ([], tt, sym e)
   leaf-box zero c m (inr e) = absurd e
@@ -143,23 +143,23 @@ module _ (sizes counts cuts ranges : List ℕ) where
       Found = (p : List ℕ) × Within sizes (suc i) p × (boxOf sizes (suc i) c p ≡ m)
 
       Below : Type 0
-      Below = (y : ℕ) → Mem m (leaves sizes counts cuts ranges i (c * getD sizes i 0 + y)) → (p : List ℕ) × Within sizes i p × (boxOf sizes i (c * getD sizes i 0 + y) p ≡ m)
+      Below = (y : ℕ) → Mem m (leaves sizes counts rows cuts ranges i (c * getD sizes i 0 + y)) → (p : List ℕ) × Within sizes i p × (boxOf sizes i (c * getD sizes i 0 + y) p ≡ m)
 
       split : (xs ys : List ℕ) → (Mem m xs → Found) → (Mem m ys → Found) → Mem m (xs ++ ys) → Found
       split [] ys f g h = g h
       split (x ∷ xs) ys f g (inl e) = f (inl e)
       split (x ∷ xs) ys f g (inr h) = split xs ys (λ k. f (inr k)) g h
 
-      below : Below → (y : ℕ) → y < getD sizes i 0 → (b : Bool) → Mem m (cond b (leaves sizes counts cuts ranges i (c * getD sizes i 0 + y)) []) → Found
+      below : Below → (y : ℕ) → y < getD sizes i 0 → (b : Bool) → Mem m (cond b (leaves sizes counts rows cuts ranges i (c * getD sizes i 0 + y)) []) → Found
       below ih y l true h = let r = ih y h in (y ∷ r .0, (l, r .1), r .2)
       below ih y l false h = absurd h
 
-      columns-of : Below → (q s n : ℕ) → s + n ≤ getD sizes i 0 → Mem m (flatMap (λ y. cond (covered cuts ranges i q y) (leaves sizes counts cuts ranges i (c * getD sizes i 0 + y)) []) (from s n)) → Found
+      columns-of : Below → (q s n : ℕ) → s + n ≤ getD sizes i 0 → Mem m (flatMap (λ y. cond (covered rows cuts ranges i q y) (leaves sizes counts rows cuts ranges i (c * getD sizes i 0 + y)) []) (from s n)) → Found
       columns-of ih q s zero l h = absurd h
       columns-of ih q s (suc n) l h =
-          split (cond (covered cuts ranges i q s) (leaves sizes counts cuts ranges i (c * getD sizes i 0 + s)) []) _ (below ih s (omega arith) (covered cuts ranges i q s))
+          split (cond (covered rows cuts ranges i q s) (leaves sizes counts rows cuts ranges i (c * getD sizes i 0 + s)) []) _ (below ih s (omega arith) (covered rows cuts ranges i q s))
           (columns-of ih q (suc s) n (omega arith)) h
 
-      ranges-of : Below → (qs : List ℕ) → Mem m (flatMap (λ q. overColumns sizes counts cuts ranges i (leaves sizes counts cuts ranges i) c q 0) qs) → Found
+      ranges-of : Below → (qs : List ℕ) → Mem m (flatMap (λ q. overColumns sizes counts rows cuts ranges i (leaves sizes counts rows cuts ranges i) c q 0) qs) → Found
       ranges-of ih [] h = absurd h
-      ranges-of ih (q ∷ qs) h = split (overColumns sizes counts cuts ranges i (leaves sizes counts cuts ranges i) c q 0) _ (columns-of ih q 0 (getD sizes i 0 - 0) (omega arith)) (ranges-of ih qs) h
+      ranges-of ih (q ∷ qs) h = split (overColumns sizes counts rows cuts ranges i (leaves sizes counts rows cuts ranges i) c q 0) _ (columns-of ih q 0 (getD sizes i 0 - 0) (omega arith)) (ranges-of ih qs) h

@@ -68,26 +68,26 @@ box-in len sizes (suc i) c [] n w = absurd w
 box-in len sizes (suc i) c (x ∷ p) n w = box-in len sizes i (c * getD sizes i 0 + x) p (node-child len sizes i c (getD sizes i 0) x refl (w .0) n) (w .1)
 
 -- ## An update
-module _ (sizes counts cuts ranges : List ℕ) (rule : ℕ) (replacing : Bool) (lists : List ℕ) (l node : ℕ) (below : Node (length lists / listPlaces) sizes l node) (short : Short lists)
-    (result : Drawn) (drawing : result ≡ drawAll rule replacing (drawn lists false) (leavesOf sizes counts cuts ranges l node (countOf counts l))) where
+module _ (sizes counts rows cuts ranges : List ℕ) (rule : ℕ) (replacing : Bool) (lists : List ℕ) (l node : ℕ) (below : Node (length lists / listPlaces) sizes l node) (short : Short lists)
+    (result : Drawn) (drawing : result ≡ drawAll rule replacing (drawn lists false) (leavesOf sizes counts rows cuts ranges l node (countOf counts l))) where
   -- a box's list after the rule, which covers it as often as there are combinations
   abbrev pub afterAt : List ℕ → List ℕ
-  afterAt p = afterNumber rule replacing (combinations (selectorOf counts ranges l) (startOf cuts l p)) (listOf lists (boxOf sizes l node p))
+  afterAt p = afterNumber rule replacing (combinations (selectorOf counts ranges l) (startOf rows cuts l p)) (listOf lists (boxOf sizes l node p))
 
-  all : result ≡ drawAll rule replacing (drawn lists false) (leaves sizes counts cuts ranges l node)
-  all = drawing ∙ ap (drawAll rule replacing (drawn lists false)) (all-ranges sizes counts cuts ranges l node)
+  all : result ≡ drawAll rule replacing (drawn lists false) (leaves sizes counts rows cuts ranges l node)
+  all = drawing ∙ ap (drawAll rule replacing (drawn lists false)) (all-ranges sizes counts rows cuts ranges l node)
 
-  room : (m : ℕ) → Mem m (leaves sizes counts cuts ranges l node) → m * listPlaces + listPlaces ≤ length lists
-  room m i = let r = leaf-box sizes counts cuts ranges l node m i in omega (arith, box-in (length lists / listPlaces) sizes l node (r .0) below (r .1), r .2)
+  room : (m : ℕ) → Mem m (leaves sizes counts rows cuts ranges l node) → m * listPlaces + listPlaces ≤ length lists
+  room m i = let r = leaf-box sizes counts rows cuts ranges l node m i in omega (arith, box-in (length lists / listPlaces) sizes l node (r .0) below (r .1), r .2)
 
   -- the boxes below the node, as often as they are covered
   times : (p : List ℕ) → Within sizes l p
-      → count (eqb (boxOf sizes l node p)) (leaves sizes counts cuts ranges l node) ≡ combinations (selectorOf counts ranges l) (startOf cuts l p)
-  times p w = covered-times sizes counts cuts ranges l node node p w ∙ ap (λ b. cond b (combinations (selectorOf counts ranges l) (startOf cuts l p)) 0) (eq-eqb node node refl)
+      → count (eqb (boxOf sizes l node p)) (leaves sizes counts rows cuts ranges l node) ≡ combinations (selectorOf counts ranges l) (startOf rows cuts l p)
+  times p w = covered-times sizes counts rows cuts ranges l node node p w ∙ ap (λ b. cond b (combinations (selectorOf counts ranges l) (startOf rows cuts l p)) 0) (eq-eqb node node refl)
 
   quiet : result .over ≡ false
-      → ((d : ℕ) → listOf (result .lists) d ≡ afterNumber rule replacing (count (eqb d) (leaves sizes counts cuts ranges l node)) (listOf lists d)) × Short (result .lists)
-  quiet h = rw all (drawn-all rule replacing (leaves sizes counts cuts ranges l node) (drawn lists false) room short (rw all at h))
+      → ((d : ℕ) → listOf (result .lists) d ≡ afterNumber rule replacing (count (eqb d) (leaves sizes counts rows cuts ranges l node)) (listOf lists d)) × Short (result .lists)
+  quiet h = rw all (drawn-all rule replacing (leaves sizes counts rows cuts ranges l node) (drawn lists false) room short (rw all at h))
 
   pub update-lists : result .over ≡ false → (p : List ℕ) → Within sizes l p → listOf (result .lists) (boxOf sizes l node p) ≡ afterAt p
   update-lists h p w = quiet h .0 (boxOf sizes l node p) ∙ ap (λ n. afterNumber rule replacing n (listOf lists (boxOf sizes l node p))) (times p w)
@@ -100,11 +100,11 @@ module _ (sizes counts cuts ranges : List ℕ) (rule : ℕ) (replacing : Bool) (
     where
       to : result .over ≡ true → somewhere (axes sizes l) (λ p. ltb listLimit (length (afterAt p))) ≡ true
       to h =
-          let f = full-all rule replacing (leaves sizes counts cuts ranges l node) (drawn lists false) room short refl (rw all at h) in
-          let r = leaf-box sizes counts cuts ranges l node (f .0) (f .1) in
+          let f = full-all rule replacing (leaves sizes counts rows cuts ranges l node) (drawn lists false) room short refl (rw all at h) in
+          let r = leaf-box sizes counts rows cuts ranges l node (f .0) (f .1) in
           box-somewhere sizes l (λ p. ltb listLimit (length (afterAt p))) (r .0) (r .1) (lt-ltb listLimit (length (afterAt (r .0)))
           (subst (λ n. listLimit < length (afterNumber rule replacing n (listOf lists (boxOf sizes l node (r .0))))) (times (r .0) (r .1))
-          (subst (λ d. listLimit < length (afterNumber rule replacing (count (eqb d) (leaves sizes counts cuts ranges l node)) (listOf lists d))) (sym (r .2)) (f .2))))
+          (subst (λ d. listLimit < length (afterNumber rule replacing (count (eqb d) (leaves sizes counts rows cuts ranges l node)) (listOf lists d))) (sym (r .2)) (f .2))))
 
       back : (b : Bool) → result .over ≡ b → somewhere (axes sizes l) (λ p. ltb listLimit (length (afterAt p))) ≡ true → result .over ≡ true
       back true e h = e
@@ -131,11 +131,11 @@ after-rules ruleOf rule n l = go (replaces (ruleOf rule)) refl
     go false e = rw (e, after) (map-append ruleOf l (replicate n rule) ∙ ap (map ruleOf l ++_) (repeated n))
 
 -- A BOX'S LIST OF RULES after an update is the definition's `after` at the box's first point
-pub update-rules : (ruleOf : ℕ → Rule) (sizes counts cuts ranges : List ℕ) (rule : ℕ) (lists : List ℕ) (l node : ℕ) → Node (length lists / listPlaces) sizes l node → Short lists
-    → (result : Drawn) → result ≡ drawAll rule (replaces (ruleOf rule)) (drawn lists false) (leavesOf sizes counts cuts ranges l node (countOf counts l)) → result .over ≡ false
+pub update-rules : (ruleOf : ℕ → Rule) (sizes counts rows cuts ranges : List ℕ) (rule : ℕ) (lists : List ℕ) (l node : ℕ) → Node (length lists / listPlaces) sizes l node → Short lists
+    → (result : Drawn) → result ≡ drawAll rule (replaces (ruleOf rule)) (drawn lists false) (leavesOf sizes counts rows cuts ranges l node (countOf counts l)) → result .over ≡ false
     → (p : List ℕ) → Within sizes l p
     → map ruleOf (listOf (result .lists) (boxOf sizes l node p))
-    ≡ after (ruleOf rule) (combinations (selectorOf counts ranges l) (startOf cuts l p)) (map ruleOf (listOf lists (boxOf sizes l node p)))
-update-rules ruleOf sizes counts cuts ranges rule lists l node below short result drawing quiet p w =
-    ap (map ruleOf) (update-lists sizes counts cuts ranges rule (replaces (ruleOf rule)) lists l node below short result drawing quiet p w)
-    ∙ after-rules ruleOf rule (combinations (selectorOf counts ranges l) (startOf cuts l p)) (listOf lists (boxOf sizes l node p))
+    ≡ after (ruleOf rule) (combinations (selectorOf counts ranges l) (startOf rows cuts l p)) (map ruleOf (listOf lists (boxOf sizes l node p)))
+update-rules ruleOf sizes counts rows cuts ranges rule lists l node below short result drawing quiet p w =
+    ap (map ruleOf) (update-lists sizes counts rows cuts ranges rule (replaces (ruleOf rule)) lists l node below short result drawing quiet p w)
+    ∙ after-rules ruleOf rule (combinations (selectorOf counts ranges l) (startOf rows cuts l p)) (listOf lists (boxOf sizes l node p))

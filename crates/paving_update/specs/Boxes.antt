@@ -35,10 +35,10 @@ boxOf sizes (suc i) node [] = node
 boxOf sizes (suc i) node (x ∷ p) = boxOf sizes i (node * getD sizes i 0 + x) p
 
 -- its first point
-unfoldable pub startOf : List ℕ → ℕ → List ℕ → List ℕ
-startOf cuts zero p = []
-startOf cuts (suc i) [] = []
-startOf cuts (suc i) (x ∷ p) = cutOf cuts i x ∷ startOf cuts i p
+unfoldable pub startOf : List ℕ → List ℕ → ℕ → List ℕ → List ℕ
+startOf rows cuts zero p = []
+startOf rows cuts (suc i) [] = []
+startOf rows cuts (suc i) (x ∷ p) = cutOf rows cuts i x ∷ startOf rows cuts i p
 
 -- the rule's ranges, dimension by dimension
 unfoldable pub selectorOf : List ℕ → List ℕ → ℕ → List (List Range)

@@ -7,41 +7,39 @@ use lib.Dec.{ltb}
 use lib.ListN.{length, getD, set}
 use Rattle.laws.specs.Lists.{from}
 use Rattle.grid.specs.Cut.{Range, holds}
+use Rattle.definition.specs.Sheet.{limits1}
 
 -- ## Tables
--- The places of a dimension in the table of cuts and in that of ranges (start, end, start, end ..); those of a box among the lists: its
--- count, then its rules.
-abbrev pub cutPlaces : ℕ
-cutPlaces = 2112
-
-abbrev pub rangePlaces : ℕ
-rangePlaces = 64
-
-abbrev pub listPlaces : ℕ
-listPlaces = 33
-
 -- how many rules a list has at most
 abbrev pub listLimit : ℕ
-listLimit = 32
+listLimit = limits1 .entries
 
--- tables that have a row for each dimension: its cuts, one more than its size, and its ranges
-pub record Lawful (sizes counts cuts ranges : List ℕ) : Type 0 where
+-- the places of a box among the lists: its count, then its rules
+abbrev pub listPlaces : ℕ
+listPlaces = listLimit + 1
+
+-- the places of a dimension in the table of ranges: an item gives two at most, each with its start and its end
+abbrev pub rangePlaces : ℕ
+rangePlaces = 4 * limits1 .items
+
+-- Tables that have a row for each dimension: of its cuts, one more than its size, from a place on that `rows` names, and of its ranges.
+pub record Lawful (sizes counts rows cuts ranges : List ℕ) : Type 0 where
   pub all-counts : length sizes ≤ length counts
-  pub all-cuts : length sizes * cutPlaces ≤ length cuts
+  pub all-rows : length sizes ≤ length rows
   pub all-ranges : length sizes * rangePlaces ≤ length ranges
-  pub size : (i : ℕ) → i < length sizes → getD sizes i 0 < cutPlaces
+  pub row : (i : ℕ) → i < length sizes → getD rows i 0 + getD sizes i 0 < length cuts
   pub count : (i : ℕ) → i < length sizes → getD counts i 0 * 2 ≤ rangePlaces
 
 -- a cut, a range
-unfoldable pub cutOf : List ℕ → ℕ → ℕ → ℕ
-cutOf cuts i x = getD cuts (i * cutPlaces + x) 0
+unfoldable pub cutOf : List ℕ → List ℕ → ℕ → ℕ → ℕ
+cutOf rows cuts i x = getD cuts (getD rows i 0 + x) 0
 
 unfoldable pub rangeOf : List ℕ → ℕ → ℕ → Range
 rangeOf ranges i r = (getD ranges (i * rangePlaces + 2 * r) 0, getD ranges (i * rangePlaces + 2 * r + 1) 0)
 
 -- does a range cover a column? It does where the column's start lies in it: a range's ends are cuts
-unfoldable pub covered : List ℕ → List ℕ → ℕ → ℕ → ℕ → Bool
-covered cuts ranges i r x = holds (cutOf cuts i x) (rangeOf ranges i r)
+unfoldable pub covered : List ℕ → List ℕ → List ℕ → ℕ → ℕ → ℕ → Bool
+covered rows cuts ranges i r x = holds (cutOf rows cuts i x) (rangeOf ranges i r)
 
 -- how many ranges the first of l dimensions has
 unfoldable pub countOf : List ℕ → ℕ → ℕ
@@ -49,11 +47,11 @@ countOf counts zero = 0
 countOf counts (suc i) = getD counts i 0
 
 -- ## The covered boxes, with repeats
-module _ (sizes counts cuts ranges : List ℕ) where
+module _ (sizes counts rows cuts ranges : List ℕ) where
   -- below the columns of a node from x on that the range r of dimension i covers; `below` gives those of a column
   unfoldable pub overColumns : ℕ → (ℕ → List ℕ) → ℕ → ℕ → ℕ → List ℕ
   overColumns i below node r x =
-      flatMap (λ y. cond (covered cuts ranges i r y) (below (node * getD sizes i 0 + y)) []) (from x (getD sizes i 0 - x))
+      flatMap (λ y. cond (covered rows cuts ranges i r y) (below (node * getD sizes i 0 + y)) []) (from x (getD sizes i 0 - x))
 
   -- the same for the ranges from r on
   unfoldable pub overRanges : ℕ → (ℕ → List ℕ) → ℕ → ℕ → List ℕ

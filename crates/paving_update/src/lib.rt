@@ -4,9 +4,7 @@ ghost use mathlib.Core.Path.{_≡_};
 ghost use Prim.Native.Nat.{suc, _+_, _-_, _*_, _≤_, _<_, _/_};
 ghost use lib.ListN.{length, getD};
 ghost use Rattle.paving.specs.Grid.{Node};
-ghost use Rattle.paving_update.specs.Update.{cutPlaces, rangePlaces, listPlaces, Lawful, covered, countOf, leaves, leavesOf, overColumns, drawn, drawOne, drawAll};
-
-const CUT_PLACES: usize = 2112;
+ghost use Rattle.paving_update.specs.Update.{rangePlaces, listPlaces, Lawful, covered, countOf, leaves, leavesOf, overColumns, drawn, drawOne, drawAll};
 
 const RANGE_PLACES: usize = 64;
 
@@ -35,11 +33,18 @@ fn draw(lists: &mut [u16], rule: u16, replaces: bool, over: bool, node: usize) -
 }
 
 // Whether a range covers a column.
-fn covers(cuts: &[u16], ranges: &[u16], dimension: usize, range: usize, column: usize) -> bool
-    requires { ⌜ (dimension * cutPlaces + column < length (now cuts)) × (dimension * rangePlaces + 2 * range + 1 < length (now ranges)) ⌝ }
-    ensures { λ r. ⌜ r ≡ covered (now (cuts .entry)) (now (ranges .entry)) dimension range column ⌝ }
+fn covers(
+    rows: &[u16],
+    cuts: &[u16],
+    ranges: &[u16],
+    dimension: usize,
+    range: usize,
+    column: usize,
+) -> bool
+    requires { ⌜ (dimension < length (now rows)) × (getD (now rows) dimension 0 + column < length (now cuts)) × (dimension * rangePlaces + 2 * range + 1 < length (now ranges)) ⌝ }
+    ensures { λ r. ⌜ r ≡ covered (now (rows .entry)) (now (cuts .entry)) (now (ranges .entry)) dimension range column ⌝ }
 {
-    let start = cuts[dimension * CUT_PLACES + column];
+    let start = cuts[paving::wide(rows[dimension]) + column];
     let at = dimension * RANGE_PLACES + 2 * range;
     if ranges[at] <= start {
         start < ranges[at + 1]
@@ -64,6 +69,7 @@ pub fn update(
     lists: &mut [u16],
     sizes: &[u16],
     counts: &[u16],
+    rows: &[u16],
     cuts: &[u16],
     ranges: &[u16],
     rule: u16,
@@ -73,11 +79,11 @@ pub fn update(
     node: usize,
     rest: usize,
 ) -> bool
-    requires { ⌜ Lawful (now sizes) (now counts) (now cuts) (now ranges) ⌝ }
+    requires { ⌜ Lawful (now sizes) (now counts) (now rows) (now cuts) (now ranges) ⌝ }
     requires { ⌜ Node (length (now lists) / listPlaces) (now sizes) left node ⌝ }
     requires { ⌜ rest ≤ countOf (now counts) left ⌝ }
     ensures { λ r. ⌜ drawn (now (lists .exit)) r
-        ≡ drawAll rule replaces (drawn (now (lists .entry)) over) (leavesOf (now (sizes .entry)) (now (counts .entry)) (now (cuts .entry)) (now (ranges .entry)) left node rest) ⌝ }
+        ≡ drawAll rule replaces (drawn (now (lists .entry)) over) (leavesOf (now (sizes .entry)) (now (counts .entry)) (now (rows .entry)) (now (cuts .entry)) (now (ranges .entry)) left node rest) ⌝ }
 {
     if left == 0 {
         return draw(lists, rule, replaces, over, node);
@@ -92,6 +98,7 @@ pub fn update(
         lists,
         sizes,
         counts,
+        rows,
         cuts,
         ranges,
         rule,
@@ -107,6 +114,7 @@ pub fn update(
         lists,
         sizes,
         counts,
+        rows,
         cuts,
         ranges,
         rule,
@@ -123,6 +131,7 @@ fn update_columns(
     lists: &mut [u16],
     sizes: &[u16],
     counts: &[u16],
+    rows: &[u16],
     cuts: &[u16],
     ranges: &[u16],
     rule: u16,
@@ -134,20 +143,21 @@ fn update_columns(
     range: usize,
     column: usize,
 ) -> bool
-    requires { ⌜ Lawful (now sizes) (now counts) (now cuts) (now ranges) ⌝ }
+    requires { ⌜ Lawful (now sizes) (now counts) (now rows) (now cuts) (now ranges) ⌝ }
     requires { ⌜ Node (length (now lists) / listPlaces) (now sizes) (suc dimension) node ⌝ }
-    requires { ⌜ (width ≡ getD (now sizes) dimension 0) × (range < getD (now counts) dimension 0) ⌝ }
+    requires { ⌜ (width ≡ getD (now sizes) dimension 0) × (width < 65536) × (range < getD (now counts) dimension 0) ⌝ }
     ensures { λ r. ⌜ drawn (now (lists .exit)) r
-        ≡ drawAll rule replaces (drawn (now (lists .entry)) over) (overColumns (now (sizes .entry)) (now (counts .entry)) (now (cuts .entry)) (now (ranges .entry)) dimension
-        (leaves (now (sizes .entry)) (now (counts .entry)) (now (cuts .entry)) (now (ranges .entry)) dimension) node range column) ⌝ }
+        ≡ drawAll rule replaces (drawn (now (lists .entry)) over) (overColumns (now (sizes .entry)) (now (counts .entry)) (now (rows .entry)) (now (cuts .entry)) (now (ranges .entry)) dimension
+        (leaves (now (sizes .entry)) (now (counts .entry)) (now (rows .entry)) (now (cuts .entry)) (now (ranges .entry)) dimension) node range column) ⌝ }
 {
     if column < width {
-        if covers(cuts, ranges, dimension, range, column) {
+        if covers(rows, cuts, ranges, dimension, range, column) {
             let rest = count_of(counts, dimension);
             let now = update(
                 lists,
                 sizes,
                 counts,
+                rows,
                 cuts,
                 ranges,
                 rule,
@@ -161,6 +171,7 @@ fn update_columns(
                 lists,
                 sizes,
                 counts,
+                rows,
                 cuts,
                 ranges,
                 rule,
@@ -177,6 +188,7 @@ fn update_columns(
                 lists,
                 sizes,
                 counts,
+                rows,
                 cuts,
                 ranges,
                 rule,

@@ -19,77 +19,71 @@ use Rattle.paving_update.proofs.draw.Reads as draw-reads
 use Rattle.paving_update.proofs.+update+update_columns.{statement}
 use Rattle.paving_update.proofs.+update+update_columns.Tie.{close}
 
-abbrev μ-update : Measures 5 update-kinds.ps ℕ
+abbrev μ-update : Measures 6 update-kinds.ps ℕ
 μ-update κs a =
-    a .1 .1 .1 .1 .1 .1 .1 .1 .0 * 4096 + a .1 .1 .1 .1 .1 .1 .1 .1 .1 .1 .0
+    a .1 .1 .1 .1 .1 .1 .1 .1 .1 .0 * 131072 + a .1 .1 .1 .1 .1 .1 .1 .1 .1 .1 .1 .0
 
-abbrev μ-update-columns : Measures 5 update-columns-kinds.ps ℕ
+abbrev μ-update-columns : Measures 6 update-columns-kinds.ps ℕ
 μ-update-columns κs a =
-    a .1 .1 .1 .1 .1 .1 .1 .1 .0 * 4096 + 64 + (a .1 .1 .1 .1 .1 .1 .1 .1 .1 .1 .0 - a .1 .1 .1 .1 .1 .1 .1 .1 .1 .1 .1 .1 .0)
+    a .1 .1 .1 .1 .1 .1 .1 .1 .1 .0 * 131072 + 64 + (a .1 .1 .1 .1 .1 .1 .1 .1 .1 .1 .1 .0 - a .1 .1 .1 .1 .1 .1 .1 .1 .1 .1 .1 .1 .1 .0)
 
-abbrev update-at : ℕ → In 5 update-kinds.ps
-update-at t = and 5 update-kinds.ps (is 5 update-kinds.ps μ-update t) update.Pre
+abbrev update-at : ℕ → In 6 update-kinds.ps
+update-at t = and 6 update-kinds.ps (is 6 update-kinds.ps μ-update t) update.Pre
 
-abbrev update-below : ℕ → In 5 update-kinds.ps
-update-below t = and 5 update-kinds.ps (falls 5 update-kinds.ps _<_ μ-update t) update.Pre
+abbrev update-below : ℕ → In 6 update-kinds.ps
+update-below t = and 6 update-kinds.ps (falls 6 update-kinds.ps _<_ μ-update t) update.Pre
 
-abbrev update-columns-at : ℕ → In 5 update-columns-kinds.ps
+abbrev update-columns-at : ℕ → In 6 update-columns-kinds.ps
 update-columns-at t =
     and
-    5
+    6
     update-columns-kinds.ps
-    (is 5 update-columns-kinds.ps μ-update-columns t)
+    (is 6 update-columns-kinds.ps μ-update-columns t)
     update-columns.Pre
 
-abbrev update-columns-below : ℕ → In 5 update-columns-kinds.ps
+abbrev update-columns-below : ℕ → In 6 update-columns-kinds.ps
 update-columns-below t =
     and
-    5
+    6
     update-columns-kinds.ps
-    (falls 5 update-columns-kinds.ps _<_ μ-update-columns t)
+    (falls 6 update-columns-kinds.ps _<_ μ-update-columns t)
     update-columns.Pre
-
--- src/lib.rt:117:13
-update-columns-update-columns-requires-2 :
-    (t : ℕ) → update-columns-lts.Need-update-columns-requires-2 (covers-reads.Asked, covers-reads.Learnt, count-of-reads.Asked, count-of-reads.Learnt, update-below t, update.Post, update-columns-below t, update-columns.Post) (update-columns-at t) update-columns.Post
-update-columns-update-columns-requires-2 t c κs =
-    (omega (arith, c .before .before .before .before .before .before .before .before .before .pre .0, c .before .before .before .if1 .taken), c .before .before .before .before .before .before .before .before .before .pre .1)
 
 pub +update+update-columns-spec : {M : Type 1} → statement M
 +update+update-columns-spec = close μ-update μ-update-columns (λ t. update-lts.spec (draw-reads.Asked, draw-reads.Learnt, wide-reads.Asked, wide-reads.Learnt, update-columns-below t, update-columns.Post, update-below t, update.Post)
     (update-at t)
     update.Post
-    (λ c κs. list-in _ _ _ _ (c .before .before .before .before .before .before .before .pre .1 .1 .0))
+    (λ c κs. list-in _ _ _ _ (c .before .before .before .before .before .before .before .before .pre .1 .1 .0))
     (λ c. search needs)
-    (λ c. out-leaf _ _ _ _ _ _ _ _ _ _ _ (c .before .before .before .before .if1 .taken) (c .before .before .draw .ensures))
-    (λ c. let a = c .before .before .before .before .before .before .before .args in let e : a .left ≡ suc (a .left - 1) = omega (arith, c .before .if1 .left) in out-none _ _ _ _ _ _ _ _ _ _ _ e (c .if2 .taken))
+    (λ c. out-leaf _ _ _ _ _ _ _ _ _ _ _ _ (c .before .before .before .before .if1 .taken) (c .before .before .draw .ensures))
+    (λ c. let a = c .before .before .before .before .before .before .before .before .args in let e : a .left ≡ suc (a .left - 1) = omega (arith, c .before .if1 .left) in out-none _ _ _ _ _ _ _ _ _ _ _ _ e (c .if2 .taken))
     (λ c. search needs)
     (λ c. search needs)
-    (λ c. omega (arith, c .before .before .before .before .before .before .before .before .pre .1 .0 .all-counts, c .before .before .before .before .before .before .before .before .pre .1 .1 .0 .dims, c .before .before .if1 .left))
+    (λ c. omega (arith, c .before .before .before .before .before .before .before .before .before .pre .1 .0 .all-counts, c .before .before .before .before .before .before .before .before .before .pre .1 .1 .0 .dims, c .before .before .if1 .left))
     (λ c κs. search needs)
     (λ c. search needs)
-    (λ c. omega (arith, c .before .before .before .before .before .before .before .before .before .before .pre .1 .1 .0 .dims, c .before .before .before .before .if1 .left))
+    (λ c. omega (arith, c .before .before .before .before .before .before .before .before .before .before .before .pre .1 .1 .0 .dims, c .before .before .before .before .if1 .left))
     (λ c κs. search needs)
-    (λ c. let a = c .before .before .before .before .before .before .before .before .before .before .before .before .args in let e : a .left ≡ suc (a .left - 1) = omega (arith, c .before .before .before .before .before .before .if1 .left) in omega (arith, count-some (a .counts .now) (a .left) (a .left - 1) e, c .before .before .before .wide .ensures .0, c .before .before .before .before .before .before .before .before .before .before .before .before .pre .1 .1 .1))
-    (λ c κs. let a = c .before .before .before .before .before .before .before .before .before .before .before .before .args in let p = c .before .before .before .before .before .before .before .before .before .before .before .before .pre .1 in let e : a .left ≡ suc (a .left - 1) = omega (arith, c .before .before .before .before .before .before .if1 .left) in let d = p .0 .size (a .left - 1) (omega (arith, p .1 .0 .dims, c .before .before .before .before .before .before .if1 .left)) in (omega (arith, c .before .before .before .before .before .before .before .before .before .before .before .before .pre .0, d, c .before .wide2 .ensures .0, c .before .before .before .before .before .before .if1 .left), (p .0, (node-at _ _ _ _ _ e (p .1 .0), (c .before .wide2 .ensures .0, omega (arith, c .before .before .before .wide .ensures .0, c .before .before .before .before .before .if2 .left, count-some (a .counts .now) (a .left) (a .left - 1) e, p .1 .1))))))
+    (λ c. let a = c .before .before .before .before .before .before .before .before .before .before .before .before .before .args in let e : a .left ≡ suc (a .left - 1) = omega (arith, c .before .before .before .before .before .before .if1 .left) in omega (arith, count-some (a .counts .now) (a .left) (a .left - 1) e, c .before .before .before .wide .ensures .0, c .before .before .before .before .before .before .before .before .before .before .before .before .before .pre .1 .1 .1))
+    (λ c κs. let a = c .before .before .before .before .before .before .before .before .before .before .before .before .before .args in let p = c .before .before .before .before .before .before .before .before .before .before .before .before .before .pre .1 in let e : a .left ≡ suc (a .left - 1) = omega (arith, c .before .before .before .before .before .before .if1 .left) in (omega (arith, c .before .before .before .before .before .before .before .before .before .before .before .before .before .pre .0, c .before .wide2 .ensures .1, c .before .before .before .before .before .before .if1 .left), (p .0, (node-at _ _ _ _ _ e (p .1 .0), (c .before .wide2 .ensures .0, c .before .wide2 .ensures .1, omega (arith, c .before .before .before .wide .ensures .0, c .before .before .before .before .before .if2 .left, count-some (a .counts .now) (a .left) (a .left - 1) e, p .1 .1))))))
     (λ c. search needs)
-    (λ c κs. let p = c .before .before .before .before .before .before .before .before .before .before .before .before .before .before .before .before .pre .1 in (omega (arith, c .before .before .before .before .before .before .before .before .before .before .before .before .before .before .before .before .pre .0, c .before .before .before .before .before .before .before .before .before .if2 .left), (p .0, (node-len _ _ _ _ _ (c .before .before .before .update-columns .kept .0) (p .1 .0), omega (arith, p .1 .1)))))
+    (λ c κs. let p = c .before .before .before .before .before .before .before .before .before .before .before .before .before .before .before .before .before .pre .1 in (omega (arith, c .before .before .before .before .before .before .before .before .before .before .before .before .before .before .before .before .before .pre .0, c .before .before .before .before .before .before .before .before .before .if2 .left), (p .0, (node-len _ _ _ _ _ (c .before .before .before .update-columns .kept .0) (p .1 .0), omega (arith, p .1 .1)))))
     (λ c. search needs)
-    (λ c. let a = c .before .before .before .before .before .before .before .before .before .before .before .before .before .before .before .before .before .before .before .args in let e : a .left ≡ suc (a .left - 1) = omega (arith, c .before .before .before .before .before .before .before .before .before .before .before .before .before .if1 .left) in out-ranges _ _ _ _ _ _ _ _ _ _ _ _ _ _ e (c .before .before .before .before .before .before .before .before .before .before .before .before .if2 .left) (omega (arith, count-some (a .counts .now) (a .left) (a .left - 1) e, c .before .before .before .before .before .before .before .before .before .before .wide .ensures .0, c .before .before .before .before .before .before .before .before .before .before .before .before .before .before .before .before .before .before .before .pre .1 .1 .1)) (c .before .before .before .before .before .before .before .before .before .before .wide .ensures .0) (c .before .before .before .before .before .before .update-columns .ensures) (c .before .before .update .ensures)))
+    (λ c. let a = c .before .before .before .before .before .before .before .before .before .before .before .before .before .before .before .before .before .before .before .before .args in let e : a .left ≡ suc (a .left - 1) = omega (arith, c .before .before .before .before .before .before .before .before .before .before .before .before .before .if1 .left) in out-ranges _ _ _ _ _ _ _ _ _ _ _ _ _ _ _ e (c .before .before .before .before .before .before .before .before .before .before .before .before .if2 .left) (omega (arith, count-some (a .counts .now) (a .left) (a .left - 1) e, c .before .before .before .before .before .before .before .before .before .before .wide .ensures .0, c .before .before .before .before .before .before .before .before .before .before .before .before .before .before .before .before .before .before .before .before .pre .1 .1 .1)) (c .before .before .before .before .before .before .before .before .before .before .wide .ensures .0) (c .before .before .before .before .before .before .update-columns .ensures) (c .before .before .update .ensures)))
     λ t. update-columns-lts.spec (covers-reads.Asked, covers-reads.Learnt, count-of-reads.Asked, count-of-reads.Learnt, update-below t, update.Post, update-columns-below t, update-columns.Post)
     (update-columns-at t)
     update-columns.Post
-    (λ c κs. let a = c .before .before .before .before .before .before .args in let p = c .before .before .before .before .before .before .pre .1 in (cut-in _ _ _ _ (p .0) (a .dimension) (omega (arith, p .1 .0 .dims)) (a .column) (omega (arith, p .1 .1 .0, c .if1 .taken)), range-in _ _ _ _ (p .0) (a .dimension) (omega (arith, p .1 .0 .dims)) (a .range) (p .1 .1 .1)))
-    (λ c κs. omega (arith, c .before .before .before .before .before .before .before .before .pre .1 .0 .all-counts, c .before .before .before .before .before .before .before .before .pre .1 .1 .0 .dims))
-    (λ c. omega (arith, node-in _ _ _ _ (node-child _ _ _ _ _ _ (c .before .before .before .before .before .before .before .before .before .before .pre .1 .1 .1 .0) (c .before .before .before .before .if1 .taken) (c .before .before .before .before .before .before .before .before .before .before .pre .1 .1 .0)), c .before .before .before .before .before .before .before .before .before .before .good))
-    (λ c. omega (arith, node-in _ _ _ _ (node-child _ _ _ _ _ _ (c .before .before .before .before .before .before .before .before .before .before .pre .1 .1 .1 .0) (c .before .before .before .before .if1 .taken) (c .before .before .before .before .before .before .before .before .before .before .pre .1 .1 .0)), c .before .before .before .before .before .before .before .before .before .before .good))
-    (λ c κs. let a = c .before .before .before .before .before .before .before .before .before .before .args in let p = c .before .before .before .before .before .before .before .before .before .before .pre .1 in let few = count-few _ _ _ _ (p .0) (a .dimension) (omega (arith, p .1 .0 .dims)) in (omega (arith, c .before .before .before .before .before .before .before .before .before .before .pre .0, few, c .before .count-of .ensures), (p .0, (node-child _ _ _ _ _ _ (p .1 .1 .0) (c .before .before .before .before .if1 .taken) (p .1 .0), omega (arith, c .before .count-of .ensures)))))
+    (λ c κs. let a = c .before .before .before .before .before .before .before .args in let p = c .before .before .before .before .before .before .before .pre .1 in let d = cut-in _ _ _ _ _ (p .0) (a .dimension) (omega (arith, p .1 .0 .dims)) (a .column) (omega (arith, p .1 .1 .0, c .if1 .taken)) in (d .0, d .1, range-in _ _ _ _ _ (p .0) (a .dimension) (omega (arith, p .1 .0 .dims)) (a .range) (p .1 .1 .2)))
+    (λ c κs. omega (arith, c .before .before .before .before .before .before .before .before .before .pre .1 .0 .all-counts, c .before .before .before .before .before .before .before .before .before .pre .1 .1 .0 .dims))
+    (λ c. omega (arith, node-in _ _ _ _ (node-child _ _ _ _ _ _ (c .before .before .before .before .before .before .before .before .before .before .before .pre .1 .1 .1 .0) (c .before .before .before .before .if1 .taken) (c .before .before .before .before .before .before .before .before .before .before .before .pre .1 .1 .0)), c .before .before .before .before .before .before .before .before .before .before .before .good))
+    (λ c. omega (arith, node-in _ _ _ _ (node-child _ _ _ _ _ _ (c .before .before .before .before .before .before .before .before .before .before .before .pre .1 .1 .1 .0) (c .before .before .before .before .if1 .taken) (c .before .before .before .before .before .before .before .before .before .before .before .pre .1 .1 .0)), c .before .before .before .before .before .before .before .before .before .before .before .good))
+    (λ c κs. let a = c .before .before .before .before .before .before .before .before .before .before .before .args in let p = c .before .before .before .before .before .before .before .before .before .before .before .pre .1 in let few = count-few _ _ _ _ _ (p .0) (a .dimension) (omega (arith, p .1 .0 .dims)) in (omega (arith, c .before .before .before .before .before .before .before .before .before .before .before .pre .0, few, c .before .count-of .ensures), (p .0, (node-child _ _ _ _ _ _ (p .1 .1 .0) (c .before .before .before .before .if1 .taken) (p .1 .0), omega (arith, c .before .count-of .ensures)))))
     (λ c. search needs)
-    (λ c κs. let p = c .before .before .before .before .before .before .before .before .before .before .before .before .before .before .pre .1 in (omega (arith, c .before .before .before .before .before .before .before .before .before .before .before .before .before .before .pre .0, c .before .before .before .before .before .before .before .before .if1 .taken), (p .0, (node-len _ _ _ _ _ (c .before .before .before .update .kept .0) (p .1 .0), p .1 .1))))
+    (λ c κs. let p = c .before .before .before .before .before .before .before .before .before .before .before .before .before .before .before .pre .1 in (omega (arith, c .before .before .before .before .before .before .before .before .before .before .before .before .before .before .before .pre .0, c .before .before .before .before .before .before .before .before .if1 .taken), (p .0, (node-len _ _ _ _ _ (c .before .before .before .update .kept .0) (p .1 .0), p .1 .1))))
     (λ c. search needs)
-    (update-columns-update-columns-requires-2 t)
+    (λ c κs. (omega (arith, c .before .before .before .before .before .before .before .before .before .before .pre .0, c .before .before .before .if1 .taken), c .before .before .before .before .before .before .before .before .before .before .pre .1))
     (λ c. search needs)
-    (λ c. out-in _ _ _ _ _ _ _ _ _ _ _ (c .before .before .before .before .before .before .before .before .before .before .before .before .before .before .before .before .before .pre .1 .1 .1 .0) _ _ _ _ _ (c .before .before .before .before .before .before .before .before .before .before .before .if1 .taken) (c .before .before .before .before .before .before .before .before .count-of .ensures) (c .before .before .before .before .before .before .before .before .before .before .covers .ensures) (c .before .before .before .before .before .before .before .before .before .if2 .taken) (c .before .before .before .before .before .before .update .ensures) (c .before .before .update-columns .ensures))
+    (λ c. out-in _ _ _ _ _ _ _ _ _ _ _ _ (c .before .before .before .before .before .before .before .before .before .before .before .before .before .before .before .before .before .before .pre .1 .1 .1 .0) _ _ _ _ _ (c .before .before .before .before .before .before .before .before .before .before .before .if1 .taken) (c .before .before .before .before .before .before .before .before .count-of .ensures) (c .before .before .before .before .before .before .before .before .before .before .covers .ensures) (c .before .before .before .before .before .before .before .before .before .if2 .taken) (c .before .before .before .before .before .before .update .ensures) (c .before .before .update-columns .ensures))
     (λ c. search needs)
-    (λ c. out-out _ _ _ _ _ _ _ _ _ _ _ (c .before .before .before .before .before .before .before .before .before .before .before .before .pre .1 .1 .1 .0) _ _ _ (c .before .before .before .before .before .before .if1 .taken) (c .before .before .before .before .before .covers .ensures) (c .before .before .before .before .if2 .left) (c .before .before .update-columns2 .ensures))
-    (λ c. out-end _ _ _ _ _ _ _ _ _ _ _ (c .before .before .before .before .before .before .pre .1 .1 .1 .0) _ (c .if1 .left))
+    (λ c. out-out _ _ _ _ _ _ _ _ _ _ _ _ (c .before .before .before .before .before .before .before .before .before .before .before .before .before .pre .1 .1 .1 .0) _ _ _ (c .before .before .before .before .before .before .if1 .taken) (c .before .before .before .before .before .covers .ensures) (c .before .before .before .before .if2 .left) (c .before .before .update-columns2 .ensures))
+    (λ c. out-end _ _ _ _ _ _ _ _ _ _ _ _ (c .before .before .before .before .before .before .before .pre .1 .1 .1 .0) _ (c .if1 .left))

@@ -9,6 +9,7 @@ covers-spec =
     (tie.spec
     (λ c. search needs)
     (λ c. search needs)
+    (λ c κs. search needs)
     (λ c. search needs)
     (λ c. search needs)
     (λ c. search needs)
@@ -19,5 +20,6 @@ covers-spec =
     (λ c. search needs)
     (λ c. search needs)
     (λ c. search needs)
-    (λ c. covers-yes _ _ _ _ _ (c .before .if1 .taken))
-    (λ c. covers-no _ _ _ _ _ (c .if1 .left)))
+    (λ c. search needs)
+    (λ c. covers-yes _ _ _ _ _ _ _ (c .before .before .before .before .wide .ensures .0) (c .before .if1 .taken))
+    (λ c. covers-no _ _ _ _ _ _ _ (c .before .before .before .wide .ensures .0) (c .if1 .left)))
