@@ -1,8 +1,7 @@
 // A list of rule numbers, with the tables of states and spans, as spans with their states.
 ghost use mathlib.Core.Path.{_≡_};
-ghost use mathlib.Core.List.{List};
-ghost use Prim.Native.Nat.{ℕ, _+_, _*_, _-_, _<_, _≤_};
-ghost use lib.ListN.{length, getD};
+ghost use Prim.Native.Nat.{_+_, _*_, _-_, _<_, _≤_};
+ghost use lib.ListN.{length};
 ghost use lib.Seq.{sets};
 ghost use Rattle.words.specs.Words.{part};
 ghost use Rattle.canonical_time.specs.Flatten.{sameStates, statesFrom, spansFrom, Tables};

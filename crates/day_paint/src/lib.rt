@@ -6,7 +6,7 @@ use words::cut_at;
 use words::wide;
 ghost use mathlib.Core.Path.{_≡_};
 ghost use Prim.Native.Nat.{_+_, _*_, _-_, _<_, _≤_};
-ghost use lib.ListN.{length, getD};
+ghost use lib.ListN.{length};
 ghost use lib.Seq.{sets};
 ghost use Rattle.span_number.specs.Number.{spanAt};
 ghost use Rattle.definition.specs.Day.{simple};

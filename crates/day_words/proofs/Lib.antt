@@ -1,1 +1,3 @@
 pub mod DayWays
+pub mod ClassWays
+pub mod Flat

@@ -1,11 +1,15 @@
--- The flat form of a day: for each entry its state, how many spans it has, and these. And the list of rules that numbers name over
--- tables; a day looks at their states and spans alone.
+-- The flat form of a day: for each entry its state, how many spans it has, and these; and a day read back from words. And the list of
+-- rules that numbers name over tables; a day looks at their states and spans alone.
 -- Assumes nothing.
+use mathlib.Core.Path.{_≡_}
 use mathlib.Core.List.{List, [], _∷_, _++_, map}
+use mathlib.Core.Bool.{Bool}
 use Prim.Native.Nat.{ℕ, zero, suc, _+_, _*_, _%_}
+use lib.Dec.{eqb}
 use lib.ListN.{getD}
-use Rattle.definition.specs.Rule.{Normal, Rule}
-use Rattle.definition.specs.Day.{Stated, Day}
+use Rattle.laws.specs.Lists.{All}
+use Rattle.definition.specs.Rule.{Normal, kindNumber, State, Span, Rule}
+use Rattle.definition.specs.Day.{Stated, Entry, Day}
 use Rattle.definition.specs.Group.{asRule}
 use Rattle.span_number.specs.Number.{stateNumber, stateAt, spanNumber, spanAt}
 use Rattle.words.specs.Words.{part, entryWords}
@@ -13,6 +17,31 @@ use Rattle.words.specs.Words.{part, entryWords}
 unfoldable pub flat : Day → List ℕ
 flat [] = []
 flat (e ∷ d) = entryWords (stateNumber (e .0)) (map spanNumber (e .1)) ++ flat d
+
+-- the spans that k words at the front stand for, and the entries that the words after them do; of words that break off, what is there
+unfoldable pub unflatFrom : ℕ → List ℕ → List Span × Day
+unflatFrom zero [] = ([], [])
+unflatFrom (suc k) [] = ([], [])
+unflatFrom zero (w ∷ []) = ([], (stateAt w, []) ∷ [])
+unflatFrom zero (w ∷ n ∷ ws) = let r = unflatFrom n ws in ([], (stateAt w, r .0) ∷ r .1)
+unflatFrom (suc k) (w ∷ ws) = let r = unflatFrom k ws in (spanAt w ∷ r .0, r .1)
+
+abbrev pub unflat : List ℕ → Day
+unflat ws = unflatFrom 0 ws .1
+
+-- a day whose states and spans have numbers of their own
+abbrev pub OwnState : State → Type 0
+OwnState S = stateAt (stateNumber S) ≡ S
+
+abbrev pub OwnSpan : Span → Type 0
+OwnSpan s = spanAt (spanNumber s) ≡ s
+
+abbrev pub OwnNumbers : Day → Type 0
+OwnNumbers = All (λ e. OwnState (e .0) × All OwnSpan (e .1))
+
+-- an entry of the kind with this number
+abbrev pub ofKind : ℕ → Entry → Bool
+ofKind k e = eqb (kindNumber (e .0 .kind)) k
 
 -- the rules that r numbers from place i of the list on name
 unfoldable pub listRules : List ℕ → List ℕ → List ℕ → List ℕ → ℕ → ℕ → List Rule

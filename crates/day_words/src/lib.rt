@@ -1,4 +1,6 @@
-// Two days in their flat form: whether they are equal, and a number that equal ones share.
+// Days in their flat form: whether two are equal, a number that equal ones share, and the class of one.
+pub mod class;
+
 ghost use mathlib.Core.Path.{_≡_};
 ghost use Prim.Native.Nat.{_-_, _≤_};
 ghost use lib.Dec.{eqb};

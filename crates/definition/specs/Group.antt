@@ -4,7 +4,7 @@
 -- no items."
 -- Assumes nothing.
 use mathlib.Core.List.{List, [], _∷_, map, flatMap}
-use mathlib.Core.Bool.{Bool, true, false, _&&_}
+use mathlib.Core.Bool.{Bool, true, false, _&&_, cond}
 use Prim.Native.Nat.{ℕ, _-_}
 use lib.Dec.{eqb}
 use Rattle.laws.specs.Lists.{every}
@@ -42,6 +42,12 @@ allAre k d = nonEmpty d && every (isKind k) d
 -- class after class, so "any other" needs no test of the classes before it
 abbrev pub dayClasses : List (Day → Bool)
 dayClasses = allAre Open ∷ firstIs Open ∷ allAre Unknown ∷ firstIs Unknown ∷ nonEmpty ∷ []
+
+-- the first of the classes that a day is of, 0 for none
+unfoldable pub dayClass : Day → ℕ
+dayClass [] = 0
+dayClass (e ∷ d) =
+    cond (allAre Open (e ∷ d)) 1 (cond (firstIs Open (e ∷ d)) 2 (cond (allAre Unknown (e ∷ d)) 3 (cond (firstIs Unknown (e ∷ d)) 4 5)))
 
 -- a day, and in each dimension the maximal runs of the points that have it
 abbrev pub Page : Type 0

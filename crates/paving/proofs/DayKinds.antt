@@ -11,9 +11,8 @@ use borrow.Author.Tests.{eqb-true}
 use Rattle.laws.specs.Lists.{every}
 use Rattle.definition.specs.Rule.{Open, Unknown, kindNumber}
 use Rattle.definition.specs.Day.{Day}
-use Rattle.definition.specs.Group.{isKind, nonEmpty, firstIs, allAre, dayClasses}
+use Rattle.definition.specs.Group.{isKind, nonEmpty, firstIs, allAre, dayClasses, dayClass}
 use Rattle.paving.specs.Grid.{lowestKind, inClass}
-use Rattle.paving.specs.Kind.{dayKind}
 use Rattle.paving.proofs.Points.{Classed}
 
 -- a kind's test
@@ -36,9 +35,9 @@ kind-tests false b true false n = (refl, refl, refl, refl, refl)
 kind-tests false b false w n = (refl, refl, refl, refl, refl)
 
 day-tests : (d : Day)
-    → (allAre Open d ≡ test (dayKind d) 1) × (firstIs Open d ≡ test (dayKind d) 2) × (allAre Unknown d ≡ test (dayKind d) 3)
-    × (firstIs Unknown d ≡ test (dayKind d) 4) × (nonEmpty d ≡ test (dayKind d) 5)
-unfolding dayKind every lowestKind
+    → (allAre Open d ≡ test (dayClass d) 1) × (firstIs Open d ≡ test (dayClass d) 2) × (allAre Unknown d ≡ test (dayClass d) 3)
+    × (firstIs Unknown d ≡ test (dayClass d) 4) × (nonEmpty d ≡ test (dayClass d) 5)
+unfolding dayClass every lowestKind
 day-tests [] = (refl, refl, refl, refl, refl)
 day-tests (e ∷ d) = kind-tests (isKind Open e) (every (isKind Open) d) (isKind Unknown e) (every (isKind Unknown) d) neither
   where
@@ -48,7 +47,7 @@ day-tests (e ∷ d) = kind-tests (isKind Open e) (every (isKind Open) d) (isKind
         omega arith
 
 -- THE CLASSES: a table that holds the kind of each day in use says of its number what the definition's classes say of the day
-pub day-classed : (day : ℕ → Day) (P : ℕ → Type 0) (kinds : List ℕ) → ((v : ℕ) → P v → getD kinds v 0 ≡ dayKind (day v)) → Classed day P kinds 1 dayClasses
+pub day-classed : (day : ℕ → Day) (P : ℕ → Type 0) (kinds : List ℕ) → ((v : ℕ) → P v → getD kinds v 0 ≡ dayClass (day v)) → Classed day P kinds 1 dayClasses
 unfolding inClass
 day-classed day P kinds h = (
   λ v p. day-tests (day v) .0 ∙ ap (λ c. test c 1) (sym (h v p)),
