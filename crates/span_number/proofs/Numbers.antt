@@ -104,7 +104,7 @@ unfolding repeatsAt
 number-repeats none = refl
 number-repeats (some n) = rw (ne-eqb (suc n) 0 (omega arith)) (let e : suc n - 1 ≡ n = omega arith in ap some e)
 
-flag-number : (n : ℕ) → cond (eqb (n % 2) 1) 1 0 ≡ n % 2
+pub flag-number : (n : ℕ) → cond (eqb (n % 2) 1) 1 0 ≡ n % 2
 flag-number n = go (eqb (n % 2) 1) refl
   where
     go : (b : Bool) → eqb (n % 2) 1 ≡ b → cond b 1 0 ≡ n % 2

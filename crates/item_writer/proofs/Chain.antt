@@ -1,0 +1,45 @@
+-- Writers one behind the other: bits stored, then more bits behind them, are all of them stored; and room for all is room for each.
+-- Assumes nothing.
+use mathlib.Core.Path.{_≡_, sym, ap, _∙_, subst}
+use mathlib.Core.List.{List, [], _∷_, _++_}
+use Prim.Native.Nat.{ℕ, suc, _+_}
+use native.Mathlib.Omega.{arith}
+use lib.ListN.{length, set, length-append}
+use lib.Seq.{sets, length-sets}
+use Rattle.definition.specs.Field.{sheetBits}
+use Rattle.definition.proofs.Bits.{length-sheetBits}
+use Rattle.item_writer.specs.Written.{Room, Wrote}
+
+pub sets-append : {A : Type 0} (xs ys s : List A) (at : ℕ) → sets (sets s at xs) (at + length xs) ys ≡ sets s at (xs ++ ys)
+sets-append [] ys s at = let z : at + 0 ≡ at = omega arith in ap (λ j. sets s j ys) z
+sets-append (x ∷ xs) ys s at =
+    let z : at + suc (length xs) ≡ suc at + length xs = omega arith in
+    ap (λ j. sets (sets (set s at x) (suc at) xs) j ys) z ∙ sets-append xs ys (set s at x) (suc at)
+
+module _ {old xs mid : List ℕ} {at place : ℕ} (first : Wrote old at xs mid place) where
+  -- no bit more, no bit less
+  same-size : length mid ≡ length old
+  same-size = omega (arith, ap length (first .stored), length-sets (sheetBits old) at xs, length-sheetBits mid, length-sheetBits old)
+
+  pub wrote-then : {ys out : List ℕ} {next : ℕ} → Wrote mid place ys out next → Wrote old at (xs ++ ys) out next
+  wrote-then {ys} {out} {next} second = record {
+    behind = omega (arith, first .behind, second .behind, length-append xs ys);
+    stored = second .stored ∙ ap (λ s. sets s place ys) (first .stored) ∙ ap (λ j. sets (sets (sheetBits old) at xs) j ys) (first .behind) ∙ sets-append xs ys (sheetBits old) at;
+  }
+
+  -- behind what was written there is room for the rest
+  pub room-rest : (ys : List ℕ) → Room (length old) at (xs ++ ys) → Room (length mid) place ys
+  room-rest ys r = record {
+    inside = omega (arith, r .inside, first .behind, length-append xs ys, same-size);
+    low = omega (arith, r .low, first .behind, length-append xs ys);
+  }
+
+pub room-first : {size at : ℕ} (xs ys : List ℕ) → Room size at (xs ++ ys) → Room size at xs
+room-first xs ys r = record { inside = omega (arith, r .inside, length-append xs ys); low = omega (arith, r .low, length-append xs ys) }
+
+-- ## The same bits, said in another way
+pub room-as : {size at : ℕ} {xs ys : List ℕ} → xs ≡ ys → Room size at xs → Room size at ys
+room-as {size} {at} e r = subst (Room size at) e r
+
+pub wrote-as : {old xs ys out : List ℕ} {at next : ℕ} → xs ≡ ys → Wrote old at ys out next → Wrote old at xs out next
+wrote-as {old} {xs} {ys} {out} {at} {next} e w = subst (λ new. Wrote old at new out next) (sym e) w

@@ -1,0 +1,34 @@
+// Fields stored from a bit on, with the bit after them as the answer: what all writers chain.
+ghost use mathlib.Core.List.{_++_};
+ghost use lib.ListN.{length};
+ghost use Rattle.definition.specs.Field.{bits};
+ghost use Rattle.item_writer.specs.Written.{Fits, Room, Wrote};
+
+pub fn put(out: &mut [u8], at: usize, width: usize, value: u64) -> usize
+    requires { ⌜ Fits width value ⌝ }
+    requires { ⌜ Room (length (now out)) at (bits width value) ⌝ }
+    ensures { λ r. ⌜ Wrote (now (out .entry)) at (bits width value) (now (out .exit)) r ⌝ }
+{
+    writer::put_field(out, at, width, value);
+    at + width
+}
+
+// Three of them, one behind the other.
+pub fn put_three(
+    out: &mut [u8],
+    at: usize,
+    width: usize,
+    value: u64,
+    width2: usize,
+    value2: u64,
+    width3: usize,
+    value3: u64,
+) -> usize
+    requires { ⌜ Fits width value × Fits width2 value2 × Fits width3 value3 ⌝ }
+    requires { ⌜ Room (length (now out)) at (bits width value ++ (bits width2 value2 ++ bits width3 value3)) ⌝ }
+    ensures { λ r. ⌜ Wrote (now (out .entry)) at (bits width value ++ (bits width2 value2 ++ bits width3 value3)) (now (out .exit)) r ⌝ }
+{
+    let then = put(out, at, width, value);
+    let last = put(out, then, width2, value2);
+    put(out, last, width3, value3)
+}
