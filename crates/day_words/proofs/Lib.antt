@@ -1,3 +1,4 @@
 pub mod DayWays
 pub mod ClassWays
 pub mod Flat
+pub mod Own

@@ -3,8 +3,8 @@
 -- Assumes nothing.
 use mathlib.Core.Path.{_≡_, refl, ap, _∙_}
 use mathlib.Core.List.{List, [], _∷_, _++_, map, flatMap}
-use mathlib.Core.Logic.{_⊎_, inl, inr}
-use mathlib.Core.Bool.{Bool, true, false, cond}
+use mathlib.Core.Logic.{inl, inr}
+use mathlib.Core.Bool.{Bool, true, false}
 use Prim.Native.Nat.{ℕ, suc, _+_, _≤_}
 use native.Mathlib.Omega.{arith}
 use lib.Dec.{eqb}
@@ -16,8 +16,10 @@ use Rattle.grid.specs.Group.{Group, groups}
 use Rattle.grid.specs.Cut.{coordinates, asRuns}
 use Rattle.grid.proofs.Distinct.{values, groups-distinct, groups-values, distinct-count}
 use Rattle.definition.specs.Rule.{State, closed, sameState, Span, Rule}
-use Rattle.definition.specs.Day.{Stated, Entry, Day, simple, within, stated, flattened, runOf, afterRun, painting, joinGroup, byState, grouped, lastOver, stateClasses, minuteBounds, painted, asEntry, paintedEntries, sortedEntry, dayOf, entryOf, day}
+use Rattle.definition.specs.Day.{Stated, Entry, Day, simple, stated, flattened, runOf, afterRun, painting, joinGroup, byState, grouped, stateClasses, minuteBounds, painted, asEntry, paintedEntries, sortedEntry, dayOf, entryOf, day}
 use Rattle.definition.proofs.Same.{exact-state}
+use Rattle.definition.proofs.PaintedShows.{classes-closed}
+use Rattle.definition.proofs.DayHolds.{shows-painter}
 
 -- ## Groups of consecutive equal state
 join-more : (x : Stated) (d : Day) → (length d ≤ length (joinGroup x d)) × (length (joinGroup x d) ≤ suc (length d))
@@ -30,11 +32,11 @@ join-more x (g ∷ gs) = go (sameState (x .0) (g .0)) refl
     go false e = rw (e, joinGroup) (omega arith)
 
 -- the first group has the state
-abbrev Heads : State → Day → Type 0
+abbrev pub Heads : State → Day → Type 0
 Heads S [] = ⊥
 Heads S (g ∷ gs) = g .0 ≡ S
 
-join-heads : (x : Stated) (d : Day) → Heads (x .0) (joinGroup x d)
+pub join-heads : (x : Stated) (d : Day) → Heads (x .0) (joinGroup x d)
 unfolding joinGroup
 join-heads x [] = refl
 join-heads x (g ∷ gs) = go (sameState (x .0) (g .0)) refl
@@ -82,7 +84,7 @@ after-groups S (x ∷ xs) = go (sameState (x .0) S) refl (after-groups S xs)
     go false e ih = rw (e, afterRun) (omega arith)
 
 -- a run of S goes over the spans of S
-after-stated : (S : State) (ss : List Span) (xs : List Stated) → afterRun S (stated (S, ss) ++ xs) ≡ afterRun S xs
+pub after-stated : (S : State) (ss : List Span) (xs : List Stated) → afterRun S (stated (S, ss) ++ xs) ≡ afterRun S xs
 unfolding afterRun
 after-stated S [] xs = refl
 after-stated S (s ∷ ss) xs = rw (exact-state .self S, afterRun) (after-stated S ss xs)
@@ -124,20 +126,6 @@ unfolding flattened flatMap painting grouped
 choice [] = record { states = []; painters = tt; few = omega arith }
 choice (e ∷ d) = let w = entry-choice (e .0) d (choice d) (e .1) in record { states = e .0 ∷ w .0; painters = w .1; few = w .2 }
 
--- a painted minute shows plain Closed or one of the painters' states
-shows-painter : (K : List State) (S : State) (xs : List Stated) → All (λ x. Mem (x .0) K) xs → (S ≡ closed) ⊎ Mem S K → (m : ℕ)
-    → (lastOver within S xs m ≡ closed) ⊎ Mem (lastOver within S xs m) K
-unfolding lastOver
-shows-painter K S [] h s m = s
-shows-painter K S (x ∷ xs) h s m = shows-painter K (cond (within (x .1) m) (x .0) S) xs (h .1) (go (within (x .1) m)) m
-  where
-    go : (b : Bool) → (cond b (x .0) S ≡ closed) ⊎ Mem (cond b (x .0) S) K
-    go true = inr (h .0)
-    go false = s
-
-classes-closed : All (λ ok. ok closed ≡ false) stateClasses
-classes-closed = (refl, (refl, (refl, (refl, (refl, tt)))))
-
 -- no more painted entries than painters' states
 painted-count : (K : List State) (xs : List Stated) → All (λ x. Mem (x .0) K) xs → length (paintedEntries xs) ≤ length K
 unfolding paintedEntries
@@ -149,7 +137,7 @@ painted-count K xs h =
       length-map gs (λ g. g .0),
       distinct-count exact-state (values gs) K (groups-distinct exact-state exact-eqb closed (coordinates minuteBounds) stateClasses classes-closed (painted xs))
           (as-values gs (groups-values exact-state exact-eqb closed (coordinates minuteBounds) (λ v. Mem v K) stateClasses classes-closed (painted xs)
-          (λ m i. shows-painter K closed xs h (inl refl) m))),
+          (λ m i. shows-painter (λ S. Mem S K) closed xs h (inl refl) m))),
     )
   where
     gs : List (Group ℕ State)

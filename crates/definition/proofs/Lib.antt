@@ -8,6 +8,7 @@ pub mod Same
 pub mod DayBox
 pub mod Lawful
 pub mod FoldBox
+pub mod DayHolds
 pub mod Entries
 pub mod Groups
 pub mod Spans
@@ -15,4 +16,6 @@ pub mod Counts
 pub mod RuleCounts
 pub mod PaintedShows
 pub mod DayShows
+pub mod SpanOrder
+pub mod DayAgain
 pub mod Worked

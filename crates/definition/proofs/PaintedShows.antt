@@ -96,10 +96,10 @@ unfolding runs anyOf
 runs-hold m [] h = refl
 runs-hold m (x ∷ xs) h = glue-holds m x (runs xs) (runs-proper xs (h .1)) ∙ ap (eqb m x ||_) (runs-hold m xs (h .1))
 
-minutes-below : All (λ x. x < 1440) (coordinates minuteBounds)
+pub minutes-below : All (λ x. x < 1440) (coordinates minuteBounds)
 minutes-below = All-from (λ x. x < 1440) 0 1440 (λ b l k. omega arith)
 
-plain-simple : (r : Range) → ProperRun r → simple (plainSpan r) ≡ true
+pub plain-simple : (r : Range) → ProperRun r → simple (plainSpan r) ≡ true
 unfolding simple
 plain-simple r h = rw (lt-ltb (r .0) (r .1) (h .0), le-leb (r .1) 1440 (h .1))
 
@@ -150,7 +150,7 @@ module _ (c : Cover) (m : ℕ) where
       go true e = found-avoid (g .0) gs (s .0 (m ∷ []) e)
       go false e = refl
 
-classes-closed : All (λ ok. ok closed ≡ false) stateClasses
+pub classes-closed : All (λ ok. ok closed ≡ false) stateClasses
 classes-closed = (refl, (refl, (refl, (refl, (refl, tt)))))
 
 -- a state of no painted class is plain Closed

@@ -1,13 +1,19 @@
 -- The tests of equality are exact. Rests on the flags' laws.
 -- Assumes nothing.
-use mathlib.Core.Path.{_≡_, refl, ap, ap₂}
+use mathlib.Core.Path.{_≡_, refl, ap, ap₂, _∙_}
 use mathlib.Core.List.{List, [], _∷_}
 use mathlib.Core.Option.{Option, none, some}
 use mathlib.Core.Bool.{Bool, true, false, false≢true}
 use lib.Dec.{eqb}
 use borrow.Author.Tests.{eqb-true, eq-eqb}
 use Rattle.laws.specs.Tests.{Exact, sameList, samePair, sameOption, sameFlag}
-use Rattle.laws.proofs.Flags.{split-and, both-and}
+use Rattle.laws.proofs.Flags.{split-and, both-and, same-flag}
+
+-- an exact test goes both ways
+pub exact-swap : {A : Type 0} {same : A → A → Bool} → Exact same → (x y : A) → same x y ≡ same y x
+exact-swap {A} {same} h x y = same-flag (same x y) (same y x)
+    (λ e. ap (same y) (h .equal x y e) ∙ h .self y)
+    (λ e. ap (same x) (h .equal y x e) ∙ h .self x)
 
 pub exact-eqb : Exact eqb
 exact-eqb = record { self = λ n. eq-eqb n n refl; equal = eqb-true }
