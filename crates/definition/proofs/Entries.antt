@@ -127,7 +127,7 @@ choice [] = record { states = []; painters = tt; few = omega arith }
 choice (e ∷ d) = let w = entry-choice (e .0) d (choice d) (e .1) in record { states = e .0 ∷ w .0; painters = w .1; few = w .2 }
 
 -- no more painted entries than painters' states
-painted-count : (K : List State) (xs : List Stated) → All (λ x. Mem (x .0) K) xs → length (paintedEntries xs) ≤ length K
+pub painted-count : (K : List State) (xs : List Stated) → All (λ x. Mem (x .0) K) xs → length (paintedEntries xs) ≤ length K
 unfolding paintedEntries
 painted-count K xs h =
     omega (

@@ -16,6 +16,7 @@ pub mod Counts
 pub mod RuleCounts
 pub mod PaintedShows
 pub mod DayShows
+pub mod DaySize
 pub mod SpanOrder
 pub mod DayAgain
 pub mod Worked

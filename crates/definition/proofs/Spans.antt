@@ -23,7 +23,7 @@ abbrev pub Brief : ℕ → Day → Type 0
 Brief n = All (λ e. length (e .1) ≤ n)
 
 -- ## Groups
-run-parts : (S : State) (xs : List Stated) → length (runOf S xs) + length (afterRun S xs) ≤ length xs
+pub run-parts : (S : State) (xs : List Stated) → length (runOf S xs) + length (afterRun S xs) ≤ length xs
 unfolding runOf afterRun
 run-parts S [] = omega arith
 run-parts S (x ∷ xs) = go (sameState (x .0) S) refl (run-parts S xs)
@@ -61,7 +61,7 @@ grouped-brief (x ∷ xs) = go (simple (x .1)) refl (grouped-brief xs)
       All-map (λ g l. omega (arith, l, run-parts (x .0) xs)) (byState (afterRun (x .0) xs)) (state-brief (afterRun (x .0) xs)),
     )
 
-length-sorted : (ss : List Span) → length (sorted ss) ≡ length ss
+pub length-sorted : (ss : List Span) → length (sorted ss) ≡ length ss
 unfolding sorted
 length-sorted [] = refl
 length-sorted (s ∷ ss) = inserted (sorted ss) ∙ ap suc (length-sorted ss)

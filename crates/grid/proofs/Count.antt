@@ -1,59 +1,32 @@
 -- How many: there are no more groups than points, and maximal runs are at most every other interval. Rests on the popped groups' laws.
 -- Assumes nothing.
-use mathlib.Core.Path.{_≡_, refl, sym, ap, _∙_}
+use mathlib.Core.Path.{_≡_, refl, sym}
 use mathlib.Core.List.{List, [], _∷_}
 use mathlib.Core.Logic.{_⊎_, inl, inr}
-use mathlib.Core.Option.{Option, none, some}
-use mathlib.Core.Bool.{Bool, true, false, not, true≢false}
-use Prim.Native.Nat.{ℕ, zero, suc, _+_, _*_, _-_, _≤_, _<_}
+use mathlib.Core.Bool.{Bool, true, false}
+use Prim.Native.Nat.{ℕ, suc, _+_, _*_, _-_, _≤_}
 use native.Mathlib.Nat.{mul-le-mul-left, mul-le-mul-right}
 use native.Mathlib.Omega.{arith}
 use lib.Dec.{eqb, ltb}
-use lib.ListN.{length, length-append}
+use lib.ListN.{length}
 use borrow.Author.Tests.{eq-eqb}
 use Rattle.laws.specs.Lists.{keep, All, OnSome}
 use Rattle.laws.specs.Tests.{Exact}
-use Rattle.laws.proofs.Flags.{not-true}
-use Rattle.laws.proofs.Lists.{All-map}
-use Rattle.grid.specs.Group.{Set, Map, Group, size, pop, clear, takeOut, sweepFor, sweep, groups}
+use Rattle.laws.proofs.Lists.{All-map, OnSome-map, sum-same}
+use Rattle.grid.specs.Group.{Set, Map, size, pop, clear, groups}
 use Rattle.grid.specs.Cut.{Range, between, intervals, cuts, cutAt, boxes, glue, joined}
-use Rattle.grid.proofs.Value.{tally, tally-size, pop-less}
+use Rattle.grid.proofs.Value.{tally, pop-less}
+use Rattle.grid.proofs.Size.{full, matched-full, empty-not-full, groups-weight}
 
 -- ## No more groups than points
 module _ {A W : Type 0} {eq : W → W → Bool} (exact : Exact eq) {same : A → A → Bool} (exact-same : Exact same) (empty : W) (Ds : Set A) where
-  -- the values that are not empty
-  abbrev full : W → Bool
-  full v = not (eq v empty)
-
-  sweep-count : (n : ℕ) (ok : W → Bool) → ok empty ≡ false → (f : Map A W)
-      → length (sweepFor eq same empty n ok Ds f .0) + tally full Ds (sweepFor eq same empty n ok Ds f .1) ≤ tally full Ds f
-  unfolding sweepFor takeOut
-  sweep-count zero ok z f = omega arith
-  sweep-count (suc n) ok z f = go (pop eq ok Ds f) (pop-less exact exact-same empty ok full fills (rw (exact .self empty)) Ds f) (λ f′. sweep-count n ok z f′)
-    where
-      fills : (v : W) → ok v ≡ true → full v ≡ true
-      fills v e = rw (not-true (eq v empty) (λ h. true≢false (sym e ∙ ap ok (exact .equal v empty h) ∙ z)))
-
-      go : (o : Option (Group A W)) → OnSome (λ g. tally full Ds (clear same empty (g .1) f) < tally full Ds f) o
-          → ((f′ : Map A W) → length (sweepFor eq same empty n ok Ds f′ .0) + tally full Ds (sweepFor eq same empty n ok Ds f′ .1) ≤ tally full Ds f′)
-          → length (takeOut eq same empty f (λ f′. sweepFor eq same empty n ok Ds f′) o .0)
-          + tally full Ds (takeOut eq same empty f (λ f′. sweepFor eq same empty n ok Ds f′) o .1) ≤ tally full Ds f
-      go none h ih = omega arith
-      go (some g) h ih = omega (arith, h, ih (clear same empty (g .1) f))
-
-  groups-tally : (oks : List (W → Bool)) → All (λ ok. ok empty ≡ false) oks → (f : Map A W) → length (groups eq same empty oks Ds f) ≤ tally full Ds f
-  unfolding groups sweep
-  groups-tally [] z f = omega arith
-  groups-tally (ok ∷ oks) z f =
-      omega (
-        arith,
-        length-append (sweep eq same empty ok Ds f .0) (groups eq same empty oks Ds (sweep eq same empty ok Ds f .1)),
-        sweep-count (size Ds) ok (z .0) f,
-        groups-tally oks (z .1) (sweep eq same empty ok Ds f .1),
-      )
-
   pub groups-count : (oks : List (W → Bool)) → All (λ ok. ok empty ≡ false) oks → (f : Map A W) → length (groups eq same empty oks Ds f) ≤ size Ds
-  groups-count oks z f = omega (arith, groups-tally oks z f, tally-size full Ds f)
+  groups-count oks z f = omega (arith, groups-weight exact exact-same empty Ds (λ g. 1) one oks z f, sum-same 1 (groups eq same empty oks Ds f))
+    where
+      one : (ok : W → Bool) → ok empty ≡ false → (f : Map A W)
+          → OnSome (λ g. 1 + tally (full exact exact-same empty) Ds (clear same empty (g .1) f) ≤ tally (full exact exact-same empty) Ds f) (pop eq ok Ds f)
+      one ok z f = OnSome-map (λ g h. omega arith) (pop eq ok Ds f)
+          (pop-less exact exact-same empty ok (full exact exact-same empty) (matched-full exact exact-same empty ok z) (empty-not-full exact exact-same empty) Ds f)
 
 -- ## Maximal runs are at most every other interval
 -- how the first of the ranges begins, where there is one
@@ -69,6 +42,11 @@ glue-more i (j ∷ rs) = go (eqb (i .1) (j .0)) refl
     go : (b : Bool) → eqb (i .1) (j .0) ≡ b → length (glue i (j ∷ rs)) ≤ suc (length (j ∷ rs))
     go true e = rw (e, glue) (omega arith)
     go false e = rw (e, glue) (omega arith)
+
+pub joined-less : (D : List Range) → length (joined D) ≤ length D
+unfolding joined
+joined-less [] = omega arith
+joined-less (i ∷ D) = omega (arith, glue-more i (joined D), joined-less D)
 
 glue-joins : (i : Range) (rs : List Range) → Begins (i .1) rs → length (glue i rs) ≡ length rs
 unfolding glue

@@ -6,6 +6,7 @@ pub mod Cover
 pub mod Interval
 pub mod Cut
 pub mod Box
+pub mod Size
 pub mod Count
 pub mod Distinct
 pub mod Number

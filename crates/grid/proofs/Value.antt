@@ -116,7 +116,7 @@ tally-size ok [] f = go (ok (f []))
 tally-size ok (D ∷ Ds) f = omega (arith, sum-le (λ x. tally ok Ds (at f x)) (λ x. size Ds) D (λ x. tally-size ok Ds (at f x)), sum-same (size Ds) D)
 
 module _ {A W : Type 0} (same : A → A → Bool) (empty : W) (ok : W → Bool) (unmatched : ok empty ≡ false) where
-  clear-le : (Ds S : Set A) (f : Map A W) → tally ok Ds (clear same empty S f) ≤ tally ok Ds f
+  pub clear-le : (Ds S : Set A) (f : Map A W) → tally ok Ds (clear same empty S f) ≤ tally ok Ds f
   unfolding tally clear
   clear-le [] [] f = rw unmatched (omega arith)
   clear-le [] (E ∷ S) f = omega arith

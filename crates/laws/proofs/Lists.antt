@@ -5,7 +5,7 @@ use mathlib.Core.List.{List, [], _∷_, _++_, map}
 use mathlib.Core.Logic.{inl, inr}
 use mathlib.Core.Option.{Option, none, some}
 use mathlib.Core.Bool.{Bool, true, false, _&&_, _||_, true≢false, false≢true}
-use Prim.Native.Nat.{ℕ, suc, _*_, _≤_, _<_}
+use Prim.Native.Nat.{ℕ, suc, _+_, _*_, _≤_, _<_}
 use native.Mathlib.Omega.{arith}
 use lib.ListN.{length}
 use Rattle.laws.specs.Lists.{firstOf, every, anyOf, keep, sum, All, Mem, OnSome, OnNone}
@@ -193,6 +193,12 @@ any-none t x (y ∷ D) h m = go (t y) refl m (any-none t x D)
     go false e (inl q) ih = rw q e
     go false e (inr k) ih = ih (rw e at h) k
 
+-- each element is one
+pub Mem-each : {A : Type 0} (D : List A) → All (λ x. Mem x D) D
+unfolding Mem
+Mem-each [] = tt
+Mem-each (x ∷ D) = (inl refl, All-map (λ y m. inr m) D (Mem-each D))
+
 -- ## Sums
 pub sum-le : {A : Type 0} (k h : A → ℕ) (D : List A) → ((x : A) → k x ≤ h x) → sum k D ≤ sum h D
 unfolding sum
@@ -209,3 +215,8 @@ pub sum-same : {A : Type 0} (n : ℕ) (D : List A) → sum (λ x. n) D ≡ lengt
 unfolding sum
 sum-same n [] = omega arith
 sum-same n (x ∷ D) = omega (arith, sum-same n D)
+
+pub sum-append : {A : Type 0} (h : A → ℕ) (xs ys : List A) → sum h (xs ++ ys) ≡ sum h xs + sum h ys
+unfolding sum
+sum-append h [] ys = omega arith
+sum-append h (x ∷ xs) ys = omega (arith, sum-append h xs ys)
