@@ -31,7 +31,7 @@ abbrev pub Lawful : Rule → Type 0
 Lawful r = All (LawfulIn r) dimensions
 
 -- ## Ranges of bounded items lie within the bounds
-split-inside : (b : Range) (e : Ends) → Bounded b e → All (Inside b) (split b e)
+pub split-inside : (b : Range) (e : Ends) → Bounded b e → All (Inside b) (split b e)
 unfolding split
 split-inside b e h = go (ltb (e .0) (suc (e .1))) refl
   where
@@ -55,19 +55,19 @@ ranges-inside b proper (e ∷ es) h = flatMap-all (Inside b) (split b) (e ∷ es
 ends-lawful : (w : ℕ) (b : Range) (m n : ℕ) → ltb m (2 ^ w) && holds m b ≡ true → ltb n (2 ^ w) && holds n b ≡ true → Bounded b (m, n)
 ends-lawful w b m n f g = (split-and (ltb m (2 ^ w)) (holds m b) f .1, split-and (ltb n (2 ^ w)) (holds n b) g .1)
 
-year-lawful : (y : YearRange) → yearRange .fits y ≡ true → Bounded yearBounds (y .start, y .end)
+pub year-lawful : (y : YearRange) → yearRange .fits y ≡ true → Bounded yearBounds (y .start, y .end)
 unfolding yearRange via _then_ field
 year-lawful y f =
     let k = split-and (ltb (y .start) (2 ^ 14) && holds (y .start) yearBounds) (ltb (y .end) (2 ^ 14) && holds (y .end) yearBounds && (ltb (y .step) (2 ^ 16) && leb 1 (y .step))) f in
     ends-lawful 14 yearBounds (y .start) (y .end) (k .0) (split-and (ltb (y .end) (2 ^ 14) && holds (y .end) yearBounds) (ltb (y .step) (2 ^ 16) && leb 1 (y .step)) (k .1) .0)
 
-week-lawful : (w : WeekRange) → weekRange .fits w ≡ true → Bounded weekBounds (w .start, w .end)
+pub week-lawful : (w : WeekRange) → weekRange .fits w ≡ true → Bounded weekBounds (w .start, w .end)
 unfolding weekRange via _then_ field
 week-lawful w f =
     let k = split-and (ltb (w .start) (2 ^ 6) && holds (w .start) weekBounds) (ltb (w .end) (2 ^ 6) && holds (w .end) weekBounds && (ltb (w .step) (2 ^ 8) && leb 1 (w .step))) f in
     ends-lawful 6 weekBounds (w .start) (w .end) (k .0) (split-and (ltb (w .end) (2 ^ 6) && holds (w .end) weekBounds) (ltb (w .step) (2 ^ 8) && leb 1 (w .step)) (k .1) .0)
 
-month-lawful : (m : MonthdayRange) → monthdayRange .fits m ≡ true → All (Bounded monthBounds) (monthEnds m)
+pub month-lawful : (m : MonthdayRange) → monthdayRange .fits m ≡ true → All (Bounded monthBounds) (monthEnds m)
 unfolding monthdayRange tagged monthdayOf via _then_ field
 month-lawful (months a b) f =
     let k = split-and true (ltb a (2 ^ 4) && holds a monthBounds && (ltb b (2 ^ 4) && holds b monthBounds)) f .1 in
@@ -76,7 +76,7 @@ month-lawful (months a b) f =
 month-lawful (monthsOf a b y) f = tt
 month-lawful (dated r) f = tt
 
-weekday-lawful : (d : WeekDayRange) → weekDayRange .fits d ≡ true → All (Bounded weekdayBounds) (weekdayEnds d)
+pub weekday-lawful : (d : WeekDayRange) → weekDayRange .fits d ≡ true → All (Bounded weekdayBounds) (weekdayEnds d)
 unfolding weekDayRange tagged weekdayOf via _then_ field
 weekday-lawful (fixedDays a b o s e) f =
     let rest = ltb o (2 ^ 16) && true && (ltb s (2 ^ 5) && true && (ltb e (2 ^ 5) && true)) in

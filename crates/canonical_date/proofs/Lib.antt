@@ -1,0 +1,5 @@
+pub mod Saying
+pub mod Flat
+pub mod ItemFacts
+pub mod Rows
+pub mod DayRows

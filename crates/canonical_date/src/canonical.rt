@@ -1,0 +1,145 @@
+// An item of days as ranges. Each kind splits its own item, so that a week is never split as a year; a failed one stops its rule.
+use bounded::Month;
+use bounded::OrderedWeekday;
+use bounded::Split;
+use bounded::StrictRange;
+use bounded::WeekNum;
+use bounded::Year;
+use item::day::Monthday;
+use item::day::Stepped;
+use item::day::WeekDay;
+ghost use mathlib.Core.Path.{_≡_};
+ghost use mathlib.Core.Bool.{_&&_};
+ghost use Prim.Native.Nat.{_<_, _^_};
+ghost use lib.Dec.{eqb};
+ghost use Rattle.definition.specs.Field.{Layout, sheetBits};
+ghost use Rattle.definition.specs.Sheet.{yearRange, monthdayRange, weekRange, weekDayRange};
+ghost use Rattle.definition.specs.Stop.{everyNth};
+ghost use Rattle.bounded.specs.Strict.{pairOf};
+ghost use Rattle.canonical_date.specs.Says.{boundsOf, yearSays, monthSays, weekSays, weekdaySays, told, itemSays, itemOf};
+
+// An item's ranges and the bit after it; or the item stops its rule.
+pub enum Canonical {
+    Ranges(Split, usize),
+    Stops,
+}
+
+fn number16(x: u64) -> u16
+    requires { ⌜ x < 65536 ⌝ }
+    ensures { λ r. ⌜ r ≡ x ⌝ }
+{
+    x as u16
+}
+
+fn number8(x: u64) -> u8
+    requires { ⌜ x < 256 ⌝ }
+    ensures { λ r. ⌜ r ≡ x ⌝ }
+{
+    x as u8
+}
+
+// "a step other than 1" stops.
+fn years_at(sheet: &[u8], at: usize) -> Canonical
+    requires { ⌜ at < 2 ^ 29 ⌝ }
+    ensures { λ r. ⌜ itemOf r ≡ told yearSays (yearRange .read (sheetBits (now (sheet .entry))) at) ⌝ }
+{
+    let read = item::day::year_range_at(sheet, at);
+    let Stepped::Item(start, end, step, next) = read else {
+        return Canonical::Stops;
+    };
+    if step == 1 {
+        let split = Year::split_inverted_range(Year(number16(start)), Year(number16(end)));
+        return Canonical::Ranges(split, next);
+    }
+    Canonical::Stops
+}
+
+// "a monthday of tag 1 or 2" stops.
+fn months_at(sheet: &[u8], at: usize) -> Canonical
+    requires { ⌜ at < 2 ^ 29 ⌝ }
+    ensures { λ r. ⌜ itemOf r ≡ told monthSays (monthdayRange .read (sheetBits (now (sheet .entry))) at) ⌝ }
+{
+    let read = item::day::monthday_range_at(sheet, at);
+    match read {
+        Monthday::Months(start, end, next) => {
+            let split = Month::split_inverted_range(Month(number8(start)), Month(number8(end)));
+            Canonical::Ranges(split, next)
+        }
+        Monthday::MonthsOf(start, end, year, next) => Canonical::Stops,
+        Monthday::Dated(reference, next) => Canonical::Stops,
+        Monthday::Refused(code, place) => Canonical::Stops,
+    }
+}
+
+// "a step other than 1" stops.
+fn weeks_at(sheet: &[u8], at: usize) -> Canonical
+    requires { ⌜ at < 2 ^ 29 ⌝ }
+    ensures { λ r. ⌜ itemOf r ≡ told weekSays (weekRange .read (sheetBits (now (sheet .entry))) at) ⌝ }
+{
+    let read = item::day::week_range_at(sheet, at);
+    let Stepped::Item(start, end, step, next) = read else {
+        return Canonical::Stops;
+    };
+    if step == 1 {
+        let split = WeekNum::split_inverted_range(WeekNum(number8(start)), WeekNum(number8(end)));
+        return Canonical::Ranges(split, next);
+    }
+    Canonical::Stops
+}
+
+// Weekdays as they stand: not moved, and every one of a month.
+fn every_week(offset: u64, from_start: u64, from_end: u64) -> bool
+    ensures { λ r. ⌜ r ≡ eqb offset 0 && (eqb «from_start» everyNth && eqb «from_end» everyNth) ⌝ }
+{
+    if offset == 0 {
+        if from_start == 31 { from_end == 31 } else { false }
+    } else {
+        false
+    }
+}
+
+// "a holiday; a weekday offset other than 0 or any nth bit 0" stops.
+fn weekdays_at(sheet: &[u8], at: usize) -> Canonical
+    requires { ⌜ at < 2 ^ 29 ⌝ }
+    ensures { λ r. ⌜ itemOf r ≡ told weekdaySays (weekDayRange .read (sheetBits (now (sheet .entry))) at) ⌝ }
+{
+    let read = item::day::week_day_range_at(sheet, at);
+    match read {
+        WeekDay::Fixed(start, end, offset, from_start, from_end, next) => {
+            if every_week(offset, from_start, from_end) {
+                let first = OrderedWeekday(number8(start));
+                let last = OrderedWeekday(number8(end));
+                Canonical::Ranges(OrderedWeekday::split_inverted_range(first, last), next)
+            } else {
+                Canonical::Stops
+            }
+        }
+        WeekDay::Holiday(kind, offset, next) => Canonical::Stops,
+        WeekDay::Refused(code, place) => Canonical::Stops,
+    }
+}
+
+// An item of a sort: 0 years, 1 monthdays, 2 weeks, 3 weekdays.
+pub fn item_at(sheet: &[u8], at: usize, sort: usize) -> Canonical
+    requires { ⌜ at < 2 ^ 29 ⌝ }
+    ensures { λ r. ⌜ itemOf r ≡ itemSays sort (sheetBits (now (sheet .entry))) at ⌝ }
+{
+    match sort {
+        0 => years_at(sheet, at),
+        1 => months_at(sheet, at),
+        2 => weeks_at(sheet, at),
+        _ => weekdays_at(sheet, at),
+    }
+}
+
+// A whole dimension, by its sort.
+pub fn bounds(sort: usize) -> StrictRange
+    ensures { λ r. ⌜ pairOf r ≡ boundsOf sort ⌝ }
+{
+    match sort {
+        0 => Year::bounds(),
+        1 => Month::bounds(),
+        2 => WeekNum::bounds(),
+        _ => OrderedWeekday::bounds(),
+    }
+}

@@ -1,0 +1,61 @@
+// A rule's days: four rows of items, one behind the other, each with its row of ranges.
+use crate::row::Row;
+use field::Taken;
+ghost use mathlib.Core.Path.{_≡_};
+ghost use Prim.Native.Nat.{_+_, _-_, _*_, _/_, _≤_, _<_, _^_};
+ghost use lib.ListN.{length};
+ghost use Rattle.definition.specs.Field.{sheetBits};
+ghost use Rattle.canonical_date.specs.Days.{loaded, daysOf, loadRows, daysLoaded};
+
+// How many spans a rule has and where they begin; or an item of its days stops it.
+pub enum Days {
+    Spans(u64, usize),
+    Stops,
+}
+
+// How many ranges stand in a sort's row before a place.
+fn ranges_before(sort: usize, place: usize) -> u16
+    requires { ⌜ (sort < 4) × (sort * 64 ≤ place) × (place ≤ sort * 64 + 64) ⌝ }
+    ensures { λ r. ⌜ r ≡ (place - sort * 64) / 2 ⌝ }
+{
+    ((place - sort * 64) / 2) as u16
+}
+
+// The rows from a sort on; their counts stand ten bits for each sort behind `head`.
+fn rows(
+    sheet: &[u8],
+    head: usize,
+    at: usize,
+    sort: usize,
+    ranges: &mut [u16],
+    counts: &mut [u16],
+) -> Days
+    requires { ⌜ (sort ≤ 4) × (head < 2 ^ 27) × (at + (4 - sort) * 832 < 2 ^ 27) × (256 ≤ length (now ranges)) × (4 ≤ length (now counts)) ⌝ }
+    ensures { λ r. ⌜ loaded (now (ranges .exit)) (now (counts .exit)) (daysOf r)
+        ≡ loadRows (4 - sort) (sheetBits (now (sheet .entry))) head sort at (now (ranges .entry)) (now (counts .entry)) ⌝ }
+{
+    let count = field::count_at(sheet, head + 10 * sort);
+    let Taken::Value(items, after) = count else {
+        return Days::Stops;
+    };
+    if sort == 4 {
+        return Days::Spans(items, at);
+    }
+    let row = crate::row::row_at(sheet, at, sort, items, ranges);
+    match row {
+        Row::Ranges(place, next) => {
+            counts[sort] = ranges_before(sort, place);
+            rows(sheet, head, next, sort + 1, ranges, counts)
+        }
+        Row::Stops => Days::Stops,
+    }
+}
+
+// The days of the rule at a bit.
+pub fn rule_ranges(sheet: &[u8], at: usize, ranges: &mut [u16], counts: &mut [u16]) -> Days
+    requires { ⌜ (at < 2 ^ 25) × (256 ≤ length (now ranges)) × (4 ≤ length (now counts)) ⌝ }
+    ensures { λ r. ⌜ loaded (now (ranges .exit)) (now (counts .exit)) (daysOf r)
+        ≡ daysLoaded (sheetBits (now (sheet .entry))) at (now (ranges .entry)) (now (counts .entry)) ⌝ }
+{
+    rows(sheet, at + 20, at + 70, 0, ranges, counts)
+}
