@@ -1,6 +1,6 @@
 -- Writers one behind the other: bits stored, then more bits behind them, are all of them stored; and room for all is room for each.
 -- Assumes nothing.
-use mathlib.Core.Path.{_≡_, sym, ap, _∙_, subst}
+use mathlib.Core.Path.{_≡_, refl, sym, ap, _∙_, subst}
 use mathlib.Core.List.{List, [], _∷_, _++_}
 use Prim.Native.Nat.{ℕ, suc, _+_}
 use native.Mathlib.Omega.{arith}
@@ -43,3 +43,7 @@ room-as {size} {at} e r = subst (Room size at) e r
 
 pub wrote-as : {old xs ys out : List ℕ} {at next : ℕ} → xs ≡ ys → Wrote old at ys out next → Wrote old at xs out next
 wrote-as {old} {xs} {ys} {out} {at} {next} e w = subst (λ new. Wrote old at new out next) (sym e) w
+
+-- nothing written
+pub wrote-none : {old new : List ℕ} {at : ℕ} → new ≡ [] → Wrote old at new old at
+wrote-none {old} {new} {at} e = wrote-as e (record { behind = let z : at ≡ at + 0 = omega arith in z; stored = refl })

@@ -1,4 +1,14 @@
-// How many bits each field takes: of 01's "The packed sheet", and nowhere else in the code that writes.
+// How many bits each field takes: of 01's "The packed sheet", and nowhere else in the code that writes or measures.
+pub const RULE_COUNT: usize = 16;
+
+pub const OPERATOR: usize = 2;
+
+pub const KIND: usize = 2;
+
+pub const COMMENT: usize = 16;
+
+pub const ITEM_COUNT: usize = 10;
+
 pub const YEAR: usize = 14;
 
 pub const YEAR_STEP: usize = 16;

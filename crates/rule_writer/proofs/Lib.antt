@@ -1,0 +1,3 @@
+pub mod Items
+pub mod Rows
+pub mod Laid

@@ -1,0 +1,44 @@
+-- `rule_writer::row::put_rows` meets its contract: a sort's row, and the rows behind it.
+-- Assumes nothing.
+use mathlib.Core.Path.{subst}
+use Prim.Native.Nat.{ℕ, _-_, _<_}
+use native.Mathlib.Omega.{arith}
+use borrow.Author.Needs.{needs}
+use borrow.Fn.Kinds.{In}
+use borrow.Fn.PlainCycle.{Measures, is, falls, and}
+use Rattle.laws.specs.Lists.{All}
+use Rattle.item_writer.proofs.Chain.{wrote-then, room-first, room-rest, room-as, wrote-as, wrote-none}
+use Rattle.rule_writer.specs.Rows.{upperOf, Below}
+use Rattle.rule_writer.proofs.Rows.{row-at, rows-none, rows-more, place-next, row-inside}
+use Rattle.rule_writer.proofs.row.size.Reads as size-reads
+use Rattle.rule_writer.proofs.row.put_row.Reads as put-row-reads
+use Rattle.rule_writer.proofs.row.+put_rows.{statement}
+use Rattle.rule_writer.proofs.row.+put_rows.Tie.{close}
+use Rattle.rule_writer.proofs.row.put_rows.Reads as put-rows
+use Rattle.rule_writer.proofs.row.put_rows.Kinds as put-rows-kinds
+use Rattle.rule_writer.proofs.row.+put_rows.Lts-put_rows as put-rows-lts
+
+abbrev μ-put-rows : Measures 3 put-rows-kinds.ps ℕ
+μ-put-rows κs a = 4 - a .1 .1 .1 .1 .0
+
+abbrev put-rows-at : ℕ → In 3 put-rows-kinds.ps
+put-rows-at t = and 3 put-rows-kinds.ps (is 3 put-rows-kinds.ps μ-put-rows t) put-rows.Pre
+
+abbrev put-rows-below : ℕ → In 3 put-rows-kinds.ps
+put-rows-below t = and 3 put-rows-kinds.ps (falls 3 put-rows-kinds.ps _<_ μ-put-rows t) put-rows.Pre
+
+pub +put-rows-spec : {M : Type 1} → statement M
++put-rows-spec = close μ-put-rows λ t. put-rows-lts.spec (size-reads.Asked, size-reads.Learnt, put-row-reads.Asked, put-row-reads.Learnt, put-rows-below t, put-rows.Post)
+    (put-rows-at t)
+    put-rows.Post
+    (λ c. wrote-none (rows-none (c .before .before .before .before .args .ends .now) (c .before .before .before .before .args .counts .now) (c .before .before .before .before .args .sort) (c .if1 .taken)))
+    (λ c. search needs)
+    (λ c. omega (arith, c .before .before .before .before .before .pre .1 .0 .four, c .before .before .before .before .before .pre .1 .1 .0, c .before .if1 .left))
+    (λ c κs. search needs)
+    (λ c κs. let a = c .before .before .before .before .before .before .before .args in let pre = c .before .before .before .before .before .before .before .pre .1 in let low : a .sort < 4 = omega (arith, pre .1 .0, c .before .before .before .if1 .left) in (omega (arith, row-inside (a .ends .now) (a .counts .now) (a .sort) low (pre .0 .inside), c .before .size .ensures, pre .1 .0), (subst (All (Below (upperOf (a .sort)))) (row-at (a .ends .now) (a .counts .now) (a .sort) _ _ (c .before .size .ensures) (pre .1 .0 .1)) (pre .0 .lawful (a .sort) low), room-first _ _ (room-as (rows-more (a .ends .now) (a .counts .now) (a .sort) _ _ low (c .before .size .ensures) (pre .1 .0 .1)) (pre .1 .1)))))
+    (λ c. omega (arith, c .before .before .before .before .before .before .before .before .before .before .before .pre .1 .1 .0, c .before .before .before .before .before .before .before .if1 .left))
+    (λ c. omega (arith, c .before .before .before .before .before .before .before .before .before .before .before .pre .1 .0 .few (c .before .before .before .before .before .before .before .before .before .before .before .args .sort), c .before .before .before .before .before .size .ensures))
+    (λ c. let a = c .before .before .before .before .before .before .before .before .before .before .before .args in let pre = c .before .before .before .before .before .before .before .before .before .before .before .pre .1 in omega (arith, row-inside (a .ends .now) (a .counts .now) (a .sort) (omega (arith, pre .1 .0, c .before .before .before .before .before .before .before .if1 .left)) (pre .0 .inside), c .before .before .before .before .before .size .ensures, pre .1 .0))
+    (λ c κs. let a = c .before .before .before .before .before .before .before .before .before .before .before .args in let pre = c .before .before .before .before .before .before .before .before .before .before .before .pre .1 in let low : a .sort < 4 = omega (arith, pre .1 .0, c .before .before .before .before .before .before .before .if1 .left) in (omega (arith, c .before .before .before .before .before .before .before .before .before .before .before .pre .0, low), (pre .0, ((omega (arith, low), omega (arith, pre .1 .0, c .before .before .before .before .before .size .ensures, place-next (a .counts .now) (a .sort))), room-rest (c .before .before .before .put-row .ensures) _ (room-as (rows-more (a .ends .now) (a .counts .now) (a .sort) _ _ low (c .before .before .before .before .before .size .ensures) (pre .1 .0 .1)) (pre .1 .1))))))
+    (λ c. search needs)
+    (λ c. let a = c .before .before .before .before .before .before .before .before .before .before .before .before .before .before .args in let pre = c .before .before .before .before .before .before .before .before .before .before .before .before .before .before .pre .1 in wrote-as (rows-more (a .ends .now) (a .counts .now) (a .sort) _ _ (omega (arith, pre .1 .0, c .before .before .before .before .before .before .before .before .before .before .if1 .left)) (c .before .before .before .before .before .before .before .before .size .ensures) (pre .1 .0 .1)) (wrote-then (c .before .before .before .before .before .before .put-row .ensures) (c .before .before .put-rows .ensures)))

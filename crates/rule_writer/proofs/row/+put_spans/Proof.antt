@@ -1,0 +1,39 @@
+-- `rule_writer::row::put_spans` meets its contract: the first span, and those behind it.
+-- Assumes nothing.
+use Prim.Native.Nat.{ℕ, _<_}
+use native.Mathlib.Omega.{arith}
+use borrow.Author.Needs.{needs}
+use borrow.Fn.Kinds.{In}
+use borrow.Fn.PlainCycle.{Measures, is, falls, and}
+use Rattle.item_writer.proofs.Chain.{wrote-then, room-first, room-rest, room-as, wrote-as, wrote-none}
+use Rattle.item_writer.proofs.time.put_span.Reads as put-span-reads
+use Rattle.rule_writer.specs.Rows.{FitsSpan}
+use Rattle.rule_writer.proofs.Rows.{spans-none, spans-more, spans-lawful}
+use Rattle.rule_writer.proofs.row.+put_spans.{statement}
+use Rattle.rule_writer.proofs.row.+put_spans.Tie.{close}
+use Rattle.rule_writer.proofs.row.put_spans.Reads as put-spans
+use Rattle.rule_writer.proofs.row.put_spans.Kinds as put-spans-kinds
+use Rattle.rule_writer.proofs.row.+put_spans.Lts-put_spans as put-spans-lts
+
+abbrev μ-put-spans : Measures 2 put-spans-kinds.ps ℕ
+μ-put-spans κs a = a .1 .1 .1 .1 .0
+
+abbrev put-spans-at : ℕ → In 2 put-spans-kinds.ps
+put-spans-at t = and 2 put-spans-kinds.ps (is 2 put-spans-kinds.ps μ-put-spans t) put-spans.Pre
+
+abbrev put-spans-below : ℕ → In 2 put-spans-kinds.ps
+put-spans-below t = and 2 put-spans-kinds.ps (falls 2 put-spans-kinds.ps _<_ μ-put-spans t) put-spans.Pre
+
+pub +put-spans-spec : {M : Type 1} → statement M
++put-spans-spec = close μ-put-spans λ t. put-spans-lts.spec (put-span-reads.Asked, put-span-reads.Learnt, put-spans-below t, put-spans.Post)
+    (put-spans-at t)
+    put-spans.Post
+    (λ c. wrote-none (spans-none (c .before .before .before .args .spans .now) (c .before .before .before .args .first) (c .before .before .before .args .many) (c .if1 .taken)))
+    (λ c. search needs)
+    (λ c. omega (arith, c .before .before .before .before .before .pre .1 .0, c .before .before .if1 .left))
+    (λ c κs. let a = c .before .before .before .before .before .args in let pre = c .before .before .before .before .before .pre .1 in (spans-lawful (a .spans .now) (a .first) (a .many) (c .before .before .if1 .left) (pre .0) FitsSpan (pre .1 .0) .0, room-first _ _ (room-as (spans-more (a .spans .now) (a .first) (a .many) (c .before .before .if1 .left) (pre .0)) (pre .1 .1))))
+    (λ c. omega (arith, c .before .before .before .before .before .before .before .before .before .pre .1 .0, c .before .before .before .before .before .before .if1 .left))
+    (λ c. omega (arith, c .before .before .before .before .before .before .if1 .left))
+    (λ c κs. let a = c .before .before .before .before .before .before .before .before .before .args in let pre = c .before .before .before .before .before .before .before .before .before .pre .1 in (omega (arith, c .before .before .before .before .before .before .before .before .before .pre .0, c .before .before .before .before .before .before .if1 .left), (omega (arith, pre .0, c .before .before .before .before .before .before .if1 .left), (spans-lawful (a .spans .now) (a .first) (a .many) (c .before .before .before .before .before .before .if1 .left) (pre .0) FitsSpan (pre .1 .0) .1, room-rest (c .before .before .before .put-span .ensures) _ (room-as (spans-more (a .spans .now) (a .first) (a .many) (c .before .before .before .before .before .before .if1 .left) (pre .0)) (pre .1 .1))))))
+    (λ c. search needs)
+    (λ c. let a = c .before .before .before .before .before .before .before .before .before .before .before .before .args in wrote-as (spans-more (a .spans .now) (a .first) (a .many) (c .before .before .before .before .before .before .before .before .before .if1 .left) (c .before .before .before .before .before .before .before .before .before .before .before .before .pre .1 .0)) (wrote-then (c .before .before .before .before .before .before .put-span .ensures) (c .before .before .put-spans .ensures)))

@@ -1,0 +1,45 @@
+-- `rule_writer::row::put_item` meets its contract, sort by sort.
+-- Assumes nothing.
+use native.Mathlib.Omega.{arith}
+use borrow.Author.Needs.{needs}
+use Rattle.item_writer.proofs.Chain.{room-as, wrote-as}
+use Rattle.rule_writer.proofs.Items.{as-years, as-months, as-weeks, as-weekdays}
+use Rattle.rule_writer.proofs.row.put_item.Statement.{statement}
+use Rattle.rule_writer.proofs.row.put_item.Tie as tie
+
+put-years-requires : tie.Need-put-years-requires
+put-years-requires c κs =
+    let same = as-years (c .before .before .before .args .sort) (c .before .before .before .args .start, c .before .before .before .args .end) (omega arith) in
+    ((omega (arith, same .1, c .before .before .before .pre .0), omega (arith, same .1, c .before .before .before .pre .0)), room-as (same .0) (c .before .before .before .pre .1))
+
+put-months-requires : tie.Need-put-months-requires
+put-months-requires c κs =
+    let same = as-months (c .before .before .before .args .sort) (c .before .before .before .args .start, c .before .before .before .args .end) (omega arith) in
+    ((omega (arith, same .1, c .before .before .before .pre .0), omega (arith, same .1, c .before .before .before .pre .0)), room-as (same .0) (c .before .before .before .pre .1))
+
+put-weeks-requires : tie.Need-put-weeks-requires
+put-weeks-requires c κs =
+    let same = as-weeks (c .before .before .before .args .sort) (c .before .before .before .args .start, c .before .before .before .args .end) (omega arith) in
+    ((omega (arith, same .1, c .before .before .before .pre .0), omega (arith, same .1, c .before .before .before .pre .0)), room-as (same .0) (c .before .before .before .pre .1))
+
+put-weekdays-requires : tie.Need-put-weekdays-requires
+put-weekdays-requires c κs =
+    let same = as-weekdays (c .before .before .before .args .sort) (c .before .before .before .args .start, c .before .before .before .args .end) (omega arith) in
+    ((omega (arith, same .1, c .before .before .before .pre .0), omega (arith, same .1, c .before .before .before .pre .0)), room-as (same .0) (c .before .before .before .pre .1))
+
+returns : tie.Need-returns
+returns c = wrote-as (as-years (c .before .before .before .before .before .before .args .sort) (c .before .before .before .before .before .before .args .start, c .before .before .before .before .before .before .args .end) (omega arith) .0) (c .before .before .put-years .ensures)
+
+returns-2 : tie.Need-returns-2
+returns-2 c = wrote-as (as-months (c .before .before .before .before .before .before .args .sort) (c .before .before .before .before .before .before .args .start, c .before .before .before .before .before .before .args .end) (omega arith) .0) (c .before .before .put-months .ensures)
+
+returns-3 : tie.Need-returns-3
+returns-3 c = wrote-as (as-weeks (c .before .before .before .before .before .before .args .sort) (c .before .before .before .before .before .before .args .start, c .before .before .before .before .before .before .args .end) (omega arith) .0) (c .before .before .put-weeks .ensures)
+
+returns-4 : tie.Need-returns-4
+returns-4 c = wrote-as (as-weekdays (c .before .before .before .before .before .before .args .sort) (c .before .before .before .before .before .before .args .start, c .before .before .before .before .before .before .args .end) (omega arith) .0) (c .before .before .put-weekdays .ensures)
+
+pub put-item-spec : {M : Type 1} → statement M
+put-item-spec =
+    tie.close
+    (tie.spec put-years-requires put-months-requires put-weeks-requires put-weekdays-requires (λ c. search needs) returns (λ c. search needs) returns-2 (λ c. search needs) returns-3 (λ c. search needs) returns-4)

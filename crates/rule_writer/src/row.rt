@@ -1,0 +1,98 @@
+// Rows of items: pairs of ends of one sort, the four sorts one behind the other, and spans from their numbers.
+use item_writer::day::put_months;
+use item_writer::day::put_weekdays;
+use item_writer::day::put_weeks;
+use item_writer::day::put_years;
+use item_writer::time::put_span;
+ghost use mathlib.Core.Path.{_≡_};
+ghost use mathlib.Core.List.{flatMap};
+ghost use Prim.Native.Nat.{_+_, _*_, _≤_, _<_};
+ghost use lib.ListN.{length};
+ghost use Rattle.laws.specs.Lists.{All};
+ghost use Rattle.definition.specs.Field.{Layout};
+ghost use Rattle.definition.specs.Sheet.{span};
+ghost use Rattle.item_writer.specs.Written.{Room, Wrote};
+ghost use Rattle.rule_writer.specs.Rows.{itemBits, upperOf, Below, endsAt, rowBits, Rows, rowPlace, rowsBits, spansAt, FitsSpan};
+
+pub fn wide(x: u16) -> u64
+    ensures { λ r. ⌜ r ≡ x ⌝ }
+{
+    x as u64
+}
+
+pub fn size(x: u16) -> usize
+    ensures { λ r. ⌜ r ≡ x ⌝ }
+{
+    x as usize
+}
+
+// An item of a sort: 0 years, 1 months, 2 weeks, 3 weekdays.
+fn put_item(out: &mut [u8], at: usize, sort: usize, start: u64, end: u64) -> usize
+    requires { ⌜ Below (upperOf sort) (start, end) ⌝ }
+    requires { ⌜ Room (length (now out)) at (itemBits sort (start, end)) ⌝ }
+    ensures { λ r. ⌜ Wrote (now (out .entry)) at (itemBits sort (start, end)) (now (out .exit)) r ⌝ }
+{
+    match sort {
+        0 => put_years(out, at, start, end),
+        1 => put_months(out, at, start, end),
+        2 => put_weeks(out, at, start, end),
+        _ => put_weekdays(out, at, start, end),
+    }
+}
+
+// A row: so many pairs of ends from a place on.
+pub fn put_row(
+    out: &mut [u8],
+    at: usize,
+    sort: usize,
+    ends: &[u16],
+    place: usize,
+    many: usize,
+) -> usize
+    requires { ⌜ place + 2 * many ≤ length (now ends) ⌝ }
+    requires { ⌜ All (Below (upperOf sort)) (endsAt (now ends) place many) ⌝ }
+    requires { ⌜ Room (length (now out)) at (rowBits sort (endsAt (now ends) place many)) ⌝ }
+    ensures { λ r. ⌜ Wrote (now (out .entry)) at (rowBits sort (endsAt (now (ends .entry)) place many)) (now (out .exit)) r ⌝ }
+{
+    if many == 0 {
+        return at;
+    }
+    let next = put_item(out, at, sort, wide(ends[place]), wide(ends[place + 1]));
+    put_row(out, next, sort, ends, place + 2, many - 1)
+}
+
+// The rows of the sorts from one on, the first of them from a place on.
+pub fn put_rows(
+    out: &mut [u8],
+    at: usize,
+    ends: &[u16],
+    counts: &[u16],
+    sort: usize,
+    place: usize,
+) -> usize
+    requires { ⌜ Rows (now ends) (now counts) ⌝ }
+    requires { ⌜ (sort ≤ 4) × (place ≡ rowPlace (now counts) sort) ⌝ }
+    requires { ⌜ Room (length (now out)) at (rowsBits (now ends) (now counts) sort) ⌝ }
+    ensures { λ r. ⌜ Wrote (now (out .entry)) at (rowsBits (now (ends .entry)) (now (counts .entry)) sort) (now (out .exit)) r ⌝ }
+{
+    if sort == 4 {
+        return at;
+    }
+    let many = size(counts[sort]);
+    let next = put_row(out, at, sort, ends, place, many);
+    put_rows(out, next, ends, counts, sort + 1, place + 2 * many)
+}
+
+// So many spans, their numbers from a place on.
+pub fn put_spans(out: &mut [u8], at: usize, spans: &[u64], first: usize, many: usize) -> usize
+    requires { ⌜ first + many ≤ length (now spans) ⌝ }
+    requires { ⌜ All FitsSpan (spansAt (now spans) first many) ⌝ }
+    requires { ⌜ Room (length (now out)) at (flatMap (span .write) (spansAt (now spans) first many)) ⌝ }
+    ensures { λ r. ⌜ Wrote (now (out .entry)) at (flatMap (span .write) (spansAt (now (spans .entry)) first many)) (now (out .exit)) r ⌝ }
+{
+    if many == 0 {
+        return at;
+    }
+    let next = put_span(out, at, spans[first]);
+    put_spans(out, next, spans, first + 1, many - 1)
+}

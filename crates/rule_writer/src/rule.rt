@@ -1,0 +1,35 @@
+// A whole rule.
+use crate::head::put_counts;
+use crate::head::put_title;
+use crate::row::put_rows;
+use crate::row::put_spans;
+ghost use Prim.Native.Nat.{_+_, _≤_, _<_, _^_};
+ghost use lib.ListN.{length};
+ghost use Rattle.laws.specs.Lists.{All};
+ghost use Rattle.item_writer.specs.Written.{Room, Wrote};
+ghost use Rattle.rule_writer.specs.Rows.{Rows, spansAt, FitsSpan};
+ghost use Rattle.rule_writer.specs.Written.{ruleBits};
+
+// The operator's number, the state's, the rows of ends, and so many spans, their numbers from a place on.
+pub fn put_rule(
+    out: &mut [u8],
+    at: usize,
+    operator: u64,
+    state: u64,
+    ends: &[u16],
+    counts: &[u16],
+    spans: &[u64],
+    first: usize,
+    many: usize,
+) -> usize
+    requires { ⌜ (operator < 3) × (state < 196608) ⌝ }
+    requires { ⌜ Rows (now ends) (now counts) ⌝ }
+    requires { ⌜ (first + many ≤ length (now spans)) × (many < 2 ^ 10) × All FitsSpan (spansAt (now spans) first many) ⌝ }
+    requires { ⌜ Room (length (now out)) at (ruleBits operator state (now ends) (now counts) (spansAt (now spans) first many)) ⌝ }
+    ensures { λ r. ⌜ Wrote (now (out .entry)) at (ruleBits operator state (now (ends .entry)) (now (counts .entry)) (spansAt (now (spans .entry)) first many)) (now (out .exit)) r ⌝ }
+{
+    let counts_at = put_title(out, at, operator, state);
+    let rows_at = put_counts(out, counts_at, counts, many as u64);
+    let spans_at = put_rows(out, rows_at, ends, counts, 0, 0);
+    put_spans(out, spans_at, spans, first, many)
+}
