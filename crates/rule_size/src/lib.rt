@@ -1,0 +1,90 @@
+// How many bits items, rows, spans and a whole rule take, before anything is written: the lengths of what `rule_writer` writes.
+use item_writer::width;
+use rule_writer::row::size;
+ghost use mathlib.Core.Path.{_≡_};
+ghost use mathlib.Core.List.{List, flatMap};
+ghost use Prim.Native.Nat.{ℕ, _+_, _*_, _≤_, _<_, _^_};
+ghost use lib.ListN.{length, getD};
+ghost use Rattle.definition.specs.Field.{Layout};
+ghost use Rattle.definition.specs.Range.{Ends};
+ghost use Rattle.definition.specs.Sheet.{time, span};
+ghost use Rattle.span_number.specs.Number.{timeAt, spanAt};
+ghost use Rattle.rule_writer.specs.Rows.{itemBits, rowPlace, rowsBits, spansAt};
+ghost use Rattle.rule_writer.specs.Written.{ruleBits};
+
+// An item of a sort, whatever its ends.
+fn item_bits(sort: usize) -> usize
+    ensures { λ r. ⌜ ((e : Ends) → length (itemBits sort e) ≡ r) × (r ≤ 44) ⌝ }
+{
+    match sort {
+        0 => width::YEAR + width::YEAR + width::YEAR_STEP,
+        1 => width::MONTHDAY_TAG + width::MONTH + width::MONTH,
+        2 => width::WEEK + width::WEEK + width::WEEK_STEP,
+        _ => {
+            width::WEEKDAY_TAG
+                + width::WEEKDAY
+                + width::WEEKDAY
+                + width::OFFSET
+                + width::NTH
+                + width::NTH
+        }
+    }
+}
+
+// The rows of the sorts from one on, whatever their ends.
+fn rows_bits(counts: &[u16], sort: usize) -> usize
+    requires { ⌜ (4 ≤ length (now counts)) × ((s : ℕ) → getD (now counts) s 0 < 2 ^ 10) × (sort ≤ 4) ⌝ }
+    ensures { λ r. ⌜ ((ends : List ℕ) → rowPlace (now (counts .entry)) 4 ≤ length ends → length (rowsBits ends (now (counts .entry)) sort) ≡ r) × (r + 45056 * sort ≤ 180224) ⌝ }
+{
+    if sort == 4 {
+        return 0;
+    }
+    let behind = rows_bits(counts, sort + 1);
+    size(counts[sort]) * item_bits(sort) + behind
+}
+
+fn time_bits(number: u64) -> usize
+    ensures { λ r. ⌜ (length (time .write (timeAt number)) ≡ r) × (r ≤ 19) ⌝ }
+{
+    if number < 262144 {
+        width::TIME_TAG + width::MINUTES
+    } else {
+        width::TIME_TAG + width::EVENT + width::OFFSET
+    }
+}
+
+fn span_bits(number: u64) -> usize
+    ensures { λ r. ⌜ (length (span .write (spanAt number)) ≡ r) × (r ≤ 52) ⌝ }
+{
+    let start = time_bits(span_number::start_of(number));
+    let end = time_bits(span_number::end_of(number));
+    if number % 8192 == 0 {
+        start + end + width::FLAG + width::FLAG
+    } else {
+        start + end + width::FLAG + width::FLAG + width::REPEATS
+    }
+}
+
+fn spans_bits(spans: &[u64], first: usize, many: usize) -> usize
+    requires { ⌜ (first + many ≤ length (now spans)) × (many < 2 ^ 10) ⌝ }
+    ensures { λ r. ⌜ (length (flatMap (span .write) (spansAt (now (spans .entry)) first many)) ≡ r) × (r ≤ 52 * many) ⌝ }
+{
+    if many == 0 {
+        return 0;
+    }
+    let behind = spans_bits(spans, first + 1, many - 1);
+    span_bits(spans[first]) + behind
+}
+
+// A whole rule, whatever its operator, its state and its ends.
+pub fn rule_bits(counts: &[u16], spans: &[u64], first: usize, many: usize) -> usize
+    requires { ⌜ (4 ≤ length (now counts)) × ((s : ℕ) → getD (now counts) s 0 < 2 ^ 10) ⌝ }
+    requires { ⌜ (first + many ≤ length (now spans)) × (many < 2 ^ 10) ⌝ }
+    ensures { λ r. ⌜ ((operator state : ℕ) (ends : List ℕ) → rowPlace (now (counts .entry)) 4 ≤ length ends
+        → length (ruleBits operator state ends (now (counts .entry)) (spansAt (now (spans .entry)) first many)) ≡ r) × (r < 2 ^ 18) ⌝ }
+{
+    let rows = rows_bits(counts, 0);
+    let times = spans_bits(spans, first, many);
+    let title = width::OPERATOR + width::KIND + width::COMMENT;
+    title + 5 * width::ITEM_COUNT + rows + times
+}
