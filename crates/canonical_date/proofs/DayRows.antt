@@ -1,7 +1,7 @@
 -- The rows of a rule's days, one behind the other: how far a row goes, how many ranges it gives, and the ways out of the reader of rows.
 -- Assumes nothing.
 use mathlib.Core.Path.{_≡_, refl, sym, ap, ap₂, _∙_}
-use mathlib.Core.List.{List, _++_}
+use mathlib.Core.List.{List}
 use mathlib.Core.Option.{Option, none, some}
 use mathlib.Core.Bool.{Bool, true, false}
 use Prim.Native.Nat.{ℕ, zero, suc, _+_, _*_, _-_, _/_, _≤_}
@@ -10,8 +10,7 @@ use lib.Dec.{eqb}
 use lib.ListN.{length, set, length-append}
 use lib.Seq.{sets}
 use borrow.Author.Tests.{leb-true}
-use Rattle.grid.specs.Cut.{Range}
-use Rattle.definition.specs.Field.{Read, got, refused, sheetBits}
+use Rattle.definition.specs.Field.{got, refused, sheetBits}
 use Rattle.definition.proofs.Bits.{Bytes}
 use Rattle.definition.proofs.Reading.{field-passed}
 use Rattle.canonical_date.specs.Says.{Told, itemSays}

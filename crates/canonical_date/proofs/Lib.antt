@@ -3,3 +3,7 @@ pub mod Flat
 pub mod ItemFacts
 pub mod Rows
 pub mod DayRows
+pub mod RowMeaning
+pub mod DaysMeaning
+pub mod Table
+pub mod Finding

@@ -1,13 +1,11 @@
 -- What an item's reading says: the ways out of the readers of items, and that the ends that were read lie within their bounds.
 -- Assumes nothing.
-use mathlib.Core.Path.{_≡_, refl, sym, ap, ap₂, _∙_}
-use mathlib.Core.List.{List, _∷_}
+use mathlib.Core.Path.{_≡_, sym, ap, ap₂, _∙_}
+use mathlib.Core.List.{List}
 use mathlib.Core.Option.{Option, none, some}
-use mathlib.Core.Bool.{Bool, true, false, _&&_}
+use mathlib.Core.Bool.{Bool, true, false}
 use Prim.Native.Nat.{ℕ, _<_}
-use native.Mathlib.Omega.{arith}
 use lib.Dec.{eqb}
-use borrow.Author.Tests.{eq-eqb, ne-eqb}
 use Rattle.laws.specs.Lists.{onlyIf}
 use Rattle.grid.specs.Cut.{Range}
 use Rattle.grid.proofs.Cut.{holds-in}
@@ -15,7 +13,6 @@ use Rattle.definition.specs.Field.{Read, got, refused, sheetBits, Layout}
 use Rattle.definition.specs.Rule.{weekdayBounds, weekBounds, monthBounds, yearBounds, YearRange, months, WeekRange, fixedDays}
 use Rattle.definition.specs.Sheet.{yearRange, monthdayRange, weekRange, weekDayRange}
 use Rattle.definition.specs.Range.{Ends, split}
-use Rattle.definition.specs.Stop.{everyNth}
 use Rattle.definition.proofs.Bits.{Bytes, sheet-bits}
 use Rattle.definition.proofs.Faithful.{Faithful, Always}
 use Rattle.definition.proofs.Items.{year-faithful, monthday-faithful, week-faithful, weekday-faithful}

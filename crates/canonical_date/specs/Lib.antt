@@ -1,3 +1,5 @@
 pub mod Says
 pub mod Row
 pub mod Days
+pub mod Rule
+pub mod Found

@@ -3,13 +3,9 @@
 use mathlib.Core.List.{List, [], _∷_, _++_}
 use mathlib.Core.Option.{Option, none, some}
 use mathlib.Core.Bool.{cond}
-use Prim.Native.Nat.{ℕ, zero, suc, _+_, _*_, _<_}
+use Prim.Native.Nat.{ℕ, zero, suc, _+_, _<_}
 use lib.Dec.{eqb}
-use lib.ListN.{length, set}
-use lib.Seq.{sets}
 use Rattle.grid.specs.Cut.{Range}
-use Rattle.definition.specs.Field.{Read, got, refused, counted}
-use Rattle.definition.specs.Sheet.{form1, limits1}
 use Rattle.canonical_date.specs.declared.row.Row.{Row}
 use Rattle.canonical_date.specs.declared.row.Row.the-variants as row
 use Rattle.canonical_date.specs.Says.{boundsOf, itemSays}

@@ -92,7 +92,11 @@ fn every_week(offset: u64, from_start: u64, from_end: u64) -> bool
     ensures { λ r. ⌜ r ≡ eqb offset 0 && (eqb «from_start» everyNth && eqb «from_end» everyNth) ⌝ }
 {
     if offset == 0 {
-        if from_start == 31 { from_end == 31 } else { false }
+        if from_start == 31 {
+            from_end == 31
+        } else {
+            false
+        }
     } else {
         false
     }

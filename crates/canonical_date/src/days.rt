@@ -5,7 +5,9 @@ ghost use mathlib.Core.Path.{_≡_};
 ghost use Prim.Native.Nat.{_+_, _-_, _*_, _/_, _≤_, _<_, _^_};
 ghost use lib.ListN.{length};
 ghost use Rattle.definition.specs.Field.{sheetBits};
+ghost use Rattle.sheet.specs.Begin.{ruleAt, Readable};
 ghost use Rattle.canonical_date.specs.Days.{loaded, daysOf, loadRows, daysLoaded};
+ghost use Rattle.canonical_date.specs.Found.{Found};
 
 // How many spans a rule has and where they begin; or an item of its days stops it.
 pub enum Days {
@@ -51,11 +53,12 @@ fn rows(
     }
 }
 
-// The days of the rule at a bit.
+// The days of the rule at a bit: their ranges in the table, up to the first item that stops.
 pub fn rule_ranges(sheet: &[u8], at: usize, ranges: &mut [u16], counts: &mut [u16]) -> Days
+    requires { ⌜ Readable (sheetBits (now sheet)) at ⌝ }
     requires { ⌜ (at < 2 ^ 25) × (256 ≤ length (now ranges)) × (4 ≤ length (now counts)) ⌝ }
-    ensures { λ r. ⌜ loaded (now (ranges .exit)) (now (counts .exit)) (daysOf r)
-        ≡ daysLoaded (sheetBits (now (sheet .entry))) at (now (ranges .entry)) (now (counts .entry)) ⌝ }
+    ensures { λ r. ⌜ (loaded (now (ranges .exit)) (now (counts .exit)) (daysOf r) ≡ daysLoaded (sheetBits (now (sheet .entry))) at (now (ranges .entry)) (now (counts .entry)))
+        × Found (sheetBits (now (sheet .entry))) (ruleAt (sheetBits (now (sheet .entry))) at) (now (ranges .entry)) (now (counts .entry)) (now (ranges .exit)) (now (counts .exit)) r ⌝ }
 {
     rows(sheet, at + 20, at + 70, 0, ranges, counts)
 }

@@ -115,7 +115,7 @@ body-short n =
     then-short _ _ _ _ (several-short _ 44 years-short (n .0)) (then-short _ _ _ _ (several-short _ 34 monthdays-short (n .1 .0))
     (then-short _ _ _ _ (several-short _ 20 weeks-short (n .1 .1 .0)) (then-short _ _ _ _ (several-short _ 33 weekdays-short (n .1 .1 .1 .0)) (several-short _ 52 span-short (n .1 .1 .1 .1)))))
 
-head-parts : (s : List ℕ) (p : ℕ) (h : Head) (q : ℕ) → (head form1 limits1) .read s p ≡ got h q
+pub head-parts : (s : List ℕ) (p : ℕ) (h : Head) (q : ℕ) → (head form1 limits1) .read s p ≡ got h q
     → (j : ℕ) × ((title form1 limits1) .read s p ≡ got (h .0) j) × ((counts form1 limits1) .read s j ≡ got (h .1) q)
 unfolding head
 head-parts s p h q e = then-parts _ _ s p h q e

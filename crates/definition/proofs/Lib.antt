@@ -2,6 +2,7 @@ pub mod Bits
 pub mod Faithful
 pub mod Reading
 pub mod Lengths
+pub mod RuleParts
 pub mod Items
 pub mod SheetRead
 pub mod Same

@@ -2,7 +2,7 @@
 -- cites these and no layout's text.
 -- Assumes nothing.
 use mathlib.Core.Path.{_≡_, refl, sym, ap, ap₂, _∙_}
-use mathlib.Core.List.{List, _∷_}
+use mathlib.Core.List.{List, [], _∷_}
 use mathlib.Core.Bool.{Bool, true, false}
 use Prim.Native.Nat.{ℕ, zero, suc, _+_, _*_, _≤_}
 use native.Mathlib.Omega.{arith}
@@ -99,6 +99,12 @@ all-parts {A} r n s p xs q e = first (r s p) refl e
     first : (w : Read A) → r s p ≡ w → andThen (λ x j. andThen (λ ys i. got (x ∷ ys) i) (readAll r n s j)) w ≡ got xs q → Parts
     first (refused c i) h g = clash c i xs q g
     first (got x j) h g = second x j h (readAll r n s j) refl g
+
+-- several are as many as were asked for
+pub all-length : {A : Type 0} (r : List ℕ → ℕ → Read A) (n : ℕ) (s : List ℕ) (p : ℕ) (xs : List A) (q : ℕ) → readAll r n s p ≡ got xs q → length xs ≡ n
+unfolding readAll
+all-length r zero s p xs q e = let z : [] ≡ xs = cc in sym (ap length z)
+all-length r (suc n) s p xs q e = let k = all-parts r n s p xs q e in ap length (sym (k .5)) ∙ ap suc (all-length r n s (k .1) (k .2) q (k .4))
 
 -- a value that was read passed its test
 pub field-passed : (c : ℕ) (ok : ℕ → Bool) (w : ℕ) (s : List ℕ) (p v q : ℕ) → (field c ok w) .read s p ≡ got v q → ok v ≡ true

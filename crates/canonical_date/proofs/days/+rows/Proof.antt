@@ -43,33 +43,40 @@ pub +rows-spec : {M : Type 1} → statement M
     (λ c. rows-refused _ _ _ _ _ _ _ _ _ (stopped _ _ _ (c .before .before .count-at .ensures) (c .enum-told .given .1)))
     (λ c. rows-end _ _ _ _ _ _ _ _ _ (omega (arith, c .if1 .taken)) (took _ _ _ (c .before .before .before .before .count-at .ensures) (c .before .before .count .given .1)))
     (λ c κs. let few = count-few _ _ (c .before .before .before .before .before .before .before .before .before .args .sort) _ _ (took _ _ _ (c .before .before .before .before .before .count-at .ensures) (c .before .before .before .count .given .1)) in
-        (omega (arith, c .before .before .before .before .before .before .before .before .before .pre .1), omega (arith, c .before .before .before .before .before .before .before .before .before .pre .1, c .before .if1 .left), few, omega (arith, c .before .before .before .before .before .before .before .before .before .pre .1)))
+    (omega (arith, c .before .before .before .before .before .before .before .before .before .pre .1), omega (arith, c .before .before .before .before .before .before .before .before .before .pre .1, c .before .if1 .left), few, omega (arith, c .before .before .before .before .before .before .before .before .before .pre .1)))
     (λ c. search needs)
     (λ c κs. let a = c .before .before .before .before .before .before .before .before .before .before .before .before .before .before .before .args in
-        let n = c .before .before .before .before .before .before .before .before .before .count .given .0 .0 in
-        let R = rowRanges (a .sort) n (sheetBits (a .sheet .now)) (a .at) in
-        let few = row-few (a .sort) (a .sheet .now) (known-bytes (a .sheet .now) (λ j. omega (arith, c .before .before .before .before .before .before .before .before .before .before .before .before .before .before .shared-slice-known .given j))) n (a .at)
-            (count-few _ _ (a .sort) _ _ (took _ _ _ (c .before .before .before .before .before .before .before .before .before .before .before .count-at .ensures) (c .before .before .before .before .before .before .before .before .before .count .given .1))) in
-        let place : c .before .row .given .0 .0 ≡ a .sort * 64 + length (flat R) = answered-some _ (itemsEnd (a .sort) n (sheetBits (a .sheet .now)) (a .at)) _ _ (sym (ap rowOf (c .before .row .given .1)) ∙ c .before .before .before .before .before .row-at .ensures .0) .1 in
-        let double = flat-length R in
-        (omega (arith, c .before .before .before .before .before .before .before .before .before .before .before .before .before .before .before .pre .1, c .before .before .before .before .before .before .before .if1 .left), omega (arith, place), omega (arith, place, few, double)))
+    let n = c .before .before .before .before .before .before .before .before .before .count .given .0 .0 in
+    let R = rowRanges (a .sort) n (sheetBits (a .sheet .now)) (a .at) in
+    let few = row-few (a .sort) (a .sheet .now) (known-bytes (a .sheet .now) (λ j. omega (arith, c .before .before .before .before .before .before .before .before .before .before .before .before .before .before .shared-slice-known .given j))) n (a .at)
+    (count-few _ _ (a .sort) _ _ (took _ _ _ (c .before .before .before .before .before .before .before .before .before .before .before .count-at .ensures) (c .before .before .before .before .before .before .before .before .before .count .given .1))) in
+    let place : c .before .row .given .0 .0 ≡ a .sort * 64 + length (flat R) = answered-some _ (itemsEnd (a .sort) n (sheetBits (a .sheet .now)) (a .at)) _ _ (sym (ap rowOf (c .before .row .given .1)) ∙ c .before .before .before .before .before .row-at .ensures .0) .1 in
+    let double = flat-length R in
+    (omega (arith, c .before .before .before .before .before .before .before .before .before .before .before .before .before .before .before .pre .1, c .before .before .before .before .before .before .before .if1 .left), omega (arith, place), omega (arith, place, few, double)))
     (λ c. search needs)
     (λ c. search needs)
     (λ c. search needs)
     (λ c κs. let a = c .before .before .before .before .before .before .before .before .before .before .before .before .before .before .before .before .before .before .args in
-        let n = c .before .before .before .before .before .before .before .before .before .before .before .before .count .given .0 .0 in
-        let few : n ≤ 16 = count-few _ _ (a .sort) _ _ (took _ _ _ (c .before .before .before .before .before .before .before .before .before .before .before .before .before .before .count-at .ensures) (c .before .before .before .before .before .before .before .before .before .before .before .before .count .given .1)) in
-        let short : c .before .before .before .before .row .given .0 .1 .0 ≤ a .at + n * 52 =
-        items-short (a .sort) (a .sheet .now) (known-bytes (a .sheet .now) (λ j. omega (arith, c .before .before .before .before .before .before .before .before .before .before .before .before .before .before .before .before .before .shared-slice-known .given j))) _ _ _
-        (answered-some _ _ _ _ (sym (ap rowOf (c .before .before .before .before .row .given .1)) ∙ c .before .before .before .before .before .before .before .before .row-at .ensures .0) .0) in
-        (omega (arith, c .before .before .before .before .before .before .before .before .before .before .before .before .before .before .before .before .before .before .pre .0, c .before .before .before .before .before .before .before .before .before .before .before .before .before .before .before .before .before .before .pre .1, c .before .before .before .before .before .before .before .before .before .before .if1 .left), (omega (arith, c .before .before .before .before .before .before .before .before .before .before .before .before .before .before .before .before .before .before .pre .1, c .before .before .before .before .before .before .before .before .before .before .if1 .left), omega (arith, c .before .before .before .before .before .before .before .before .before .before .before .before .before .before .before .before .before .before .pre .1), omega (arith, c .before .before .before .before .before .before .before .before .before .before .before .before .before .before .before .before .before .before .pre .1, c .before .before .before .before .before .before .before .before .before .before .if1 .left, short, few),
-        omega (arith, c .before .before .before .before .before .before .before .before .before .before .before .before .before .before .before .before .before .before .pre .1, c .before .before .before .before .before .before .before .before .row-at .kept), simp length-set (omega (arith, c .before .before .before .before .before .before .before .before .before .before .before .before .before .before .before .before .before .before .pre .1)))))
+    let n = c .before .before .before .before .before .before .before .before .before .before .before .before .count .given .0 .0 in
+    let few : n ≤ 16 = count-few _ _ (a .sort) _ _ (took _ _ _ (c .before .before .before .before .before .before .before .before .before .before .before .before .before .before .count-at .ensures) (c .before .before .before .before .before .before .before .before .before .before .before .before .count .given .1)) in
+    let short : c .before .before .before .before .row .given .0 .1 .0 ≤ a .at + n * 52 =
+    items-short (a .sort) (a .sheet .now) (known-bytes (a .sheet .now) (λ j. omega (arith, c .before .before .before .before .before .before .before .before .before .before .before .before .before .before .before .before .before .shared-slice-known .given j))) _ _ _
+    (answered-some _ _ _ _ (sym (ap rowOf (c .before .before .before .before .row .given .1)) ∙ c .before .before .before .before .before .before .before .before .row-at .ensures .0) .0) in (
+      omega (arith, c .before .before .before .before .before .before .before .before .before .before .before .before .before .before .before .before .before .before .pre .0, c .before .before .before .before .before .before .before .before .before .before .before .before .before .before .before .before .before .before .pre .1, c .before .before .before .before .before .before .before .before .before .before .if1 .left),
+      (
+        omega (arith, c .before .before .before .before .before .before .before .before .before .before .before .before .before .before .before .before .before .before .pre .1, c .before .before .before .before .before .before .before .before .before .before .if1 .left),
+        omega (arith, c .before .before .before .before .before .before .before .before .before .before .before .before .before .before .before .before .before .before .pre .1),
+        omega (arith, c .before .before .before .before .before .before .before .before .before .before .before .before .before .before .before .before .before .before .pre .1, c .before .before .before .before .before .before .before .before .before .before .if1 .left, short, few),
+        omega (arith, c .before .before .before .before .before .before .before .before .before .before .before .before .before .before .before .before .before .before .pre .1, c .before .before .before .before .before .before .before .before .row-at .kept),
+        simp length-set (omega (arith, c .before .before .before .before .before .before .before .before .before .before .before .before .before .before .before .before .before .before .pre .1)),
+      ),
+    ))
     (λ c. search needs)
     (λ c. search needs)
     (λ c. c .before .before .before .before .rows .kept .1 .1 .1 .1 .1 .0 ∙ simp length-set)
     (λ c. let answer = answered-some _ _ _ _ (sym (ap rowOf (c .before .before .before .before .before .before .before .before .before .row .given .1)) ∙ c .before .before .before .before .before .before .before .before .before .before .before .before .before .row-at .ensures .0) in
-        rows-go _ _ _ _ _ _ _ _ _ _ _ _ _ _ _ _ _ (omega (arith, c .before .before .before .before .before .before .before .before .before .before .before .before .before .before .before .before .before .before .before .before .before .before .before .pre .1, c .before .before .before .before .before .before .before .before .before .before .before .before .before .before .before .if1 .left)) (took _ _ _ (c .before .before .before .before .before .before .before .before .before .before .before .before .before .before .before .before .before .before .before .count-at .ensures) (c .before .before .before .before .before .before .before .before .before .before .before .before .before .before .before .before .before .count .given .1)) (answer .0)
-        (c .before .before .before .before .before .before .before .before .before .before .before .before .before .row-at .ensures .1) (answer .1) (c .before .before .before .before .before .before .before .ranges-before .ensures) (c .before .before .before .before .rows .ensures))
+    rows-go _ _ _ _ _ _ _ _ _ _ _ _ _ _ _ _ _ (omega (arith, c .before .before .before .before .before .before .before .before .before .before .before .before .before .before .before .before .before .before .before .before .before .before .before .pre .1, c .before .before .before .before .before .before .before .before .before .before .before .before .before .before .before .if1 .left)) (took _ _ _ (c .before .before .before .before .before .before .before .before .before .before .before .before .before .before .before .before .before .before .before .count-at .ensures) (c .before .before .before .before .before .before .before .before .before .before .before .before .before .before .before .before .before .count .given .1)) (answer .0)
+    (c .before .before .before .before .before .before .before .before .before .before .before .before .before .row-at .ensures .1) (answer .1) (c .before .before .before .before .before .before .before .ranges-before .ensures) (c .before .before .before .before .rows .ensures))
     (λ c. search needs)
     (λ c. rows-stop _ _ _ _ _ _ _ (3 - c .before .before .before .before .before .before .before .before .before .before .before .before .before .before .args .sort) _ _ _ (omega (arith, c .before .before .before .before .before .before .before .before .before .before .before .before .before .before .pre .1, c .before .before .before .before .before .before .if1 .left)) (took _ _ _ (c .before .before .before .before .before .before .before .before .before .before .count-at .ensures) (c .before .before .before .before .before .before .before .before .count .given .1))
-        (answered-none _ _ (sym (ap rowOf (c .enum-told2 .given .1)) ∙ c .before .before .before .before .row-at .ensures .0)) (c .before .before .before .before .row-at .ensures .1))
+    (answered-none _ _ (sym (ap rowOf (c .enum-told2 .given .1)) ∙ c .before .before .before .before .row-at .ensures .0)) (c .before .before .before .before .row-at .ensures .1))

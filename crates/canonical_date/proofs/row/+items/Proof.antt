@@ -37,13 +37,17 @@ pub +items-spec : {M : Type 1} → statement M
     (λ c κs. omega (arith, c .before .before .before .pre .1 .0))
     (λ c. search needs)
     (λ c κs. let s = c .before .before .before .before .before .before .before .before .args .sheet .now in
-        let facts = item-facts _ s (known-bytes s (λ j. omega (arith, c .before .before .before .before .before .before .before .shared-slice-known .given j))) _ _ _ (sym (c .before .before .before .before .item-at .ensures) ∙ ap itemOf (c .before .before .item .given .1)) in
-        (omega (arith, c .before .before .before .before .before .before .before .before .pre .1 .1, c .before .before .before .before .before .if1 .left), facts .narrow))
+    let facts = item-facts _ s (known-bytes s (λ j. omega (arith, c .before .before .before .before .before .before .before .shared-slice-known .given j))) _ _ _ (sym (c .before .before .before .before .item-at .ensures) ∙ ap itemOf (c .before .before .item .given .1)) in
+    (omega (arith, c .before .before .before .before .before .before .before .before .pre .1 .1, c .before .before .before .before .before .if1 .left), facts .narrow))
     (λ c. search needs)
     (λ c κs. let s = c .before .before .before .before .before .before .before .before .before .before .before .before .args .sheet .now in
-        let facts = item-facts _ s (known-bytes s (λ j. omega (arith, c .before .before .before .before .before .before .before .before .before .before .before .shared-slice-known .given j))) _ _ _ (sym (c .before .before .before .before .before .before .before .before .item-at .ensures) ∙ ap itemOf (c .before .before .before .before .before .before .item .given .1)) in
-        (omega (arith, c .before .before .before .before .before .before .before .before .before .before .before .before .pre .0, c .before .before .before .before .before .before .before .before .before .if1 .left), (omega (arith, facts .ends, c .before .before .before .before .before .before .before .before .before .before .before .before .pre .1 .0, c .before .before .before .before .before .before .before .before .before .if1 .left),
-        omega (arith, facts .few, flat-length (listOf (c .before .before .before .before .before .before .item .given .0 .0)), c .before .before .before .put-split .ensures .0, c .before .before .before .put-split .kept, c .before .before .before .before .before .before .before .before .before .before .before .before .pre .1 .1, c .before .before .before .before .before .before .before .before .before .if1 .left))))
+    let facts = item-facts _ s (known-bytes s (λ j. omega (arith, c .before .before .before .before .before .before .before .before .before .before .before .shared-slice-known .given j))) _ _ _ (sym (c .before .before .before .before .before .before .before .before .item-at .ensures) ∙ ap itemOf (c .before .before .before .before .before .before .item .given .1)) in (
+      omega (arith, c .before .before .before .before .before .before .before .before .before .before .before .before .pre .0, c .before .before .before .before .before .before .before .before .before .if1 .left),
+      (
+        omega (arith, facts .ends, c .before .before .before .before .before .before .before .before .before .before .before .before .pre .1 .0, c .before .before .before .before .before .before .before .before .before .if1 .left),
+        omega (arith, facts .few, flat-length (listOf (c .before .before .before .before .before .before .item .given .0 .0)), c .before .before .before .put-split .ensures .0, c .before .before .before .put-split .kept, c .before .before .before .before .before .before .before .before .before .before .before .before .pre .1 .1, c .before .before .before .before .before .before .before .before .before .if1 .left),
+      ),
+    ))
     (λ c. search needs)
     (λ c. search needs)
     (λ c. items-go _ _ _ _ _ _ _ _ _ _ _ _ _ (omega (arith, c .before .before .before .before .before .before .before .before .before .before .before .before .if1 .left)) (sym (c .before .before .before .before .before .before .before .before .before .before .before .item-at .ensures) ∙ ap itemOf (c .before .before .before .before .before .before .before .before .before .item .given .1)) (c .before .before .before .before .before .before .put-split .ensures .0) (c .before .before .before .before .before .before .put-split .ensures .1) (c .before .before .items .ensures))
