@@ -82,7 +82,7 @@ marks-split (d ∷ ds) r rs (x ∷ p) (y ∷ q) h =
     let l = marks-split ds r rs p q (h .1) in
     ((k .0, l .0), (k .1, l .1))
 
-list-marks : (l rs : List Rule) (n : ℕ) (p q : List ℕ) → SameMarks (cutRanges rs) p q → listFrom l (take n rs) p ≡ listFrom l (take n rs) q
+pub list-marks : (l rs : List Rule) (n : ℕ) (p q : List ℕ) → SameMarks (cutRanges rs) p q → listFrom l (take n rs) p ≡ listFrom l (take n rs) q
 unfolding listFrom
 list-marks l rs zero p q h = refl
 list-marks l [] (suc n) p q h = refl
@@ -91,7 +91,7 @@ list-marks l (r ∷ rs) (suc n) p q h =
     ap (λ c. listFrom (after r c l) (take n rs) p) (combinations-marks (selector dimensions r) p q (k .0))
     ∙ list-marks (after r (combinations (selector dimensions r) q) l) rs n p q (k .1)
 
-list-all : (rs : List Rule) (p q : List ℕ) → SameMarks (cutRanges rs) p q → listAt rs p ≡ listAt rs q
+pub list-all : (rs : List Rule) (p q : List ℕ) → SameMarks (cutRanges rs) p q → listAt rs p ≡ listAt rs q
 list-all rs p q h = ap (λ z. listFrom [] z p) (sym (take-length rs)) ∙ list-marks [] rs (length rs) p q h ∙ ap (λ z. listFrom [] z q) (take-length rs)
 
 module _ (rs : List Rule) (h : All Lawful rs) where

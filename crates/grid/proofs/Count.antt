@@ -97,7 +97,7 @@ length-between [] = refl
 length-between (c ∷ []) = refl
 length-between (c ∷ d ∷ cs) = omega (arith, length-between (d ∷ cs))
 
-cutAt-count : (x : ℕ) (ys : List ℕ) → (length ys ≤ length (cutAt x ys)) × (length (cutAt x ys) ≤ suc (length ys))
+pub cutAt-count : (x : ℕ) (ys : List ℕ) → (length ys ≤ length (cutAt x ys)) × (length (cutAt x ys) ≤ suc (length ys))
 unfolding cutAt
 cutAt-count x [] = omega arith
 cutAt-count x (y ∷ ys) = go (ltb x y) refl (eqb x y) refl (cutAt-count x ys)

@@ -5,6 +5,7 @@ pub mod Image
 pub mod Cover
 pub mod Interval
 pub mod Cut
+pub mod Swap
 pub mod Box
 pub mod Size
 pub mod Count

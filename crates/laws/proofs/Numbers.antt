@@ -3,11 +3,12 @@
 use mathlib.Core.Path.{_≡_, refl, ap, ap₂, _∙_}
 use mathlib.Core.List.{_∷_, _++_}
 use mathlib.Core.Bool.{Bool, true, false}
+use mathlib.Core.Logic.{_⊎_, inl, inr}
 use Prim.Native.Nat.{ℕ, zero, suc, _+_, _≤_, _<_}
 use native.Mathlib.Omega.{arith}
 use lib.ListN.{length}
-use lib.Dec.{eqb}
-use borrow.Author.Tests.{ne-eqb, eqb-true, eqb-false}
+use lib.Dec.{eqb, ltb}
+use borrow.Author.Tests.{ne-eqb, eqb-true, eqb-false, ltb-true, ltb-false}
 use Rattle.laws.specs.Lists.{from, every, anyOf, All, Mem}
 use Rattle.laws.proofs.Tests.{exact-eqb}
 use Rattle.laws.proofs.Lists.{every-at, any-Mem}
@@ -52,3 +53,12 @@ Mem-from b s n h k = any-Mem exact-eqb b (from s n) (from-inside b s n h k)
 -- what every number below n passes, each one passes
 pub every-below : (t : ℕ → Bool) (n : ℕ) → every t (from 0 n) ≡ true → (k : ℕ) → k < n → t k ≡ true
 every-below t n e k l = every-at (λ i. t i ≡ true) t eqb k (λ y s h. ap t (eqb-true k y s) ∙ h) (from 0 n) e (from-inside k 0 n (omega arith) (omega arith))
+
+-- below, there or above
+pub order : (x y : ℕ) → (x < y) ⊎ ((x ≡ y) ⊎ (y < x))
+order x y = go (ltb x y) refl (eqb x y) refl
+  where
+    go : (s : Bool) → ltb x y ≡ s → (t : Bool) → eqb x y ≡ t → (x < y) ⊎ ((x ≡ y) ⊎ (y < x))
+    go true e t f = inl (ltb-true x y e)
+    go false e true f = inr (inl (eqb-true x y f))
+    go false e false f = inr (inr (omega (arith, ltb-false x y e, eqb-false x y f)))

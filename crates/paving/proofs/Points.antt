@@ -19,7 +19,7 @@ use Rattle.paving.specs.Sweep.{classesFrom, groupsFrom}
 use Rattle.paving.proofs.Room.{at-grid}
 use Rattle.paving.proofs.Sweeping.{empty-unmatched}
 
--- the intervals of each dimension, and all its coordinatesOf
+-- the intervals of each dimension, and all its coordinates
 abbrev pub blocks : (ℕ → ℕ → ℕ) → ℕ → List (ℕ → List ℕ)
 blocks cuts zero = []
 blocks cuts (suc l) = interval (cuts l) ∷ blocks cuts l
@@ -32,7 +32,7 @@ abbrev pub Rising : (ℕ → ℕ → ℕ) → List ℕ → ℕ → Type 0
 Rising cuts sizes l = (i : ℕ) → i < l → (x : ℕ) → x < getD sizes i 0 → cuts i x < cuts i (suc x)
 
 module _ (cuts : ℕ → ℕ → ℕ) (sizes : List ℕ) where
-  fills : (l : ℕ) → Fills (blocks cuts l)
+  pub fills : (l : ℕ) → Fills (blocks cuts l)
   fills zero = tt
   fills (suc l) = (λ a. tt, fills l)
 
@@ -41,7 +41,7 @@ module _ (cuts : ℕ → ℕ → ℕ) (sizes : List ℕ) where
   aparts zero h = tt
   aparts (suc l) h = (interval-apart (cuts l) (getD sizes l 0) (h l (omega arith)), aparts l (λ i k. h i (omega arith)))
 
-  points : (l : ℕ) → Rising cuts sizes l → fines (blocks cuts l) (axes sizes l) ≡ coordinatesOf cuts sizes l
+  pub points : (l : ℕ) → Rising cuts sizes l → fines (blocks cuts l) (axes sizes l) ≡ coordinatesOf cuts sizes l
   unfolding axes
   points zero h = refl
   points (suc l) h = ap₂ _∷_ (interval-all (cuts l) (getD sizes l 0) (h l (omega arith)) 0 (getD sizes l 0) (omega arith) ∙ ap (λ m. from (cuts l 0) (cuts l m - cuts l 0)) (let z : 0 + getD sizes l 0 ≡ getD sizes l 0 = omega arith in z)) (points l (λ i k. h i (omega arith)))

@@ -1,2 +1,5 @@
+pub mod Written
 pub mod Cutting
+pub mod Rows
+pub mod ByRules
 pub mod Boxes

@@ -20,8 +20,8 @@ fn random(seed: u64, field: u64, below: u64) -> u64
     c / 16 % below
 }
 
-pub fn rule_seed(seed: u64, rule: u64) -> u64 {
-    (seed % 65536 + 1) * 1000 + rule % 1000
+pub fn rule_seed(case: u64, rule: u16) -> u64 {
+    (case % 65536 + 1) * 1000 + wide64(rule) % 1000
 }
 
 // A rule: whether it replaces, and its kind: 0 Open, 1 Closed, 2 Unknown.
@@ -206,26 +206,18 @@ fn load_two(
 }
 
 // A rule's ranges in all dimensions.
-pub fn load(counts: &mut [u16], ranges: &mut [u16], parts: &[u16], seed: u64)
-    requires { ⌜ (4 ≤ length (now counts)) × (256 ≤ length (now ranges)) × (4 ≤ length (now parts)) ⌝ }
+pub fn load(counts: &mut [u16], ranges: &mut [u16], case: u64, rule: u16)
+    requires { ⌜ (4 ≤ length (now counts)) × (256 ≤ length (now ranges)) ⌝ }
 {
-    load_two(counts, ranges, parts, seed, 0, 0);
-    load_two(counts, ranges, parts, seed, 2, 16);
-}
-
-// The size of a dimension with so many cuts.
-pub fn size_of(count: usize) -> u16 {
-    if count < 2 {
-        return 0;
-    }
-    if count > 2112 {
-        return 0;
-    }
-    (count - 1) as u16
+    let mut parts = [0u16; 4];
+    choose(&mut parts, case);
+    let seed = rule_seed(case, rule);
+    load_two(counts, ranges, &parts, seed, 0, 0);
+    load_two(counts, ranges, &parts, seed, 2, 16);
 }
 
 // The parts of a case's dimensions, and the number of its rules. Every hundredth case has 1,024 boxes and 64 rules.
-pub fn choose(parts: &mut [u16], case: u64)
+fn choose(parts: &mut [u16], case: u64)
     requires { ⌜ 4 ≤ length (now parts) ⌝ }
 {
     if case % 100 == 99 {

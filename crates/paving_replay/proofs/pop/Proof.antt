@@ -1,5 +1,5 @@
-use Rattle.paving_replay.proofs.Shapes.{shape-room}
 use native.Mathlib.Omega.{arith}
+use Rattle.paving_replay.proofs.Shapes.{sized-room}
 use borrow.Author.Needs.{needs}
 use Rattle.paving_replay.proofs.pop.Statement.{statement}
 use Rattle.paving_replay.proofs.pop.Tie as tie
@@ -10,11 +10,13 @@ pop-spec =
     (tie.spec
     (λ c. search needs)
     (λ c κs. search needs)
-    (λ c κs. let p = c .before .before .before .before .before .before .before .before .before .before .before .before .before .before .pre .0 in (shape-room _ _ _ _ (p .2) (omega (arith, p .0, c .before .before .before .before .before .before .before .before .before .before .before .before .before .before .pre .1)) (p .4) (c .before .before .before .before .before .shaped .ensures (c .before .before .before .before .if2 .taken)), (c .before .before .before .before .before .before .if1 .taken, omega arith)))
+    (λ c κs. search needs)
     (λ c κs. search needs)
     (λ c. search needs)
     (λ c. search needs)
+    (λ c κs. let p = c .before .before .before .before .before .before .before .before .before .before .before .before .pre in (sized-room _ (p .2) (c .before .before .before .before .before .before .between .ensures (c .before .before .before .before .before .if2 .taken)) _ _ (omega (arith, p .0, p .3)) (omega (arith, c .before .before .before .before .marks .ensures)), (c .before .before .before .before .before .before .before .if1 .taken, omega arith)))
     (λ c. search needs)
+    (λ c κs. search needs)
     (λ c. search needs)
     (λ c. search needs)
     (λ c. search needs)

@@ -1,0 +1,4 @@
+pub mod Rows
+pub mod Boxes
+pub mod Lists
+pub mod Groups

@@ -1,0 +1,22 @@
+-- A popped group as a page of the definition.
+-- Assumes nothing.
+use mathlib.Core.List.{List, [], _∷_, map}
+use Prim.Native.Nat.{ℕ, zero, suc}
+use Rattle.grid.specs.Group.{Set, Group}
+use Rattle.grid.specs.Cut.{Range, joined}
+use Rattle.definition.specs.Day.{Day}
+use Rattle.definition.specs.Group.{Page}
+
+-- interval x between the cuts of a dimension
+abbrev pub intervalAt : (ℕ → ℕ) → ℕ → Range
+intervalAt cut x = (cut x, cut (suc x))
+
+-- the marked intervals of each dimension, those that touch joined
+unfoldable pub runsOf : (ℕ → ℕ → ℕ) → ℕ → Set ℕ → List (List Range)
+runsOf cut zero S = []
+runsOf cut (suc i) [] = []
+runsOf cut (suc i) (E ∷ S) = joined (map (intervalAt (cut i)) E) ∷ runsOf cut i S
+
+-- the day that a group's value numbers, and its runs
+abbrev pub pageOf : (ℕ → Day) → (ℕ → ℕ → ℕ) → ℕ → Group ℕ ℕ → Page
+pageOf dayOf cut l g = (dayOf (g .0), runsOf cut l (g .1))
