@@ -10,5 +10,6 @@ pub mod Box
 pub mod Size
 pub mod Count
 pub mod Distinct
+pub mod Width
 pub mod Number
 pub mod Numbered

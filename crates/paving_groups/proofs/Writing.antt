@@ -11,7 +11,7 @@ use Rattle.paving.specs.Grid.{widthOf, chosen, marksFrom}
 use Rattle.paving.proofs.Room.{marks-in, marks-out, marks-end}
 use Rattle.paving_groups.specs.Text.{State, state, putOne, putAll, setText, putGroup}
 
-put-append : (s : State) (xs ys : List ℕ) → putAll s (xs ++ ys) ≡ putAll (putAll s xs) ys
+pub put-append : (s : State) (xs ys : List ℕ) → putAll s (xs ++ ys) ≡ putAll (putAll s xs) ys
 unfolding putAll
 put-append s [] ys = refl
 put-append s (x ∷ xs) ys = put-append (putOne s x) xs ys

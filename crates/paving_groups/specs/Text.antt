@@ -27,6 +27,13 @@ putAll s (x ∷ xs) = putAll (putOne s x) xs
 unfoldable pub setText : Set ℕ → List ℕ
 setText S = flatMap (λ E. map suc E ++ (0 ∷ [])) S
 
+-- the numbers of a group, and of some
+abbrev pub groupText : Group ℕ ℕ → List ℕ
+groupText g = g .0 ∷ setText (g .1)
+
+unfoldable pub groupsText : List (Group ℕ ℕ) → List ℕ
+groupsText gs = flatMap groupText gs
+
 -- a group more
 unfoldable pub putGroup : State → Group ℕ ℕ → State
-putGroup s g = putAll s (g .0 ∷ setText (g .1))
+putGroup s g = putAll s (groupText g)
