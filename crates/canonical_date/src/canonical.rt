@@ -24,14 +24,14 @@ pub enum Canonical {
     Stops,
 }
 
-fn number16(x: u64) -> u16
+pub fn number16(x: u64) -> u16
     requires { ⌜ x < 65536 ⌝ }
     ensures { λ r. ⌜ r ≡ x ⌝ }
 {
     x as u16
 }
 
-fn number8(x: u64) -> u8
+pub fn number8(x: u64) -> u8
     requires { ⌜ x < 256 ⌝ }
     ensures { λ r. ⌜ r ≡ x ⌝ }
 {

@@ -1,3 +1,4 @@
 pub mod Digits
 pub mod Numbers
 pub mod Laws
+pub mod Carried

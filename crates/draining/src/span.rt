@@ -1,0 +1,79 @@
+// A rule's spans as numbers.
+use canonical_date::canonical::number16;
+use canonical_date::canonical::number8;
+use item::time::SpanRead;
+use item::time::Time;
+ghost use mathlib.Core.Path.{_≡_};
+ghost use mathlib.Core.Bool.{cond};
+ghost use Prim.Native.Nat.{_+_, _*_, _≤_, _<_, _^_};
+ghost use lib.Dec.{eqb};
+ghost use lib.ListN.{length};
+ghost use lib.Seq.{sets};
+ghost use Rattle.definition.specs.Field.{sheetBits};
+ghost use Rattle.item.specs.Answer.{asTime};
+ghost use Rattle.span_number.specs.Number.{timeNumber};
+ghost use Rattle.span_number.specs.Carried.{CarriedTime};
+ghost use Rattle.draining.specs.Span.{numberOf, numberAt, spanNumbers, spansStop};
+
+// A span's number and the bit after it.
+pub enum NumberRead {
+    Span(u64, usize),
+    Refused,
+}
+
+fn time_number(time: Time) -> u64
+    requires { ⌜ CarriedTime (asTime time) ⌝ }
+    ensures { λ r. ⌜ r ≡ timeNumber (asTime time) ⌝ }
+{
+    match time {
+        Time::Fixed(minutes) => span_number::fixed_time(number16(minutes)),
+        Time::Variable(event, offset) => {
+            span_number::variable_time(number8(event), number16(offset))
+        }
+    }
+}
+
+// `open_end` is set where its bit is 1.
+fn open_bit(open_end: u64) -> u64
+    ensures { λ r. ⌜ r ≡ cond (eqb «open_end» 1) 1 0 ⌝ }
+{
+    if open_end == 1 { 1 } else { 0 }
+}
+
+fn number_at(sheet: &[u8], at: usize) -> NumberRead
+    requires { ⌜ at < 2 ^ 29 ⌝ }
+    ensures { λ r. ⌜ numberOf r ≡ numberAt (sheetBits (now (sheet .entry))) at ⌝ }
+{
+    let read = item::time::span_at(sheet, at);
+    match read {
+        SpanRead::Span(start, end, open_end, repeats, next) => {
+            let first = time_number(start);
+            let last = time_number(end);
+            let number = span_number::span(first, last, open_bit(open_end), repeats);
+            NumberRead::Span(number, next)
+        }
+        SpanRead::Refused(code, place) => NumberRead::Refused,
+    }
+}
+
+// The numbers of some spans, one behind the other, up to the first that may reach tomorrow; whether there is one.
+pub fn load_spans(sheet: &[u8], at: usize, left: u64, spans: &mut [u64], place: usize) -> bool
+    requires { ⌜ (at + left * 52 < 2 ^ 29) × (place + left ≤ length (now spans)) ⌝ }
+    ensures { λ r. ⌜ (r ≡ spansStop left (sheetBits (now (sheet .entry))) at)
+        × (now (spans .exit) ≡ sets (now (spans .entry)) place (spanNumbers left (sheetBits (now (sheet .entry))) at)) ⌝ }
+{
+    if left == 0 {
+        return false;
+    }
+    let read = number_at(sheet, at);
+    match read {
+        NumberRead::Span(number, next) => {
+            if span_number::no_overlap_with_next_day(number) {
+                spans[place] = number;
+                return load_spans(sheet, next, left - 1, spans, place + 1);
+            }
+            true
+        }
+        NumberRead::Refused => true,
+    }
+}
