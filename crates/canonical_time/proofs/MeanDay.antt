@@ -27,7 +27,8 @@ use Rattle.day_words.specs.Day.{flat, listRules, pairs}
 use Rattle.canonical_time.proofs.MeanList.{pairs-list}
 use Rattle.day_paint.proofs.MeanStroke.{strokeAt, strokes-paint, cuts-mean, shown-mean}
 use Rattle.day_group.proofs.MeanGroup.{groups-mean}
-use Rattle.day_row.proofs.MeanClass.{intervalsAt, Agree, length-clear, class-mean}
+use Rattle.day_row.proofs.ClearedCells.{length-clear}
+use Rattle.day_row.proofs.MeanClass.{intervalsAt, Agree, class-mean}
 
 flat-append : (d e : Day) → flat (d ++ e) ≡ flat d ++ flat e
 unfolding flat

@@ -1,3 +1,5 @@
 pub mod RowWays
 pub mod MeanRuns
+pub mod ClearedCells
+pub mod PopRow
 pub mod MeanClass

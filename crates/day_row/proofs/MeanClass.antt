@@ -1,25 +1,20 @@
--- What the words of a class mean: the flat form of the groups that a sweep of the intervals takes for it.
+-- What the words of a class mean: the flat form of the groups that a sweep of the intervals takes for it. Rests on popping along a row.
 -- Assumes nothing.
 use mathlib.Core.Path.{_≡_, refl, sym, ap, ap₂, _∙_, subst}
 use mathlib.Core.List.{List, [], _∷_, _++_, map, append-assoc}
-use mathlib.Core.Logic.{_⊎_, inl, inr}
-use mathlib.Core.Option.{none, some}
-use mathlib.Core.Bool.{Bool, true, false, _&&_, cond, true≢false}
+use mathlib.Core.Logic.{inl, inr}
+use mathlib.Core.Option.{some}
+use mathlib.Core.Bool.{Bool, true, false, cond}
 use Prim.Native.Nat.{ℕ, zero, suc, _+_, _≤_, _<_}
 use native.Mathlib.Omega.{arith}
 use lib.Dec.{eqb}
-use lib.ListN.{getD, set, length, length-set}
-use lib.Seq.{getD-set-same, getD-set-other}
+use lib.ListN.{getD, length}
 use borrow.Author.Tests.{eq-eqb, ne-eqb, eqb-true, eqb-false}
-use Rattle.laws.specs.Lists.{keep, anyOf, All, Mem, firstOf}
-use Rattle.laws.specs.Tests.{Exact}
-use Rattle.laws.proofs.Flags.{same-flag, not-true}
-use Rattle.laws.proofs.Lists.{All-map, All-append, keep-append, keep-none, Mem-keep, Mem-any, any-Mem}
-use Rattle.laws.proofs.Tests.{exact-eqb, exact-pair}
-use Rattle.grid.specs.Group.{Map, at, Group, inside, agree, grow, pop, clear, takeOut, sweep}
+use Rattle.laws.specs.Lists.{keep, All, Mem}
+use Rattle.laws.proofs.Lists.{All-append, keep-append, keep-none, Mem-left, Mem-right, Mem-All, All-Mem}
+use Rattle.grid.specs.Group.{Map, at, Group, agree, pop, clear, takeOut, sweep}
 use Rattle.grid.specs.Cut.{Range, sameRange, joined, asJoined}
 use Rattle.grid.proofs.Steps.{sweep-unroll}
-use Rattle.grid.proofs.Value.{clear-value}
 use Rattle.definition.specs.Rule.{State, closed, sameState}
 use Rattle.definition.specs.Day.{stateClass, plainSpan, asEntry}
 use Rattle.definition.proofs.Same.{exact-state}
@@ -29,141 +24,8 @@ use Rattle.words.specs.Words.{entryWords}
 use Rattle.day_row.specs.Row.{runsFrom, clearFrom, isOfClass, classWords, classLeft}
 use Rattle.day_words.specs.Day.{flat}
 use Rattle.day_row.proofs.MeanRuns.{rangeWord, picked, own-runs}
-
-exact-range : Exact sameRange
-exact-range = exact-pair exact-eqb exact-eqb
-
--- ## Emptied cells
-clear-below : (vs : List ℕ) (S j r i : ℕ) → i < j → getD (clearFrom vs S j r) i 0 ≡ getD vs i 0
-unfolding clearFrom
-clear-below vs S j zero i h = refl
-clear-below vs S j (suc r) i h = clear-below (cond (eqb (getD vs j 0) S) (set vs j 65536) vs) S (j + 1) r i (omega arith) ∙ go (eqb (getD vs j 0) S)
-  where
-    go : (b : Bool) → getD (cond b (set vs j 65536) vs) i 0 ≡ getD vs i 0
-    go true = getD-set-other vs j i 65536 0 (λ e. omega arith)
-    go false = refl
-
-pub length-clear : (vs : List ℕ) (S j r : ℕ) → length (clearFrom vs S j r) ≡ length vs
-unfolding clearFrom
-length-clear vs S j zero = refl
-length-clear vs S j (suc r) = length-clear (cond (eqb (getD vs j 0) S) (set vs j 65536) vs) S (j + 1) r ∙ go (eqb (getD vs j 0) S)
-  where
-    go : (b : Bool) → length (cond b (set vs j 65536) vs) ≡ length vs
-    go true = length-set vs j 65536
-    go false = refl
-
-clear-at : (vs : List ℕ) (S j r k : ℕ) → j + r ≤ length vs → j ≤ k → k < j + r → getD (clearFrom vs S j r) k 0 ≡ cond (eqb (getD vs k 0) S) 65536 (getD vs k 0)
-unfolding clearFrom
-clear-at vs S j zero k room l h = absurd (omega arith)
-clear-at vs S j (suc r) k room l h = go (eqb j k) refl (λ ws q l h. clear-at ws S (j + 1) r k q l h)
-  where
-    ws : List ℕ
-    ws = cond (eqb (getD vs j 0) S) (set vs j 65536) vs
-
-    size : (b : Bool) → length (cond b (set vs j 65536) vs) ≡ length vs
-    size true = length-set vs j 65536
-    size false = refl
-
-    here : (b : Bool) → getD (cond b (set vs j 65536) vs) j 0 ≡ cond b 65536 (getD vs j 0)
-    here true = getD-set-same vs j 65536 0 (omega arith)
-    here false = refl
-
-    there : (j ≡ k → ⊥) → (b : Bool) → getD (cond b (set vs j 65536) vs) k 0 ≡ getD vs k 0
-    there d true = getD-set-other vs j k 65536 0 (λ e. d (sym e))
-    there d false = refl
-
-    go : (b : Bool) → eqb j k ≡ b
-        → ((ws : List ℕ) → j + 1 + r ≤ length ws → j + 1 ≤ k → k < j + 1 + r → getD (clearFrom ws S (j + 1) r) k 0 ≡ cond (eqb (getD ws k 0) S) 65536 (getD ws k 0))
-        → getD (clearFrom ws S (j + 1) r) k 0 ≡ cond (eqb (getD vs k 0) S) 65536 (getD vs k 0)
-    go true e ih = let z : j ≡ k = eqb-true j k e in
-        ap (λ v. getD (clearFrom ws S (j + 1) r) v 0) (sym z) ∙ clear-below ws S (j + 1) r j (omega arith) ∙ here (eqb (getD vs j 0) S)
-        ∙ ap (λ v. cond (eqb (getD vs v 0) S) 65536 (getD vs v 0)) z
-    go false e ih =
-        let d = eqb-false j k e in
-        ih ws (omega (arith, size (eqb (getD vs j 0) S))) (omega arith) (omega arith)
-        ∙ ap (λ v. cond (eqb v S) 65536 v) (there d (eqb (getD vs j 0) S))
-
--- ## Popping along one dimension
-module _ (ok : State → Bool) (f : Map Range State) where
-  first-none : (E : List Range) → All (λ y. ok (f (y ∷ [])) ≡ false) E → firstOf (λ x. pop sameState ok [] (at f x)) E ≡ none
-  unfolding pop firstOf
-  first-none [] k = refl
-  first-none (y ∷ E) k = rw (k .0, pop, firstOf) (first-none E (k .1))
-
-  first-some : (pre : List Range) (x : Range) (post : List Range) → All (λ y. ok (f (y ∷ [])) ≡ false) pre → ok (f (x ∷ [])) ≡ true
-      → firstOf (λ y. pop sameState ok [] (at f y)) (pre ++ x ∷ post) ≡ some (f (x ∷ []), [])
-  unfolding pop firstOf
-  first-some [] x post k e = rw (e, pop, firstOf)
-  first-some (y ∷ pre) x post k e = rw (k .0, pop, firstOf) (first-some pre x post (k .1) e)
-
-  -- the coordinates with the value of x
-  abbrev alike : Range → List Range → List Range
-  alike x D = keep (λ y. agree sameState (f (x ∷ [])) [] (at f y)) D
-
-  pop-none : (D : List Range) → All (λ y. ok (f (y ∷ [])) ≡ false) D → pop sameState ok (D ∷ []) f ≡ none
-  unfolding pop grow
-  pop-none D h = ap (grow sameState D f) (first-none D h)
-
-  pop-some : (pre : List Range) (x : Range) (post : List Range) → All (λ y. ok (f (y ∷ [])) ≡ false) pre → ok (f (x ∷ [])) ≡ true
-      → pop sameState ok ((pre ++ x ∷ post) ∷ []) f ≡ some (f (x ∷ []), alike x (pre ++ x ∷ post) ∷ [])
-  unfolding pop grow
-  pop-some pre x post h e = ap (grow sameState (pre ++ x ∷ post) f) (first-some pre x post h e)
-
-  -- none before x has its value
-  alike-pre : (pre : List Range) (x : Range) → All (λ y. ok (f (y ∷ [])) ≡ false) pre → ok (f (x ∷ [])) ≡ true → All (λ y. false ≡ agree sameState (f (x ∷ [])) [] (at f y)) pre
-  unfolding agree
-  alike-pre pre x h e = All-map (λ y k. sym (not-true (sameState (f (y ∷ [])) (f (x ∷ []))) (λ s. true≢false (sym e ∙ ap ok (sym (exact-state .equal (f (y ∷ [])) (f (x ∷ [])) s)) ∙ k)))) pre h
-
-Mem-keep-true : (t : Range → Bool) (x : Range) (D : List Range) → Mem x (keep t D) → t x ≡ true
-unfolding Mem keep
-Mem-keep-true t x [] m = absurd m
-Mem-keep-true t x (y ∷ D) m = go (t y) refl m (Mem-keep-true t x D)
-  where
-    go : (b : Bool) → t y ≡ b → Mem x (keep t (y ∷ D)) → (Mem x (keep t D) → t x ≡ true) → t x ≡ true
-    go true e k ih = pick (rw (e, keep) at k)
-      where
-        pick : (x ≡ y) ⊎ Mem x (keep t D) → t x ≡ true
-        pick (inl q) = rw q e
-        pick (inr n) = ih n
-    go false e k ih = ih (rw (e, keep) at k)
-
--- a coordinate of D is among the kept ones where it passes
-any-keep : (t : Range → Bool) (x : Range) (D : List Range) → Mem x D → anyOf (sameRange x) (keep t D) ≡ t x
-any-keep t x D m = same-flag _ _ (λ h. Mem-keep-true t x D (any-Mem exact-range x (keep t D) h)) (λ h. Mem-any exact-range x (keep t D) (Mem-keep t x D m h))
-
--- the value of a coordinate of D after the alike ones are emptied
-alike-cleared : (f : Map Range State) (x y : Range) (D : List Range) → Mem y D
-    → clear sameRange closed (keep (λ y. agree sameState (f (x ∷ [])) [] (at f y)) D ∷ []) f (y ∷ []) ≡ cond (sameState (f (y ∷ [])) (f (x ∷ []))) closed (f (y ∷ []))
-unfolding inside agree
-alike-cleared f x y D m =
-    clear-value sameRange closed (keep (λ y. agree sameState (f (x ∷ [])) [] (at f y)) D ∷ []) f (y ∷ [])
-    ∙ ap (λ b. cond b closed (f (y ∷ []))) (and-true _ ∙ any-keep (λ y. agree sameState (f (x ∷ [])) [] (at f y)) y D m)
-  where
-    and-true : (b : Bool) → b && true ≡ b
-    and-true true = refl
-    and-true false = refl
-
-Mem-append-left : (x : Range) (D E : List Range) → Mem x D → Mem x (D ++ E)
-unfolding Mem
-Mem-append-left x [] E m = absurd m
-Mem-append-left x (y ∷ D) E (inl q) = inl q
-Mem-append-left x (y ∷ D) E (inr m) = inr (Mem-append-left x D E m)
-
-Mem-append-right : (x : Range) (D E : List Range) → Mem x E → Mem x (D ++ E)
-unfolding Mem
-Mem-append-right x [] E m = m
-Mem-append-right x (y ∷ D) E m = inr (Mem-append-right x D E m)
-
-All-mem : {P : Range → Type 0} (D : List Range) → ((y : Range) → Mem y D → P y) → All P D
-unfolding Mem
-All-mem [] h = tt
-All-mem (y ∷ D) h = (h y (inl refl), All-mem D (λ z m. h z (inr m)))
-
-mem-All : (P : Range → Type 0) (D : List Range) → All P D → (y : Range) → Mem y D → P y
-unfolding Mem
-mem-All P [] h y m = absurd m
-mem-All P (z ∷ D) h y (inl q) = subst P (sym q) (h .0)
-mem-All P (z ∷ D) h y (inr m) = mem-All P D (h .1) y m
+use Rattle.day_row.proofs.ClearedCells.{clear-below, length-clear, clear-at}
+use Rattle.day_row.proofs.PopRow.{alike, exact-range, pop-none, pop-some, alike-pre, alike-cleared}
 
 module _ (cs : List ℕ) where
   -- the intervals from j on
@@ -254,7 +116,7 @@ module _ (cs : List ℕ) (n : ℕ) (climbs : (k : ℕ) → k < n → getD cs k 0
         go : (b : Bool) → eqb k j ≡ b → swept D g .1 ((getD cs k 0, getD cs (k + 1) 0) ∷ []) ≡ stateAt (getD (classLeft c ws (j + 1) r) k 0)
         go true q =
             ap (λ i. swept D g .1 ((getD cs i 0, getD cs (i + 1) 0) ∷ [])) (eqb-true k j q)
-            ∙ later .kept (getD cs j 0, getD cs (j + 1) 0) (Mem-append-right (getD cs j 0, getD cs (j + 1) 0) pre _ (inl refl)) ∙ e
+            ∙ later .kept (getD cs j 0, getD cs (j + 1) 0) (Mem-right (getD cs j 0, getD cs (j + 1) 0) pre _ (inl refl)) ∙ e
             ∙ ap stateAt (sym (left-below c ws (j + 1) r j (omega arith))) ∙ ap (λ i. stateAt (getD (classLeft c ws (j + 1) r) i 0)) (sym (eqb-true k j q))
         go false q = later .left k (omega (arith, eqb-false k j q)) (omega arith)
 
@@ -262,7 +124,7 @@ module _ (cs : List ℕ) (n : ℕ) (climbs : (k : ℕ) → k < n → getD cs k 0
     unfolding classWords classLeft
     skips e p q a = record {
       words = ap (λ h. flat (map asEntry (map asJoined (swept D h .0)))) (sym q) ∙ later .words ∙ ap (λ v. classWords cs c v (j + 1) r) p ∙ sym (rw (e, classWords));
-      kept = λ y m. ap (λ h. swept D h .1 (y ∷ [])) (sym q) ∙ later .kept y (Mem-append-left y pre _ m) ∙ ap (λ h. h (y ∷ [])) q;
+      kept = λ y m. ap (λ h. swept D h .1 (y ∷ [])) (sym q) ∙ later .kept y (Mem-left y pre _ m) ∙ ap (λ h. h (y ∷ [])) q;
       left = λ k l h. ap (λ u. swept D u .1 ((getD cs k 0, getD cs (k + 1) 0) ∷ [])) (sym q)
           ∙ one-more (ap (λ u. u ((getD cs j 0, getD cs (j + 1) 0) ∷ [])) q ∙ a j (omega arith) (omega arith) ∙ ap (λ v. stateAt (getD v j 0)) (sym p)) k l h
           ∙ ap (λ v. stateAt (getD (classLeft c v (j + 1) r) k 0)) p ∙ ap (λ v. stateAt (getD v k 0)) (sym (left-step e));
@@ -289,10 +151,10 @@ module _ (cs : List ℕ) (n : ℕ) (climbs : (k : ℕ) → k < n → getD cs k 0
 
     in-D : (k : ℕ) → j ≤ k → k < j + suc r → Mem (getD cs k 0, getD cs (k + 1) 0) D
     unfolding intervalsAt
-    in-D k l m = subst (Mem (getD cs k 0, getD cs (k + 1) 0)) (sym q) (Mem-append-right (getD cs k 0, getD cs (k + 1) 0) pre (intervalsAt cs j (suc r)) (Mem-interval cs j (suc r) k l m))
+    in-D k l m = subst (Mem (getD cs k 0, getD cs (k + 1) 0)) (sym q) (Mem-right (getD cs k 0, getD cs (k + 1) 0) pre (intervalsAt cs j (suc r)) (Mem-interval cs j (suc r) k l m))
 
     pre-in-D : (y : Range) → Mem y pre → Mem y D
-    pre-in-D y m = subst (Mem y) (sym q) (Mem-append-left y pre (x ∷ intervalsAt cs (j + 1) r) m)
+    pre-in-D y m = subst (Mem y) (sym q) (Mem-left y pre (x ∷ intervalsAt cs (j + 1) r) m)
 
     popped : pop sameState ok (D ∷ []) f ≡ some (f (x ∷ []), alike ok f x D ∷ [])
     popped = ap (λ E. pop sameState ok (E ∷ []) f) q ∙ pop-some ok f pre x (intervalsAt cs (j + 1) r) h matches ∙ ap (λ E. some (f (x ∷ []), alike ok f x E ∷ [])) (sym q)
@@ -318,10 +180,10 @@ module _ (cs : List ℕ) (n : ℕ) (climbs : (k : ℕ) → k < n → getD cs k 0
     kept-before : (y : Range) → Mem y pre → g (y ∷ []) ≡ f (y ∷ [])
     kept-before y m =
         alike-cleared f x y D (pre-in-D y m)
-        ∙ ap (λ b. cond b closed (f (y ∷ []))) (sym (mem-All (λ y. false ≡ sameState (f (y ∷ [])) (f (x ∷ []))) pre (unfold agree in alike-pre ok f pre x h matches) y m))
+        ∙ ap (λ b. cond b closed (f (y ∷ []))) (sym (All-Mem (λ y. false ≡ sameState (f (y ∷ [])) (f (x ∷ []))) pre (unfold agree in alike-pre ok f pre x h matches) y m))
 
     pub unmatched : All (λ y. ok (g (y ∷ [])) ≡ false) (pre ++ x ∷ [])
-    unmatched = All-append _ pre (x ∷ []) (All-mem pre (λ y m. ap ok (kept-before y m) ∙ mem-All (λ y. ok (f (y ∷ [])) ≡ false) pre h y m)) (ap ok emptied ∙ ok-closed, tt)
+    unmatched = All-append _ pre (x ∷ []) (Mem-All (λ y. ok (g (y ∷ [])) ≡ false) pre (λ y m. ap ok (kept-before y m) ∙ All-Mem (λ y. ok (f (y ∷ [])) ≡ false) pre h y m)) (ap ok emptied ∙ ok-closed, tt)
       where
         emptied : g (x ∷ []) ≡ closed
         emptied = alike-cleared f x x D (in-D j (omega arith) (omega arith)) ∙ ap (λ b. cond b closed (f (x ∷ []))) (exact-state .self (f (x ∷ [])))
@@ -333,7 +195,7 @@ module _ (cs : List ℕ) (n : ℕ) (climbs : (k : ℕ) → k < n → getD cs k 0
         unrolled D f ∙ ap (takeOut sameState sameRange closed f (λ g. swept D g)) popped in
         record {
           words = ap (λ s. flat (map asEntry (map asJoined (s .0)))) u ∙ entry ∙ ap (entryWords (getD vs j 0) runs ++_) (later .words) ∙ sym (rw (e, classWords));
-          kept = λ y m. ap (λ s. s .1 (y ∷ [])) u ∙ later .kept y (Mem-append-left y pre _ m) ∙ kept-before y m;
+          kept = λ y m. ap (λ s. s .1 (y ∷ [])) u ∙ later .kept y (Mem-left y pre _ m) ∙ kept-before y m;
           left = λ k l m. ap (λ s. s .1 ((getD cs k 0, getD cs (k + 1) 0) ∷ [])) u
               ∙ one-more vs (clearFrom vs (getD vs j 0) j (suc r)) j r f g pre D later (cleared-cells j (omega arith) (omega arith)) k l m
               ∙ ap (λ v. stateAt (getD v k 0)) (sym left-step);

@@ -11,7 +11,7 @@ use lib.ListN.{length}
 use Rattle.laws.specs.Lists.{every, anyOf, keep, sum, All, Mem, OnSome}
 use Rattle.laws.specs.Tests.{Exact}
 use Rattle.laws.proofs.Flags.{not-true}
-use Rattle.laws.proofs.Lists.{Mem-keep, Mem-any, Mem-each, every-at, sum-append}
+use Rattle.laws.proofs.Lists.{Mem-keep, Mem-any, Mem-All, every-at, sum-append}
 use Rattle.grid.specs.Group.{Set, Map, at, Group, size, agree, pop, clear, takeOut, sweepFor, sweep, groups}
 use Rattle.grid.proofs.Part.{Part, pop-part}
 use Rattle.grid.proofs.Value.{tally, tally-size, clear-le, pop-agree}
@@ -26,7 +26,7 @@ module _ {A W : Type 0} {eq : W → W → Bool} (exact : Exact eq) {same : A →
     set-taken (D ∷ Ds) [] f p a = absurd p
     set-taken (D ∷ Ds) (E ∷ S) f p a =
         subst (λ F. length F * size S + sum (λ x. tally t Ds (at (clear same empty (F ∷ S) f) x)) D ≤ sum (λ x. tally t Ds (at f x)) D) (sym (p .0 .1))
-        (along D (Mem-each D) (λ x. set-taken Ds S (at f x) (p .1)))
+        (along D (Mem-All (λ x. Mem x D) D (λ x m. m)) (λ x. set-taken Ds S (at f x) (p .1)))
       where
         kept : A → Bool
         kept = p .0 .0

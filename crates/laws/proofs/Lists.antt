@@ -1,6 +1,6 @@
 -- Laws of the words on lists. Rests on the flags' laws.
 -- Assumes nothing.
-use mathlib.Core.Path.{_≡_, refl, sym, ap}
+use mathlib.Core.Path.{_≡_, refl, sym, ap, subst}
 use mathlib.Core.List.{List, [], _∷_, _++_, map}
 use mathlib.Core.Logic.{inl, inr}
 use mathlib.Core.Option.{Option, none, some}
@@ -193,11 +193,28 @@ any-none t x (y ∷ D) h m = go (t y) refl m (any-none t x D)
     go false e (inl q) ih = rw q e
     go false e (inr k) ih = ih (rw e at h) k
 
--- each element is one
-pub Mem-each : {A : Type 0} (D : List A) → All (λ x. Mem x D) D
+pub Mem-left : {A : Type 0} (x : A) (D E : List A) → Mem x D → Mem x (D ++ E)
 unfolding Mem
-Mem-each [] = tt
-Mem-each (x ∷ D) = (inl refl, All-map (λ y m. inr m) D (Mem-each D))
+Mem-left x [] E m = absurd m
+Mem-left x (y ∷ D) E (inl q) = inl q
+Mem-left x (y ∷ D) E (inr m) = inr (Mem-left x D E m)
+
+pub Mem-right : {A : Type 0} (x : A) (D E : List A) → Mem x E → Mem x (D ++ E)
+unfolding Mem
+Mem-right x [] E m = m
+Mem-right x (y ∷ D) E m = inr (Mem-right x D E m)
+
+-- a fact of every element, and of whatever is one
+pub Mem-All : {A : Type 0} (P : A → Type 0) (D : List A) → ((y : A) → Mem y D → P y) → All P D
+unfolding Mem
+Mem-All P [] h = tt
+Mem-All P (y ∷ D) h = (h y (inl refl), Mem-All P D (λ z m. h z (inr m)))
+
+pub All-Mem : {A : Type 0} (P : A → Type 0) (D : List A) → All P D → (y : A) → Mem y D → P y
+unfolding Mem
+All-Mem P [] h y m = absurd m
+All-Mem P (z ∷ D) h y (inl q) = subst P (sym q) (h .0)
+All-Mem P (z ∷ D) h y (inr m) = All-Mem P D (h .1) y m
 
 -- ## Sums
 pub sum-le : {A : Type 0} (k h : A → ℕ) (D : List A) → ((x : A) → k x ≤ h x) → sum k D ≤ sum h D
