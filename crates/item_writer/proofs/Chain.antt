@@ -18,7 +18,7 @@ sets-append (x ∷ xs) ys s at =
 
 module _ {old xs mid : List ℕ} {at place : ℕ} (first : Wrote old at xs mid place) where
   -- no bit more, no bit less
-  same-size : length mid ≡ length old
+  pub same-size : length mid ≡ length old
   same-size = omega (arith, ap length (first .stored), length-sets (sheetBits old) at xs, length-sheetBits mid, length-sheetBits old)
 
   pub wrote-then : {ys out : List ℕ} {next : ℕ} → Wrote mid place ys out next → Wrote old at (xs ++ ys) out next

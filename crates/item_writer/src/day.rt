@@ -8,6 +8,13 @@ ghost use Rattle.definition.specs.Rule.{yearBounds, monthBounds, weekBounds, we
 ghost use Rattle.definition.specs.Sheet.{yearRange, monthdayRange, weekRange, weekDayRange};
 ghost use Rattle.item_writer.specs.Written.{Room, Wrote, yearsFrom, weeksFrom, daysFrom};
 
+// "step 1, offset 0, nth bits all 1".
+const STEP: u64 = 1;
+
+const OFFSET: u64 = 0;
+
+const EVERY_NTH: u64 = 31;
+
 // "Year: start 14, end 14 (each 1900 to 9999), step 16 (from 1)."
 pub fn put_years(out: &mut [u8], at: usize, start: u64, end: u64) -> usize
     requires { ⌜ (start < yearBounds .1) × (end < yearBounds .1) ⌝ }
@@ -22,7 +29,7 @@ pub fn put_years(out: &mut [u8], at: usize, start: u64, end: u64) -> usize
         width::YEAR,
         end,
         width::YEAR_STEP,
-        1,
+        STEP,
     )
 }
 
@@ -58,7 +65,7 @@ pub fn put_weeks(out: &mut [u8], at: usize, start: u64, end: u64) -> usize
         width::WEEK,
         end,
         width::WEEK_STEP,
-        1,
+        STEP,
     )
 }
 
@@ -82,10 +89,10 @@ pub fn put_weekdays(out: &mut [u8], at: usize, start: u64, end: u64) -> usize
         out,
         offset_at,
         width::OFFSET,
-        0,
+        OFFSET,
         width::NTH,
-        31,
+        EVERY_NTH,
         width::NTH,
-        31,
+        EVERY_NTH,
     )
 }
