@@ -2,19 +2,20 @@
 -- Assumes nothing.
 use mathlib.Core.Path.{_≡_, refl, sym, ap, _∙_, subst}
 use mathlib.Core.Bool.{Bool, true, false, cond}
-use mathlib.Core.List.{List, [], _∷_, _++_}
+use mathlib.Core.List.{List, [], _∷_, _++_, map}
 use mathlib.Core.Option.{some}
 use Prim.Native.Nat.{ℕ, suc, _+_, _≤_, _<_}
 use native.Mathlib.Omega.{arith}
 use lib.Dec.{eqb, ltb, leb}
 use lib.ListN.{getD}
+use borrow.Author.Tests.{ne-eqb}
 use Rattle.laws.specs.Lists.{OnSome}
 use Rattle.laws.proofs.Tests.{exact-eqb}
 use Rattle.grid.specs.Group.{Set, Map, Group, clear, takeOut, sweep, groups}
 use Rattle.grid.proofs.Value.{tally, pop-less}
 use Rattle.grid.proofs.Steps.{sweep-unroll}
-use Rattle.paving.specs.Grid.{axes, grid, lowestKind, inClass, popAt, popped, Cleared}
-use Rattle.paving.specs.Sweep.{swept, classesFrom, groupsFrom, emitted}
+use Rattle.paving.specs.Grid.{axes, grid, lowestKind, inClass, popAt, popped, marked, Cleared}
+use Rattle.paving.specs.Sweep.{swept, classesFrom, groupsFrom, emitted, leftAfter, leftFrom, markGroup, TakenOut}
 use Rattle.paving.specs.declared.Popped.{Popped}
 use Rattle.paving.specs.declared.Popped.the-variants.{Value, Nothing}
 use Rattle.paving.proofs.Room.{from-cons, from-end}
@@ -60,6 +61,12 @@ module _ (cells kinds sizes : List ℕ) (k l : ℕ) (z : getD kinds 0 0 ≡ 0) w
       let e = sym (swept-none f S h q) in
       (ap (λ p. emitted emit s (p .0)) e ∙ g, ap (λ p. p .1) e ∙ w)
 
+  -- and the marks stay
+  pub marks-end : (f : Popped) (S : Set ℕ) → popped f S ≡ popAt cells kinds sizes k l 0 → f ≡ Nothing → (marks marks₁ : List ℕ)
+      → marks₁ ≡ marked sizes l 0 (popAt cells kinds sizes k l 0) marks → marks₁ ≡ marks
+  unfolding popped marked
+  marks-end f S h q marks marks₁ e = e ∙ ap (λ o. marked sizes l 0 o marks) (sym (rw q at h))
+
   module _ (after : List ℕ) (f : Popped) (v : ℕ) (S : Set ℕ) (h : popped f S ≡ popAt cells kinds sizes k l 0) (q : f ≡ Value v)
       (c : Cleared cells after sizes l 0 S) where
     one : popAt cells kinds sizes k l 0 ≡ some (v, S)
@@ -88,6 +95,13 @@ module _ (cells kinds sizes : List ℕ) (k l : ℕ) (z : getD kinds 0 0 ≡ 0) w
       ap (λ p. p .1) (sym swept-some) ∙ w,
     )
 
+    pub marks-round : (marks marks₁ : List ℕ) → marks₁ ≡ marked sizes l 0 (popAt cells kinds sizes k l 0) marks → marks₁ ≡ markGroup sizes l marks (v, S)
+    unfolding marked markGroup
+    marks-round marks marks₁ e = e ∙ ap (λ o. marked sizes l 0 o marks) one
+
+    pub elsewhere-round : (first : List ℕ) → ((d : ℕ) → 1 ≤ d → grid cells sizes l d ≡ grid first sizes l d) → (d : ℕ) → 1 ≤ d → grid after sizes l d ≡ grid first sizes l d
+    elsewhere-round first e d h = c d ∙ ap (λ b. cond b (clear eqb 0 S (grid cells sizes l d)) (grid cells sizes l d)) (ne-eqb d 0 (omega arith)) ∙ e d h
+
 -- ## Class after class
 module _ (cells kinds sizes : List ℕ) (last k l : ℕ) where
   pub groups-end : {T : Type 0} (emit : T → Group ℕ ℕ → T) (s : T) → last < k → s ≡ emitted emit s (groupsFrom cells kinds sizes last k l)
@@ -99,3 +113,20 @@ module _ (cells kinds sizes : List ℕ) (last k l : ℕ) where
       → r ≡ emitted emit s (groupsFrom cells kinds sizes last k l)
   unfolding swept groupsFrom classesFrom groups
   groups-step emit after s s₁ r h a c g = rw (from-cons k (suc last) (omega arith), emitted-append, ← a, ← c) g
+
+  pub taken-none : (marks : List ℕ) → last < k → TakenOut sizes l cells marks cells marks (groupsFrom cells kinds sizes last k l) (leftFrom cells kinds sizes last k l)
+  unfolding leftFrom leftAfter classesFrom
+  taken-none marks h = record { marked = groups-end (markGroup sizes l) marks h; left = rw (from-end k (suc last) h); elsewhere = λ d o. refl }
+
+  pub taken-more : (marks cells₁ marks₁ cells₂ marks₂ : List ℕ) → k ≤ last
+      → TakenOut sizes l cells marks cells₁ marks₁ (swept cells kinds sizes k l .0) (swept cells kinds sizes k l .1)
+      → TakenOut sizes l cells₁ marks₁ cells₂ marks₂ (groupsFrom cells₁ kinds sizes last (k + 1) l) (leftFrom cells₁ kinds sizes last (k + 1) l)
+      → TakenOut sizes l cells marks cells₂ marks₂ (groupsFrom cells kinds sizes last k l) (leftFrom cells kinds sizes last k l)
+  unfolding swept leftFrom leftAfter classesFrom
+  taken-more marks cells₁ marks₁ cells₂ marks₂ h a b = record {
+    marked = groups-step (markGroup sizes l) cells₁ marks marks₁ marks₂ h (a .marked) (a .left) (b .marked);
+    left =
+        b .left ∙ ap (leftAfter (classesFrom kinds last (k + 1)) (axes sizes l)) (a .left)
+        ∙ sym (ap (λ ks. leftAfter (map (inClass kinds) ks) (axes sizes l) (grid cells sizes l 0)) (from-cons k (suc last) (omega arith)));
+    elsewhere = λ d o. b .elsewhere d o ∙ a .elsewhere d o;
+  }

@@ -3,8 +3,8 @@ ghost use mathlib.Core.Path.{_≡_};
 ghost use mathlib.Core.List.{map};
 ghost use Prim.Native.Nat.{suc, _+_, _-_, _≤_, _<_};
 ghost use lib.ListN.{length, getD};
-ghost use Rattle.paving.specs.Grid.{Room, widthOf, grid, chosen, marksFrom};
-ghost use Rattle.paving.specs.Sweep.{swept, groupsFrom, emitted};
+ghost use Rattle.paving.specs.Grid.{Room, widthOf, chosen, marksFrom};
+ghost use Rattle.paving.specs.Sweep.{swept, groupsFrom, emitted, leftFrom, TakenOut};
 ghost use Rattle.paving_groups.specs.Text.{state, putOne, putAll, setText, putGroup};
 
 // Appends a number, if there is room.
@@ -79,16 +79,17 @@ pub fn pop_class(
     requires { ⌜ Room (length (now cells)) (length (now marks)) (now sizes) left 0 0 ⌝ }
     requires { ⌜ getD (now kinds) 0 0 ≡ 0 ⌝ }
     ensures { λ r. ⌜ (state (now (out .exit)) r ≡ emitted putGroup (state (now (out .entry)) start) (swept (now (cells .entry)) (now (kinds .entry)) (now (sizes .entry)) class left .0))
-        × (grid (now (cells .exit)) (now (sizes .entry)) left 0 ≡ swept (now (cells .entry)) (now (kinds .entry)) (now (sizes .entry)) class left .1) ⌝ }
+        × TakenOut (now (sizes .entry)) left (now (cells .entry)) (now (marks .entry)) (now (cells .exit)) (now (marks .exit))
+        (swept (now (cells .entry)) (now (kinds .entry)) (now (sizes .entry)) class left .0) (swept (now (cells .entry)) (now (kinds .entry)) (now (sizes .entry)) class left .1) ⌝ }
 {
     let mut next = start;
     loop {
-        let found = paving::pop_filter(cells, kinds, sizes, marks, class, left, 0, 0);
+        let found = paving::pop::pop_filter(cells, kinds, sizes, marks, class, left, 0, 0);
         match found {
             paving::Popped::Value(value) => {
                 let valued = put(out, next, value);
                 next = put_set(out, sizes, marks, valued, left, 0);
-                paving::reset(cells, sizes, marks, left, 0, 0);
+                paving::reset::reset(cells, sizes, marks, left, 0, 0);
             }
             paving::Popped::Nothing => {
                 return next;
@@ -111,8 +112,10 @@ pub fn pop_classes(
 ) -> usize
     requires { ⌜ Room (length (now cells)) (length (now marks)) (now sizes) left 0 0 ⌝ }
     requires { ⌜ (getD (now kinds) 0 0 ≡ 0) × (last < 255) ⌝ }
-    ensures { λ r. ⌜ state (now (out .exit)) r
-        ≡ emitted putGroup (state (now (out .entry)) next) (groupsFrom (now (cells .entry)) (now (kinds .entry)) (now (sizes .entry)) last class left) ⌝ }
+    ensures { λ r. ⌜ (state (now (out .exit)) r
+        ≡ emitted putGroup (state (now (out .entry)) next) (groupsFrom (now (cells .entry)) (now (kinds .entry)) (now (sizes .entry)) last class left))
+        × TakenOut (now (sizes .entry)) left (now (cells .entry)) (now (marks .entry)) (now (cells .exit)) (now (marks .exit))
+        (groupsFrom (now (cells .entry)) (now (kinds .entry)) (now (sizes .entry)) last class left) (leftFrom (now (cells .entry)) (now (kinds .entry)) (now (sizes .entry)) last class left) ⌝ }
 {
     if class > last {
         return next;

@@ -3,7 +3,7 @@ use Prim.Native.Nat.{_+_, _-_, ℕ, _<_}
 use borrow.Author.Needs.{needs}
 use native.Mathlib.Omega.{arith}
 use Rattle.paving_groups.specs.Text.{putGroup}
-use Rattle.paving.proofs.Sweeping.{groups-end, groups-step}
+use Rattle.paving.proofs.Sweeping.{groups-end, groups-step, taken-none, taken-more}
 use Rattle.paving.proofs.Room.{room-len, room-len₂}
 use borrow.Fn.Kinds.{In}
 use borrow.Fn.PlainCycle.{Measures, is, falls, and}
@@ -30,11 +30,11 @@ pub +pop-classes-spec : {M : Type 1} → statement M
 +pop-classes-spec = close μ-pop-classes λ t. pop-classes-lts.spec (pop-class-reads.Asked, pop-class-reads.Learnt, pop-classes-below t, pop-classes.Post)
     (pop-classes-at t)
     pop-classes.Post
-    (λ c. groups-end _ _ _ _ _ _ putGroup _ (c .if1 .taken))
+    (λ c. (groups-end _ _ _ _ _ _ putGroup _ (c .if1 .taken), taken-none _ _ _ _ _ _ _ (c .if1 .taken)))
     (λ c κs. (c .before .before .before .before .before .before .before .before .before .pre .1 .0, c .before .before .before .before .before .before .before .before .before .pre .1 .1 .0))
     (λ c. search needs)
     (λ c κs. (omega (arith, c .before .before .before .before .before .before .before .before .before .before .before .before .before .before .before .before .before .before .before .pre .0, c .before .before .before .before .before .before .before .before .before .before .before .before .before .if1 .left), (room-len₂ _ _ _ _ _ _ _ (c .before .before .before .before .before .before .before .before .before .pop-class .kept .1 .1 .1 .0) (room-len _ _ _ _ _ _ _ (c .before .before .before .before .before .before .before .before .before .pop-class .kept .0) (c .before .before .before .before .before .before .before .before .before .before .before .before .before .before .before .before .before .before .before .pre .1 .0)), c .before .before .before .before .before .before .before .before .before .before .before .before .before .before .before .before .before .before .before .pre .1 .1)))
     (λ c. c .before .before .before .before .before .before .pop-classes .kept .0 ∙ c .before .before .before .before .before .before .before .before .before .before .before .before .before .before .before .before .pop-class .kept .0)
     (λ c. c .before .before .before .before .before .before .pop-classes .kept .1 .1 .1 .0 ∙ c .before .before .before .before .before .before .before .before .before .before .before .before .before .before .before .before .pop-class .kept .1 .1 .1 .0)
     (λ c. c .before .before .before .before .before .before .pop-classes .kept .1 .1 .1 .1 .0 ∙ c .before .before .before .before .before .before .before .before .before .before .before .before .before .before .before .before .pop-class .kept .1 .1 .1 .1 .0)
-    (λ c. groups-step _ _ _ _ _ _ putGroup _ _ _ _ (c .before .before .before .before .before .before .before .before .before .before .before .before .before .before .before .before .before .before .before .before .if1 .left) (c .before .before .before .before .before .before .before .before .before .before .before .before .before .before .before .before .pop-class .ensures .0) (c .before .before .before .before .before .before .before .before .before .before .before .before .before .before .before .before .pop-class .ensures .1) (c .before .before .before .before .before .before .pop-classes .ensures))
+    (λ c. let one = c .before .before .before .before .before .before .before .before .before .before .before .before .before .before .before .before .pop-class .ensures in let more = c .before .before .before .before .before .before .pop-classes .ensures in let on = c .before .before .before .before .before .before .before .before .before .before .before .before .before .before .before .before .before .before .before .before .if1 .left in (groups-step _ _ _ _ _ _ putGroup _ _ _ _ on (one .0) (one .1 .left) (more .0), taken-more _ _ _ _ _ _ _ _ _ _ _ on (one .1) (more .1)))

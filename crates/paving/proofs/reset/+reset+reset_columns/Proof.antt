@@ -6,15 +6,15 @@ use Rattle.paving.proofs.Room.{room-at, room-len, room-node, room-child
 use Rattle.paving.proofs.Emptying.{reset-leaf, reset-node, reset-end, reset-out, reset-in}
 use borrow.Fn.Kinds.{In}
 use borrow.Fn.PlainCycle.{Measures, is, falls, and}
-use Rattle.paving.proofs.reset.Reads as reset
-use Rattle.paving.proofs.reset.Kinds as reset-kinds
-use Rattle.paving.proofs.+reset+reset_columns.Lts-reset as reset-lts
-use Rattle.paving.proofs.reset_columns.Reads as reset-columns
-use Rattle.paving.proofs.reset_columns.Kinds as reset-columns-kinds
-use Rattle.paving.proofs.+reset+reset_columns.Lts-reset_columns as reset-columns-lts
+use Rattle.paving.proofs.reset.reset.Reads as reset
+use Rattle.paving.proofs.reset.reset.Kinds as reset-kinds
+use Rattle.paving.proofs.reset.+reset+reset_columns.Lts-reset as reset-lts
+use Rattle.paving.proofs.reset.reset_columns.Reads as reset-columns
+use Rattle.paving.proofs.reset.reset_columns.Kinds as reset-columns-kinds
+use Rattle.paving.proofs.reset.+reset+reset_columns.Lts-reset_columns as reset-columns-lts
 use Rattle.paving.proofs.wide.Reads as wide-reads
-use Rattle.paving.proofs.+reset+reset_columns.{statement}
-use Rattle.paving.proofs.+reset+reset_columns.Tie.{close}
+use Rattle.paving.proofs.reset.+reset+reset_columns.{statement}
+use Rattle.paving.proofs.reset.+reset+reset_columns.Tie.{close}
 
 abbrev μ-reset : Measures 3 reset-kinds.ps ℕ
 μ-reset κs a =

@@ -6,17 +6,17 @@ use Rattle.paving.proofs.Room.{room-at, room-len₂, room-node, room-ch
 use Rattle.paving.proofs.Popping.{pop-leaf-yes, pop-leaf-no, pop-node-some, pop-node-none, pop-columns-end, pop-columns-hit, pop-columns-miss}
 use borrow.Fn.Kinds.{In}
 use borrow.Fn.PlainCycle.{Measures, is, falls, and}
-use Rattle.paving.proofs.pop_columns.Reads as pop-columns
-use Rattle.paving.proofs.pop_columns.Kinds as pop-columns-kinds
-use Rattle.paving.proofs.+pop_columns+pop_filter.Lts-pop_columns as pop-columns-lts
-use Rattle.paving.proofs.pop_filter.Reads as pop-filter
-use Rattle.paving.proofs.pop_filter.Kinds as pop-filter-kinds
-use Rattle.paving.proofs.+pop_columns+pop_filter.Lts-pop_filter as pop-filter-lts
-use Rattle.paving.proofs.in_class.Reads as in-class-reads
-use Rattle.paving.proofs.grow.Reads as grow-reads
+use Rattle.paving.proofs.pop.pop_columns.Reads as pop-columns
+use Rattle.paving.proofs.pop.pop_columns.Kinds as pop-columns-kinds
+use Rattle.paving.proofs.pop.+pop_columns+pop_filter.Lts-pop_columns as pop-columns-lts
+use Rattle.paving.proofs.pop.pop_filter.Reads as pop-filter
+use Rattle.paving.proofs.pop.pop_filter.Kinds as pop-filter-kinds
+use Rattle.paving.proofs.pop.+pop_columns+pop_filter.Lts-pop_filter as pop-filter-lts
+use Rattle.paving.proofs.class.in_class.Reads as in-class-reads
+use Rattle.paving.proofs.pop.grow.Reads as grow-reads
 use Rattle.paving.proofs.wide.Reads as wide-reads
-use Rattle.paving.proofs.+pop_columns+pop_filter.{statement}
-use Rattle.paving.proofs.+pop_columns+pop_filter.Tie.{close}
+use Rattle.paving.proofs.pop.+pop_columns+pop_filter.{statement}
+use Rattle.paving.proofs.pop.+pop_columns+pop_filter.Tie.{close}
 
 abbrev μ-pop-columns : Measures 4 pop-columns-kinds.ps ℕ
 μ-pop-columns κs a =

@@ -1,7 +1,7 @@
 use native.Mathlib.Omega.{arith}
 use Rattle.paving.proofs.Classes.{lowest-first, lowest-third, lowest-last}
-use Rattle.paving.proofs.lowest_kind.Statement.{statement}
-use Rattle.paving.proofs.lowest_kind.Tie as tie
+use Rattle.paving.proofs.class.lowest_kind.Statement.{statement}
+use Rattle.paving.proofs.class.lowest_kind.Tie as tie
 
 pub lowest-kind-spec : {M : Type 1} → statement M
 lowest-kind-spec =

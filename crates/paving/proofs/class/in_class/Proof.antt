@@ -1,7 +1,7 @@
 use borrow.Author.Needs.{needs}
 use Rattle.paving.proofs.Classes.{below-class, from-class}
-use Rattle.paving.proofs.in_class.Statement.{statement}
-use Rattle.paving.proofs.in_class.Tie as tie
+use Rattle.paving.proofs.class.in_class.Statement.{statement}
+use Rattle.paving.proofs.class.in_class.Tie as tie
 
 pub in-class-spec : {M : Type 1} → statement M
 in-class-spec =

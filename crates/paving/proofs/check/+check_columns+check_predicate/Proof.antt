@@ -6,15 +6,15 @@ use Rattle.paving.proofs.Room.{room-at, room-node, room-child, room-mar
 use Rattle.paving.proofs.Agreeing.{check-leaf, check-node, columns-end, columns-out, columns-in, and-yes, and-no}
 use borrow.Fn.Kinds.{In}
 use borrow.Fn.PlainCycle.{Measures, is, falls, and}
-use Rattle.paving.proofs.check_columns.Reads as check-columns
-use Rattle.paving.proofs.check_columns.Kinds as check-columns-kinds
-use Rattle.paving.proofs.+check_columns+check_predicate.Lts-check_columns as check-columns-lts
-use Rattle.paving.proofs.check_predicate.Reads as check-predicate
-use Rattle.paving.proofs.check_predicate.Kinds as check-predicate-kinds
-use Rattle.paving.proofs.+check_columns+check_predicate.Lts-check_predicate as check-predicate-lts
+use Rattle.paving.proofs.check.check_columns.Reads as check-columns
+use Rattle.paving.proofs.check.check_columns.Kinds as check-columns-kinds
+use Rattle.paving.proofs.check.+check_columns+check_predicate.Lts-check_columns as check-columns-lts
+use Rattle.paving.proofs.check.check_predicate.Reads as check-predicate
+use Rattle.paving.proofs.check.check_predicate.Kinds as check-predicate-kinds
+use Rattle.paving.proofs.check.+check_columns+check_predicate.Lts-check_predicate as check-predicate-lts
 use Rattle.paving.proofs.wide.Reads as wide-reads
-use Rattle.paving.proofs.+check_columns+check_predicate.{statement}
-use Rattle.paving.proofs.+check_columns+check_predicate.Tie.{close}
+use Rattle.paving.proofs.check.+check_columns+check_predicate.{statement}
+use Rattle.paving.proofs.check.+check_columns+check_predicate.Tie.{close}
 
 abbrev μ-check-columns : Measures 3 check-columns-kinds.ps ℕ
 μ-check-columns κs a =

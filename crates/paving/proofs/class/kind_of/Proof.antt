@@ -2,8 +2,8 @@ use native.Mathlib.Omega.{arith}
 use mathlib.Core.Path.{sym}
 use lib.ListN.{List·getD-eq-default}
 use borrow.Author.Needs.{needs}
-use Rattle.paving.proofs.kind_of.Statement.{statement}
-use Rattle.paving.proofs.kind_of.Tie as tie
+use Rattle.paving.proofs.class.kind_of.Statement.{statement}
+use Rattle.paving.proofs.class.kind_of.Tie as tie
 
 pub kind-of-spec : {M : Type 1} → statement M
 kind-of-spec =

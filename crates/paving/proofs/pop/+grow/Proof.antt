@@ -7,13 +7,13 @@ use Rattle.paving.proofs.Room.{room-node, room-child, room-marks}
 use Rattle.paving.proofs.Marks.{grow-end, grow-in}
 use borrow.Fn.Kinds.{In}
 use borrow.Fn.PlainCycle.{Measures, is, falls, and}
-use Rattle.paving.proofs.grow.Reads as grow
-use Rattle.paving.proofs.grow.Kinds as grow-kinds
-use Rattle.paving.proofs.+grow.Lts-grow as grow-lts
-use Rattle.paving.proofs.bit.Reads as bit-reads
-use Rattle.paving.proofs.is_val.Reads as is-val-reads
-use Rattle.paving.proofs.+grow.{statement}
-use Rattle.paving.proofs.+grow.Tie.{close}
+use Rattle.paving.proofs.pop.grow.Reads as grow
+use Rattle.paving.proofs.pop.grow.Kinds as grow-kinds
+use Rattle.paving.proofs.pop.+grow.Lts-grow as grow-lts
+use Rattle.paving.proofs.pop.bit.Reads as bit-reads
+use Rattle.paving.proofs.check.is_val.Reads as is-val-reads
+use Rattle.paving.proofs.pop.+grow.{statement}
+use Rattle.paving.proofs.pop.+grow.Tie.{close}
 
 abbrev μ-grow : Measures 3 grow-kinds.ps ℕ
 μ-grow κs a =

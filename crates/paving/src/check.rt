@@ -1,0 +1,104 @@
+// Whether a product of marked columns holds one value.
+use super::wide;
+ghost use mathlib.Core.Path.{_≡_};
+ghost use Prim.Native.Nat.{suc, _<_};
+ghost use lib.ListN.{length, getD};
+ghost use lib.Dec.{eqb};
+ghost use Rattle.grid.specs.Group.{agree};
+ghost use Rattle.paving.specs.Grid.{Room, grid, chosen, agreeFrom};
+
+// Whether every cell of the marked product below a node passes: is the value.
+pub fn check_predicate(
+    cells: &[u16],
+    sizes: &[u16],
+    marks: &[u8],
+    value: u16,
+    left: usize,
+    node: usize,
+    base: usize,
+) -> bool
+    requires { ⌜ Room (length (now cells)) (length (now marks)) (now sizes) left node base ⌝ }
+    ensures { λ r. ⌜ r ≡ agree eqb value (chosen (now (marks .entry)) (now (sizes .entry)) left base) (grid (now (cells .entry)) (now (sizes .entry)) left node) ⌝ }
+{
+    if left == 0 {
+        return cells[node] == value;
+    }
+    let dimension = left - 1;
+    let width = wide(sizes[dimension]);
+    check_columns(cells, sizes, marks, value, dimension, node, base, width, 0)
+}
+
+// The same over the marked columns of a node from one on.
+fn check_columns(
+    cells: &[u16],
+    sizes: &[u16],
+    marks: &[u8],
+    value: u16,
+    dimension: usize,
+    node: usize,
+    base: usize,
+    width: usize,
+    column: usize,
+) -> bool
+    requires { ⌜ Room (length (now cells)) (length (now marks)) (now sizes) (suc dimension) node base ⌝ }
+    requires { ⌜ (width ≡ getD (now sizes) dimension 0) × (width < 65536) ⌝ }
+    ensures { λ r. ⌜ r ≡ agreeFrom (now (cells .entry)) (now (sizes .entry)) dimension node (now (marks .entry)) base value column ⌝ }
+{
+    if column < width {
+        if marks[base + column] == 1 {
+            if check_predicate(
+                cells,
+                sizes,
+                marks,
+                value,
+                dimension,
+                node * width + column,
+                base + width,
+            ) {
+                check_columns(
+                    cells,
+                    sizes,
+                    marks,
+                    value,
+                    dimension,
+                    node,
+                    base,
+                    width,
+                    column + 1,
+                )
+            } else {
+                false
+            }
+        } else {
+            check_columns(
+                cells,
+                sizes,
+                marks,
+                value,
+                dimension,
+                node,
+                base,
+                width,
+                column + 1,
+            )
+        }
+    } else {
+        true
+    }
+}
+
+// Whether a column holds the value throughout the product that is marked in the later dimensions.
+pub fn is_val(
+    cells: &[u16],
+    sizes: &[u16],
+    marks: &[u8],
+    value: u16,
+    left: usize,
+    node: usize,
+    base: usize,
+) -> bool
+    requires { ⌜ Room (length (now cells)) (length (now marks)) (now sizes) left node base ⌝ }
+    ensures { λ r. ⌜ r ≡ agree eqb value (chosen (now (marks .entry)) (now (sizes .entry)) left base) (grid (now (cells .entry)) (now (sizes .entry)) left node) ⌝ }
+{
+    check_predicate(cells, sizes, marks, value, left, node, base)
+}
