@@ -4,3 +4,4 @@ pub mod Folding
 pub mod Searching
 pub mod Mapping
 pub mod Steps
+pub mod InUse

@@ -1,21 +1,18 @@
--- One box more: numbered as another that has its day, or as the first of its day; and known or not. Rests on the numbering.
+-- No box, one box more, all boxes: each numbered as another that has its day, or as the first of its day; and known or not. Rests on the numbering.
 -- Assumes nothing.
 use mathlib.Core.Path.{_≡_, refl, sym, ap, _∙_, subst}
 use mathlib.Core.List.{List, [], _∷_}
 use mathlib.Core.Bool.{Bool, true, false}
-use Prim.Native.Nat.{ℕ, zero, suc, _+_, _≤_, _<_}
+use Prim.Native.Nat.{ℕ, suc, _+_, _≤_, _<_}
 use native.Mathlib.Omega.{arith}
 use lib.Dec.{eqb}
 use lib.ListN.{length, getD, set}
 use lib.Seq.{getD-set-same, getD-set-other}
 use borrow.Author.Tests.{eqb-true, eqb-false}
 use Rattle.definition.specs.Group.{dayClass}
-use Rattle.words.specs.Words.{part}
 use Rattle.day_words.specs.Day.{unflatFrom, unflat, fingerprintOf}
 use Rattle.paving_map.specs.Numbering.{numberOf}
-use Rattle.paving_map.specs.declared.Found.{Found}
-use Rattle.paving_map.specs.declared.Found.the-variants.{At, Nothing}
-use Rattle.paving_map.specs.Boxes.{newNumber, newClasses, Among, foundNumber, foundClasses, Known, Mapped}
+use Rattle.paving_map.specs.Boxes.{newNumber, newClasses, Known, Mapped}
 use Rattle.paving_map.proofs.Numbering.{same-number, number-none, number-new, number-low}
 
 -- a fact below n and at n is one below n + 1
@@ -94,33 +91,6 @@ module _ (W : ℕ → List ℕ) (known prints : List ℕ) (many node : ℕ) (mem
   -- words that no known box has, no box before has
   pub none-before : (w : List ℕ) → ((r : ℕ) → 0 ≤ r → r < many → W (getD known r 0) ≡ w → ⊥) → (i : ℕ) → i < node → W i ≡ w → ⊥
   none-before w h i l e = let f = memory .all i l in h (f .0) (omega arith) (f .1) (f .2 ∙ e)
-
--- ## The ways out of the numbering of a new day
-module _ (s cells classes : List ℕ) (node count : ℕ) where
-  pub empty-new : count ≡ 0
-      → (set cells node 0 ≡ set cells node (newNumber node (part s 0 count))) × (classes ≡ newClasses node (part s 0 count) classes)
-  unfolding part
-  empty-new e = rw e (refl, refl)
-
-pub filled-new : (s cells classes : List ℕ) (node count c : ℕ) → (count ≡ 0 → ⊥) → c ≡ dayClass (unflat (part s 0 count))
-    → (set cells node (node + 1) ≡ set cells node (newNumber node (part s 0 count))) × (set classes (node + 1) c ≡ newClasses node (part s 0 count) classes)
-unfolding part
-filled-new s cells classes node zero c h e = absurd (h refl)
-filled-new s cells classes node (suc n) c h e =
-    let z : node + 1 ≡ suc node = omega arith in (ap (set cells node) z, ap (λ m. set classes m c) z ∙ ap (set classes (suc node)) e)
-
--- ## The ways out of a box that was looked for
-pub among-at : (found : Found) (box boxes : ℕ) → found ≡ At box → Among found boxes → box < boxes
-among-at found box boxes e a = subst (λ f. Among f boxes) e a
-
-module _ (cells classes w : List ℕ) (node : ℕ) (found : Found) where
-  pub at-settled : (box : ℕ) → found ≡ At box
-      → (set cells node (getD cells box 0) ≡ set cells node (foundNumber found cells node w)) × (classes ≡ foundClasses found node w classes)
-  at-settled box e = (ap (λ f. set cells node (foundNumber f cells node w)) (sym e), ap (λ f. foundClasses f node w classes) (sym e))
-
-  pub nothing-settled : (cells′ classes′ : List ℕ) → found ≡ Nothing → (cells′ ≡ set cells node (newNumber node w)) × (classes′ ≡ newClasses node w classes)
-      → (cells′ ≡ set cells node (foundNumber found cells node w)) × (classes′ ≡ foundClasses found node w classes)
-  nothing-settled cells′ classes′ e (h, k) = (h ∙ ap (λ f. set cells node (foundNumber f cells node w)) (sym e), k ∙ ap (λ f. foundClasses f node w classes) (sym e))
 
 -- ## The first box and the last
 module _ (W : ℕ → List ℕ) (cells classes : List ℕ) where

@@ -1,19 +1,48 @@
--- What the steps of the map ask for and give: a box's list sought, its day folded and sought, and the box settled. Rests on one box more.
+-- What the steps of the map ask for and give: a new day numbered; a box's list sought, its day folded and sought, and the box settled. Rests on
+-- the laws of one box more.
 -- Assumes nothing.
 use mathlib.Core.Path.{_≡_, refl, sym, ap, _∙_, subst}
 use mathlib.Core.List.{List}
-use Prim.Native.Nat.{ℕ, suc, _+_, _*_, _≤_, _<_}
+use Prim.Native.Nat.{ℕ, zero, suc, _+_, _*_, _≤_, _<_}
 use native.Mathlib.Omega.{arith}
 use lib.ListN.{length, getD, set}
 use Rattle.definition.specs.Day.{day}
-use Rattle.day_words.specs.Day.{flat, listRules, fingerprintOf}
+use Rattle.definition.specs.Group.{dayClass}
+use Rattle.words.specs.Words.{part}
+use Rattle.day_words.specs.Day.{flat, unflat, listRules, fingerprintOf}
 use Rattle.paving_update.specs.Update.{listPlaces, listLimit}
 use Rattle.paving_update.specs.Boxes.{listOf}
 use Rattle.paving_map.specs.declared.Found.{Found}
 use Rattle.paving_map.specs.declared.Found.the-variants.{At, Nothing}
-use Rattle.paving_map.specs.Boxes.{boxWords, Ready, Room, SameList, Among, foundNumber, foundClasses, Known, SameWords, Mapped}
+use Rattle.paving_map.specs.Boxes.{boxWords, Ready, AllReady, Room, SameList, newNumber, newClasses, Among, foundNumber, foundClasses, Known, SameWords, Mapped}
 use Rattle.paving_map.proofs.Searching.{ready-kept}
 use Rattle.paving_map.proofs.Mapping.{same-mapped, new-mapped, same-known, new-known, none-before}
+
+-- ## The ways out of the numbering of a new day
+pub empty-new : (s cells classes : List ℕ) (node count : ℕ) → count ≡ 0
+    → (set cells node 0 ≡ set cells node (newNumber node (part s 0 count))) × (classes ≡ newClasses node (part s 0 count) classes)
+unfolding part
+empty-new s cells classes node count e = rw e (refl, refl)
+
+pub filled-new : (s cells classes : List ℕ) (node count c : ℕ) → (count ≡ 0 → ⊥) → c ≡ dayClass (unflat (part s 0 count))
+    → (set cells node (node + 1) ≡ set cells node (newNumber node (part s 0 count))) × (set classes (node + 1) c ≡ newClasses node (part s 0 count) classes)
+unfolding part
+filled-new s cells classes node zero c h e = absurd (h refl)
+filled-new s cells classes node (suc n) c h e =
+    let z : node + 1 ≡ suc node = omega arith in (ap (set cells node) z, ap (λ m. set classes m c) z ∙ ap (set classes (suc node)) e)
+
+-- ## The ways out of a box that was looked for
+pub among-at : (found : Found) (box boxes : ℕ) → found ≡ At box → Among found boxes → box < boxes
+among-at found box boxes e a = subst (λ f. Among f boxes) e a
+
+module _ (cells classes w : List ℕ) (node : ℕ) (found : Found) where
+  pub at-settled : (box : ℕ) → found ≡ At box
+      → (set cells node (getD cells box 0) ≡ set cells node (foundNumber found cells node w)) × (classes ≡ foundClasses found node w classes)
+  at-settled box e = (ap (λ f. set cells node (foundNumber f cells node w)) (sym e), ap (λ f. foundClasses f node w classes) (sym e))
+
+  pub nothing-settled : (cells′ classes′ : List ℕ) → found ≡ Nothing → (cells′ ≡ set cells node (newNumber node w)) × (classes′ ≡ newClasses node w classes)
+      → (cells′ ≡ set cells node (foundNumber found cells node w)) × (classes′ ≡ foundClasses found node w classes)
+  nothing-settled cells′ classes′ e (h, k) = (h ∙ ap (λ f. set cells node (foundNumber f cells node w)) (sym e), k ∙ ap (λ f. foundClasses f node w classes) (sym e))
 
 -- ## One box whose day was sought among the known ones, over any words
 module _ (W : ℕ → List ℕ) (known prints : List ℕ) (many node : ℕ) (memory : Known W known prints many node) (w : List ℕ) where
@@ -57,7 +86,8 @@ module _ (states counts spans lists : List ℕ) where
   same-list-words a b e = ap (λ l. flat (day (listRules states counts spans l 0 (length l)))) e
 
   -- a list that was found: its box is before, and has the same day
-  pub list-at : (node : ℕ) (found : Found) (box : ℕ) → found ≡ At box → SameList lists node found → (box < node) × (boxWords states counts spans lists box ≡ boxWords states counts spans lists node)
+  pub list-at : (node : ℕ) (found : Found) (box : ℕ) → found ≡ At box → SameList lists node found
+      → (box < node) × (boxWords states counts spans lists box ≡ boxWords states counts spans lists node)
   list-at node found box e s = let h = subst (SameList lists node) e s in (h .0, same-list-words box node (h .1))
 
   -- where a box's list stands, its numbers with their count being so many
@@ -68,10 +98,11 @@ module _ (states counts spans lists : List ℕ) where
       (ready .there, omega (arith, e), omega (arith, e, s))
 
   -- what was folded has room
-  pub words-fit : (room node : ℕ) → Ready states counts spans lists room node → (count room′ : ℕ) → count ≡ length (boxWords states counts spans lists node) → room′ ≡ room → count ≤ room′
+  pub words-fit : (room node : ℕ) → Ready states counts spans lists room node → (count room′ : ℕ) → count ≡ length (boxWords states counts spans lists node)
+      → room′ ≡ room → count ≤ room′
   words-fit room node ready count room′ e k = let w : length (boxWords states counts spans lists node) ≤ room = ready .wordy in omega (arith, w)
 
-  module _ (room boxes : ℕ) (ready : (i : ℕ) → i < boxes → Ready states counts spans lists room i) where
+  module _ (room boxes : ℕ) (ready : AllReady states counts spans lists room boxes) where
     -- what is known can be folded again
     pub known-ready : (known prints : List ℕ) (many node : ℕ) → Known (boxWords states counts spans lists) known prints many node → node < boxes
         → (room′ : ℕ) → room′ ≡ room → (r : ℕ) → r < many → Ready states counts spans lists room′ (getD known r 0)

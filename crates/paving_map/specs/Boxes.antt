@@ -25,6 +25,9 @@ pub record Ready (states counts spans lists : List ℕ) (room node : ℕ) : Type
   pub tabled : Tables states counts spans (listOf lists node)
   pub wordy : length (boxWords states counts spans lists node) ≤ room
 
+abbrev pub AllReady : List ℕ → List ℕ → List ℕ → List ℕ → ℕ → ℕ → Type 0
+AllReady states counts spans lists room boxes = (i : ℕ) → i < boxes → Ready states counts spans lists room i
+
 -- room to fold any list within the limit
 pub record Scratch (stated spanned strokes cuts cells : ℕ) : Type 0 where
   pub spans : (16 * listLimit ≤ stated) × (16 * listLimit ≤ spanned)
@@ -84,3 +87,8 @@ module _ (W : ℕ → List ℕ) where
     pub numbered : (i : ℕ) → i < node → getD cells i 0 ≡ numberOf W i
     pub none : getD classes 0 0 ≡ 0
     pub classed : (i : ℕ) → i < node → getD classes (numberOf W i) 0 ≡ dayClass (unflat (W i))
+
+-- both: what is known and numbered before a box
+abbrev pub SoFar : (states counts spans lists known prints cells classes : List ℕ) (many node : ℕ) → Type 0
+SoFar states counts spans lists known prints cells classes many node =
+    Known (boxWords states counts spans lists) known prints many node × Mapped (boxWords states counts spans lists) cells classes node

@@ -79,7 +79,8 @@ fn same_day(
     requires { ⌜ Ready (now states) (now counts) (now spans) (now lists) (length (now other)) node ⌝ }
     requires { ⌜ Scratch (length (now stated)) (length (now spanned)) (length (now strokes)) (length (now cuts)) (length (now painted)) ⌝ }
     requires { ⌜ count ≤ length (now words) ⌝ }
-    ensures { λ r. ⌜ r ≡ sameList eqb (boxWords (now (states .entry)) (now (counts .entry)) (now (spans .entry)) (now (lists .entry)) node) (part (now (words .entry)) 0 count) ⌝ }
+    ensures { λ r. ⌜ r ≡ sameList eqb (boxWords (now (states .entry)) (now (counts .entry)) (now (spans .entry)) (now (lists .entry)) node)
+        (part (now (words .entry)) 0 count) ⌝ }
 {
     let length = fold_box(
         other,
@@ -124,8 +125,10 @@ pub fn find_day(
     requires { ⌜ ((r : ℕ) → r < many → Ready (now states) (now counts) (now spans) (now lists) (length (now other)) (getD (now known) r 0)) ⌝ }
     requires { ⌜ Scratch (length (now stated)) (length (now spanned)) (length (now strokes)) (length (now cuts)) (length (now painted)) ⌝ }
     requires { ⌜ (many ≤ length (now known)) × (many ≤ length (now prints)) × (next ≤ many) × (count ≤ length (now words)) ⌝ }
-    requires { ⌜ (print ≡ fingerprintOf 0 (part (now words) 0 count)) × Printed (boxWords (now states) (now counts) (now spans) (now lists)) (now known) (now prints) many ⌝ }
-    ensures { λ r. ⌜ SameWords (boxWords (now (states .entry)) (now (counts .entry)) (now (spans .entry)) (now (lists .entry))) (now (known .entry)) (part (now (words .entry)) 0 count) next many r ⌝ }
+    requires { ⌜ (print ≡ fingerprintOf 0 (part (now words) 0 count))
+        × Printed (boxWords (now states) (now counts) (now spans) (now lists)) (now known) (now prints) many ⌝ }
+    ensures { λ r. ⌜ SameWords (boxWords (now (states .entry)) (now (counts .entry)) (now (spans .entry)) (now (lists .entry))) (now (known .entry))
+        (part (now (words .entry)) 0 count) next many r ⌝ }
 {
     let candidate = next_print(prints, print, many, next);
     if candidate < many {

@@ -5,10 +5,10 @@ pub mod day;
 pub mod list;
 
 ghost use mathlib.Core.Path.{_≡_};
-ghost use Prim.Native.Nat.{ℕ, _+_, _≤_, _<_};
-ghost use lib.ListN.{length, getD, set};
+ghost use Prim.Native.Nat.{_+_, _≤_, _<_};
+ghost use lib.ListN.{length, set};
 ghost use Rattle.words.specs.Words.{part};
-ghost use Rattle.paving_map.specs.Boxes.{boxWords, Ready, Scratch, Room, newNumber, newClasses, Among, foundNumber, foundClasses, Known, Mapped};
+ghost use Rattle.paving_map.specs.Boxes.{boxWords, AllReady, Scratch, Room, newNumber, newClasses, Among, foundNumber, foundClasses, Mapped, SoFar};
 
 const LIST_PLACES: usize = 33;
 
@@ -103,12 +103,13 @@ fn number_list(
     many: usize,
     hint: u64,
 )
-    requires { ⌜ ((i : ℕ) → i < boxes → Ready (now states) (now counts) (now spans) (now lists) (length (now words)) i) × (length (now other) ≡ length (now words)) ⌝ }
+    requires { ⌜ AllReady (now states) (now counts) (now spans) (now lists) (length (now words)) boxes × (length (now other) ≡ length (now words)) ⌝ }
     requires { ⌜ Scratch (length (now stated)) (length (now spanned)) (length (now strokes)) (length (now cuts)) (length (now painted)) ⌝ }
     requires { ⌜ Room (length (now known)) (length (now hints)) (length (now prints)) (length (now cells)) (length (now classes)) boxes ⌝ }
-    requires { ⌜ Known (boxWords (now states) (now counts) (now spans) (now lists)) (now known) (now prints) many node × Mapped (boxWords (now states) (now counts) (now spans) (now lists)) (now cells) (now classes) node ⌝ }
+    requires { ⌜ SoFar (now states) (now counts) (now spans) (now lists) (now known) (now prints) (now cells) (now classes) many node ⌝ }
     requires { ⌜ node < boxes ⌝ }
-    ensures { λ _. ⌜ Known (boxWords (now (states .entry)) (now (counts .entry)) (now (spans .entry)) (now (lists .entry))) (now (known .exit)) (now (prints .exit)) (many + 1) (node + 1) × Mapped (boxWords (now (states .entry)) (now (counts .entry)) (now (spans .entry)) (now (lists .entry))) (now (cells .exit)) (now (classes .exit)) (node + 1) ⌝ }
+    ensures { λ _. ⌜ SoFar (now (states .entry)) (now (counts .entry)) (now (spans .entry)) (now (lists .entry))
+        (now (known .exit)) (now (prints .exit)) (now (cells .exit)) (now (classes .exit)) (many + 1) (node + 1) ⌝ }
 {
     let count = day::fold_box(
         words,
@@ -181,12 +182,13 @@ fn number_box(
     boxes: usize,
     many: usize,
 ) -> usize
-    requires { ⌜ ((i : ℕ) → i < boxes → Ready (now states) (now counts) (now spans) (now lists) (length (now words)) i) × (length (now other) ≡ length (now words)) ⌝ }
+    requires { ⌜ AllReady (now states) (now counts) (now spans) (now lists) (length (now words)) boxes × (length (now other) ≡ length (now words)) ⌝ }
     requires { ⌜ Scratch (length (now stated)) (length (now spanned)) (length (now strokes)) (length (now cuts)) (length (now painted)) ⌝ }
     requires { ⌜ Room (length (now known)) (length (now hints)) (length (now prints)) (length (now cells)) (length (now classes)) boxes ⌝ }
-    requires { ⌜ Known (boxWords (now states) (now counts) (now spans) (now lists)) (now known) (now prints) many node × Mapped (boxWords (now states) (now counts) (now spans) (now lists)) (now cells) (now classes) node ⌝ }
+    requires { ⌜ SoFar (now states) (now counts) (now spans) (now lists) (now known) (now prints) (now cells) (now classes) many node ⌝ }
     requires { ⌜ node < boxes ⌝ }
-    ensures { λ r. ⌜ Known (boxWords (now (states .entry)) (now (counts .entry)) (now (spans .entry)) (now (lists .entry))) (now (known .exit)) (now (prints .exit)) r (node + 1) × Mapped (boxWords (now (states .entry)) (now (counts .entry)) (now (spans .entry)) (now (lists .entry))) (now (cells .exit)) (now (classes .exit)) (node + 1) ⌝ }
+    ensures { λ r. ⌜ SoFar (now (states .entry)) (now (counts .entry)) (now (spans .entry)) (now (lists .entry))
+        (now (known .exit)) (now (prints .exit)) (now (cells .exit)) (now (classes .exit)) r (node + 1) ⌝ }
 {
     let at = node * LIST_PLACES;
     let numbers = paving::wide(lists[at]) + 1;
@@ -247,12 +249,13 @@ pub fn map(
     boxes: usize,
     many: usize,
 )
-    requires { ⌜ ((i : ℕ) → i < boxes → Ready (now states) (now counts) (now spans) (now lists) (length (now words)) i) × (length (now other) ≡ length (now words)) ⌝ }
+    requires { ⌜ AllReady (now states) (now counts) (now spans) (now lists) (length (now words)) boxes × (length (now other) ≡ length (now words)) ⌝ }
     requires { ⌜ Scratch (length (now stated)) (length (now spanned)) (length (now strokes)) (length (now cuts)) (length (now painted)) ⌝ }
     requires { ⌜ Room (length (now known)) (length (now hints)) (length (now prints)) (length (now cells)) (length (now classes)) boxes ⌝ }
-    requires { ⌜ Known (boxWords (now states) (now counts) (now spans) (now lists)) (now known) (now prints) many node × Mapped (boxWords (now states) (now counts) (now spans) (now lists)) (now cells) (now classes) node ⌝ }
+    requires { ⌜ SoFar (now states) (now counts) (now spans) (now lists) (now known) (now prints) (now cells) (now classes) many node ⌝ }
     requires { ⌜ node ≤ boxes ⌝ }
-    ensures { λ _. ⌜ Mapped (boxWords (now (states .entry)) (now (counts .entry)) (now (spans .entry)) (now (lists .entry))) (now (cells .exit)) (now (classes .exit)) boxes ⌝ }
+    ensures { λ _. ⌜ Mapped (boxWords (now (states .entry)) (now (counts .entry)) (now (spans .entry)) (now (lists .entry)))
+        (now (cells .exit)) (now (classes .exit)) boxes ⌝ }
 {
     if node < boxes {
         let now = number_box(

@@ -53,8 +53,8 @@ pub fn find_list(
     many: usize,
     next: usize,
 ) -> Found
-    requires { ⌜ (many ≤ length (now known)) × (many ≤ length (now hints)) × (node * listPlaces + listPlaces ≤ length (now lists)) × (numbers ≡ suc (getD (now lists) (node * listPlaces) 0))
-        × (numbers ≤ listPlaces) × ((r : ℕ) → r < many → getD (now known) r 0 < node) ⌝ }
+    requires { ⌜ (many ≤ length (now known)) × (many ≤ length (now hints)) × (node * listPlaces + listPlaces ≤ length (now lists))
+        × (numbers ≡ suc (getD (now lists) (node * listPlaces) 0)) × (numbers ≤ listPlaces) × ((r : ℕ) → r < many → getD (now known) r 0 < node) ⌝ }
     ensures { λ r. ⌜ SameList (now (lists .entry)) node r ⌝ }
 {
     if next < many {

@@ -2,7 +2,7 @@
 -- Assumes nothing.
 use denote.Ref.{now}
 use borrow.Author.Needs.{needs}
-use Rattle.paving_map.proofs.Mapping.{empty-new, filled-new}
+use Rattle.paving_map.proofs.Steps.{empty-new, filled-new}
 use Rattle.paving_map.proofs.number_new.Statement.{statement}
 use Rattle.paving_map.proofs.number_new.Tie as tie
 

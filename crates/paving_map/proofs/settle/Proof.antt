@@ -4,7 +4,7 @@ use lib.ListN.{length}
 use denote.Ref.{now}
 use borrow.Author.Needs.{needs}
 use Rattle.words.specs.Words.{part}
-use Rattle.paving_map.proofs.Mapping.{among-at, at-settled, nothing-settled}
+use Rattle.paving_map.proofs.Steps.{among-at, at-settled, nothing-settled}
 use Rattle.paving_map.proofs.settle.Statement.{statement}
 use Rattle.paving_map.proofs.settle.Tie as tie
 
