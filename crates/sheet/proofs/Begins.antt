@@ -2,14 +2,16 @@
 -- the last rule's end stand the bits of the rules from it on.
 -- Assumes nothing.
 use mathlib.Core.Path.{_≡_, refl, sym, ap, ap₂, _∙_, subst}
-use mathlib.Core.List.{List, _∷_, flatMap}
+use mathlib.Core.List.{List, _∷_, map, flatMap}
 use mathlib.Core.Option.{Option, none, some}
 use mathlib.Core.Bool.{Bool, true, false}
 use Prim.Native.Nat.{ℕ, zero, suc, _+_, _*_, _-_, _≤_, _<_, _^_}
 use native.Mathlib.Omega.{arith}
 use lib.Dec.{ltb}
-use lib.ListN.{length, take, drop, getD, set, length-set}
+use lib.ListN.{length, take, drop, getD, set, length-set, length-map}
 use lib.Seq.{getD-set-same, getD-set-other}
+use Rattle.laws.specs.Lists.{from}
+use Rattle.laws.proofs.Numbers.{length-from}
 use Rattle.definition.specs.Field.{Read, got, refused, andThen, badEnd, bytesFor, sheetBits, counted, readAll, several}
 use Rattle.definition.specs.Rule.{Rule}
 use Rattle.definition.specs.Sheet.{form1, limits1, rule, rules, firstSet, ended, decode}
@@ -19,7 +21,7 @@ use Rattle.definition.proofs.Reading.{all-parts, tagged-parts}
 use Rattle.definition.proofs.Lengths.{rule-short}
 use Rattle.definition.proofs.SheetRead.{rule-faithful}
 use Rattle.sheet.specs.End.{ends}
-use Rattle.sheet.specs.Rules.{ruleEnds, noted, begun, checked}
+use Rattle.sheet.specs.Rules.{ruleEnds, noted, begun, checked, rulesAt}
 use Rattle.sheet.specs.Begin.{noRule, ruleOf, ruleAt, Readable}
 use Rattle.sheet.proofs.RuleRows.{noted-goes}
 use Rattle.sheet.proofs.Whole.{count-begun, count-low}
@@ -138,3 +140,21 @@ checked-rules sheet n q e = go (decode form1 limits1 sheet) refl e
         → (rs : List Rule) × (decode form1 limits1 sheet ≡ got rs q) × (length rs ≡ n)
     go (refused c p) h g = clash c p n q g
     go (got rs p) h g = let z : p ≡ q = cc in let m : length rs ≡ n = cc in (rs, h ∙ ap (got rs) z, m)
+
+-- ## The rules at some beginnings
+getD-from : {A : Type 0} (f : ℕ → A) (d : A) (s n k : ℕ) → k < n → getD (map f (from s n)) k d ≡ f (s + k)
+unfolding from
+getD-from f d s zero k l = absurd (omega arith)
+getD-from f d s (suc n) zero l = let z : s ≡ s + 0 = omega arith in ap f z
+getD-from f d s (suc n) (suc k) l = let z : suc s + k ≡ s + suc k = omega arith in getD-from f d (suc s) n k (omega arith) ∙ ap f z
+
+module _ (s begins : List ℕ) (n : ℕ) where
+  pub rules-many : length (rulesAt s begins n) ≡ n
+  unfolding rulesAt
+  rules-many = length-map (from 0 n) (λ k. ruleAt s (getD begins k 0)) ∙ length-from 0 n
+
+  pub rules-each : (k : ℕ) → k < n → getD (rulesAt s begins n) k noRule ≡ ruleAt s (getD begins k 0)
+  unfolding rulesAt
+  rules-each k l =
+      let z : 0 + k ≡ k = omega arith in
+      getD-from (λ k. ruleAt s (getD begins k 0)) noRule 0 n k l ∙ ap (λ j. ruleAt s (getD begins j 0)) z

@@ -1,14 +1,17 @@
 -- A whole sheet: its rules one behind the other, where each begins, and what a check of the sheet answers.
 -- Assumes nothing.
-use mathlib.Core.List.{List}
+use mathlib.Core.List.{List, map}
 use mathlib.Core.Option.{Option, none, some}
 use Prim.Native.Nat.{ℕ, zero, suc, _+_}
-use lib.ListN.{length, set}
+use lib.ListN.{length, getD, set}
+use Rattle.laws.specs.Lists.{from}
 use Rattle.definition.specs.Field.{Read, got, refused, andThen, sheetBits, counted}
+use Rattle.definition.specs.Rule.{Rule}
 use Rattle.definition.specs.Sheet.{form1, limits1, counts, body, rule, ended, decode}
 use Rattle.sheet.specs.declared.check.Checked.{Checked}
 use Rattle.sheet.specs.declared.check.Checked.the-variants.{Rules, Refused}
 use Rattle.sheet.specs.End.{End, ends, skipAll}
+use Rattle.sheet.specs.Begin.{ruleAt}
 
 -- behind a rule's title: its counts, and the items that they count
 unfoldable pub countedEnds : List ℕ → ℕ → End
@@ -38,6 +41,10 @@ checkedFrom s n p = andThen (λ u q. got n q) (andThen (λ u q. ended s (tt {0})
 -- the beginnings of a sheet's rules
 unfoldable pub begun : List ℕ → List ℕ → List ℕ
 begun sheet begins = elim ((counted (form1 .ruleCount) (limits1 .rules)) .read (sheetBits sheet) 0) [ got n q ↦ noted (sheetBits sheet) n 0 q begins | refused c q ↦ begins ]
+
+-- the rules at the first n of some beginnings
+unfoldable pub rulesAt : List ℕ → List ℕ → ℕ → List Rule
+rulesAt s begins n = map (λ k. ruleAt s (getD begins k 0)) (from 0 n)
 
 abbrev pub asChecked : Checked → Read ℕ
 asChecked (Rules n q) = got n q
