@@ -1,3 +1,5 @@
+pub mod Few
+pub mod Cuts
 pub mod Rows
 pub mod Boxes
 pub mod Lists
