@@ -1,6 +1,6 @@
--- Equal words have equal numbers, and no others have. Rests on the numbering.
+-- Equal words have equal numbers, and a number stands for its words. Rests on the numbering.
 -- Assumes nothing.
-use mathlib.Core.Path.{_≡_, refl, sym, ap, _∙_, subst}
+use mathlib.Core.Path.{_≡_, refl, sym, ap, _∙_}
 use mathlib.Core.List.{List, [], _∷_}
 use mathlib.Core.Bool.{Bool, true, false, true≢false}
 use Prim.Native.Nat.{ℕ, zero, suc, _+_, _≤_, _<_}
@@ -90,9 +90,6 @@ module _ (W : ℕ → List ℕ) where
 
   pub number-words : (i : ℕ) → wordsOf W (numberOf W i) ≡ W i
   number-words i = for-words (W i) i refl
-
-  pub number-apart : (i j : ℕ) → numberOf W i ≡ numberOf W j → W i ≡ W j
-  number-apart i j e = sym (number-words i) ∙ ap (wordsOf W) e ∙ number-words j
 
   -- the number of the empty day, and of words that no box before has
   pub number-none : (i : ℕ) → W i ≡ [] → numberOf W i ≡ 0

@@ -16,7 +16,7 @@ use Rattle.paving_map.specs.declared.Found.{Found}
 use Rattle.paving_map.specs.declared.Found.the-variants.{At, Nothing}
 use Rattle.paving_map.specs.Boxes.{boxWords, Ready, AllReady, Room, SameList, newNumber, newClasses, Among, foundNumber, foundClasses, Known, SameWords, Mapped}
 use Rattle.paving_map.proofs.Searching.{ready-kept}
-use Rattle.paving_map.proofs.Mapping.{same-mapped, new-mapped, same-known, new-known, none-before}
+use Rattle.paving_map.proofs.Mapping.{same-mapped, new-mapped, new-known, none-before}
 
 -- ## The ways out of the numbering of a new day
 pub empty-new : (s cells classes : List ℕ) (node count : ℕ) → count ≡ 0

@@ -1,12 +1,10 @@
 -- The number of a box's day: 0 for the empty day, else one more than the first box that has it. A day stands here as its words, the
 -- flat form; W gives those of each box.
 -- Assumes nothing.
-use mathlib.Core.Path.{_≡_}
 use mathlib.Core.List.{List, [], _∷_}
 use mathlib.Core.Bool.{true, false}
-use Prim.Native.Nat.{ℕ, zero, suc, _+_, _<_}
+use Prim.Native.Nat.{ℕ, zero, suc, _+_}
 use lib.Dec.{eqb}
-use lib.ListN.{getD}
 use Rattle.laws.specs.Tests.{sameList}
 
 module _ (W : ℕ → List ℕ) where

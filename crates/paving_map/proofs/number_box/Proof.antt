@@ -1,7 +1,6 @@
 -- `paving_map::number_box` meets its contract.
 -- Assumes nothing.
 use native.Mathlib.Omega.{arith}
-use lib.ListN.{length}
 use denote.Ref.{now}
 use borrow.Author.Needs.{needs}
 use Rattle.paving_map.specs.Boxes.{boxWords}
