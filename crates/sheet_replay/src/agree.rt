@@ -12,7 +12,7 @@ fn begin_so(begins: &[usize; 64], rules: usize, places: &[u8]) -> bool {
     }
     let mut i: usize = 0;
     while i < rules {
-        if begins[i] != crate::record::number(places, 3 * i) {
+        if begins[i] != records::number(places, 3 * i) {
             return false;
         }
         i += 1;

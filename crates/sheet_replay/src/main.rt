@@ -32,7 +32,7 @@ fn agrees(sort: Sort, head: Head, body: &[u8]) -> bool {
 // What follows a record's numbers is read and compared. A file that ends in between differs.
 fn compare_body(fd: i32, sort: Sort, head: Head) -> Compared {
     let mut body = io::buffer();
-    let size = record::take(fd, &mut body, head.size);
+    let size = records::take(fd, &mut body, head.size);
     if size == head.size && agrees(sort, head, &body[..size]) {
         Compared::Same
     } else {

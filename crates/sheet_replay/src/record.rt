@@ -1,7 +1,7 @@
-// A record of the data, as oracle/sheets.py makes it: six numbers of three bytes each, the high byte first, and the bytes behind them.
-ghost use Prim.Native.Nat.{_+_, _≤_, _<_, _^_};
+// A record of the data, as oracle/sheets.py makes it: six numbers, and the bytes behind them.
+use records::number;
+ghost use Prim.Native.Nat.{_≤_};
 ghost use lib.ListN.{length};
-ghost use Rattle.io.specs.Counts.{Counts};
 
 // The six numbers. The count is of rules read or of bytes written; the edge is the bit after the rules or the buffer's length.
 pub struct Head {
@@ -26,28 +26,4 @@ impl Head {
             size: number(s, 15),
         }
     }
-}
-
-fn wide(byte: u8) -> usize
-    ensures { λ r. ⌜ r < 256 ⌝ }
-{
-    byte as usize
-}
-
-// The number of three bytes at a place.
-pub fn number(s: &[u8], at: usize) -> usize
-    requires { ⌜ at + 3 ≤ length (now s) ⌝ }
-    ensures { λ r. ⌜ r < 2 ^ 24 ⌝ }
-{
-    wide(s[at]) * 65536 + wide(s[at + 1]) * 256 + wide(s[at + 2])
-}
-
-// The file's next bytes, at the front of a buffer: how many there were, none where the buffer has no room for all.
-pub fn take(fd: i32, buffer: &mut [u8], size: usize) -> usize
-    ensures { λ r. ⌜ Counts r (now (buffer .exit)) ⌝ }
-{
-    if buffer.len() < size {
-        return 0;
-    }
-    io::read_full(fd, &mut buffer[..size])
 }

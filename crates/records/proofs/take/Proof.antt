@@ -1,4 +1,4 @@
--- `sheet_replay::record::take` meets its contract: what is read into a part of the buffer lies within the buffer.
+-- `records::take` meets its contract: what is read into a part of the buffer lies within the buffer.
 -- Assumes nothing.
 use Prim.Native.Nat.{ℕ, _≤_}
 use mathlib.Core.Path.{sym}
@@ -9,8 +9,8 @@ use borrow.Author.Needs.{needs}
 use native.Mathlib.Omega.{arith}
 use Rattle.io.specs.Counts.{Counts}
 use Rattle.io.proofs.Counting.{counts}
-use Rattle.sheet_replay.proofs.record.take.Statement.{statement}
-use Rattle.sheet_replay.proofs.record.take.Tie as tie
+use Rattle.records.proofs.take.Statement.{statement}
+use Rattle.records.proofs.take.Tie as tie
 
 in-front : (n : ℕ) (front rest : List ℕ) → n ≤ length front → Counts n (front ++ rest)
 in-front n front rest h = counts n (front ++ rest) (omega (arith, length-append front rest))

@@ -1,0 +1,28 @@
+// Records of a file of stored answers: numbers of three bytes, the high byte first, and bytes behind them.
+ghost use Prim.Native.Nat.{_+_, _≤_, _<_, _^_};
+ghost use lib.ListN.{length};
+ghost use Rattle.io.specs.Counts.{Counts};
+
+fn wide(byte: u8) -> usize
+    ensures { λ r. ⌜ r < 256 ⌝ }
+{
+    byte as usize
+}
+
+// The number of three bytes at a place.
+pub fn number(s: &[u8], at: usize) -> usize
+    requires { ⌜ at + 3 ≤ length (now s) ⌝ }
+    ensures { λ r. ⌜ r < 2 ^ 24 ⌝ }
+{
+    wide(s[at]) * 65536 + wide(s[at + 1]) * 256 + wide(s[at + 2])
+}
+
+// The file's next bytes, at the front of a buffer: how many there were, none where the buffer has no room for all.
+pub fn take(fd: i32, buffer: &mut [u8], size: usize) -> usize
+    ensures { λ r. ⌜ Counts r (now (buffer .exit)) ⌝ }
+{
+    if buffer.len() < size {
+        return 0;
+    }
+    io::read_full(fd, &mut buffer[..size])
+}
