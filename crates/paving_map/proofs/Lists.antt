@@ -7,7 +7,7 @@ use Prim.Native.Nat.{ℕ, zero, suc, _+_, _-_, _*_, _≤_, _<_}
 use native.Mathlib.Omega.{arith}
 use lib.Dec.{eqb}
 use lib.ListN.{length, getD}
-use borrow.Author.Tests.{eq-eqb, ne-eqb, eqb-true, eqb-false}
+use borrow.Author.Tests.{eq-eqb, ne-eqb}
 use Rattle.laws.specs.Lists.{from}
 use Rattle.laws.specs.Tests.{sameList}
 use Rattle.laws.proofs.Tests.{exact-eqb, exact-list}
@@ -62,16 +62,6 @@ same-list lists a b numbers n h = list-part lists a ∙ ap (part lists (a * list
     parts : part lists (a * listPlaces) (suc (getD lists (b * listPlaces) 0)) ≡ part lists (b * listPlaces) (suc (getD lists (b * listPlaces) 0))
     parts = ap (part lists (a * listPlaces)) (sym n) ∙ exact-list exact-eqb .equal (part lists (a * listPlaces) numbers) (part lists (b * listPlaces) numbers) (sym h)
         ∙ ap (part lists (b * listPlaces)) n
-
--- ## A print that is not the one sought
-pub next-skip : (prints : List ℕ) (print next many r : ℕ) → (getD prints next 0 ≡ print → ⊥)
-    → (next + 1 ≤ r) × (r ≤ many) × ((k : ℕ) → next + 1 ≤ k → k < r → getD prints k 0 ≡ print → ⊥)
-    → (next ≤ r) × (r ≤ many) × ((k : ℕ) → next ≤ k → k < r → getD prints k 0 ≡ print → ⊥)
-next-skip prints print next many r ne (a, b, h) = (omega arith, b, λ k l m e. go k l m e (eqb next k) refl)
-  where
-    go : (k : ℕ) → next ≤ k → k < r → getD prints k 0 ≡ print → (b : Bool) → eqb next k ≡ b → ⊥
-    go k l m e true q = ne (ap (λ j. getD prints j 0) (eqb-true next k q) ∙ e)
-    go k l m e false q = h k (omega (arith, eqb-false next k q)) m e
 
 -- ## A search for a list that found one
 module _ (known : List ℕ) (node next many other : ℕ) (before : (r : ℕ) → r < many → getD known r 0 < node) (l : next < many) (e : other ≡ getD known next 0) where

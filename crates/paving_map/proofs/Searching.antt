@@ -18,6 +18,16 @@ use Rattle.paving_map.specs.declared.Found.{Found}
 use Rattle.paving_map.specs.declared.Found.the-variants.{At, Nothing}
 use Rattle.paving_map.specs.Boxes.{Ready, Scratch, Room, Printed, SameWords}
 
+-- ## A print that is not the one sought
+pub next-skip : (prints : List ℕ) (print next many r : ℕ) → (getD prints next 0 ≡ print → ⊥)
+    → (next + 1 ≤ r) × (r ≤ many) × ((k : ℕ) → next + 1 ≤ k → k < r → getD prints k 0 ≡ print → ⊥)
+    → (next ≤ r) × (r ≤ many) × ((k : ℕ) → next ≤ k → k < r → getD prints k 0 ≡ print → ⊥)
+next-skip prints print next many r ne (a, b, h) = (omega arith, b, λ k l m e. go k l m e (eqb next k) refl)
+  where
+    go : (k : ℕ) → next ≤ k → k < r → getD prints k 0 ≡ print → (b : Bool) → eqb next k ≡ b → ⊥
+    go k l m e true q = ne (ap (λ j. getD prints j 0) (eqb-true next k q) ∙ e)
+    go k l m e false q = h k (omega (arith, eqb-false next k q)) m e
+
 -- ## Two days compared
 module _ (other words w : List ℕ) (length' count : ℕ) (parts : part other 0 length' ≡ w) (sized : length' ≡ length w) where
   pub days-compared : length' ≡ count → (r : Bool) → r ≡ sameList eqb (part other 0 (count - 0)) (part words 0 (count - 0)) → r ≡ sameList eqb w (part words 0 count)

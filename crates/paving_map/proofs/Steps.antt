@@ -68,16 +68,13 @@ module _ (W : ℕ → List ℕ) (known prints : List ℕ) (many node : ℕ) (mem
       rw (ec, es) (found-mapped found s),
     )
 
--- ## Room
-module _ (W : ℕ → List ℕ) (known prints : List ℕ) (many node boxes : ℕ) (memory : Known W known prints many node) (low : node < boxes) where
-  -- to know one box more and to number it
-  pub roomy : (ks hs ps cs ls : ℕ) → Room ks hs ps cs ls boxes
-      → (many < ks) × (many < hs) × (many < ps) × (node < cs) × (node + 1 < ls) × (node + 1 < 65536)
-  roomy ks hs ps cs ls room =
-      let few : many ≤ node = memory .few in
-      let m = room .memory in
-      let a = room .answers in
-      (omega (arith, few, m .0), omega (arith, few, m .1), omega (arith, few, m .2), omega (arith, a .0), omega (arith, a .1), omega (arith, a .2))
+-- ## Room to know one box more and to number it
+pub roomy : (many node boxes ks hs ps cs ls : ℕ) → many ≤ node → node < boxes → Room ks hs ps cs ls boxes
+    → (many < ks) × (many < hs) × (many < ps) × (node < cs) × (node + 1 < ls) × (node + 1 < 65536)
+roomy many node boxes ks hs ps cs ls few low room =
+    let m = room .memory in
+    let a = room .answers in
+    (omega (arith, m .0), omega (arith, m .1), omega (arith, m .2), omega (arith, a .0), omega (arith, a .1), omega (arith, a .2))
 
 -- ## The boxes' own words
 module _ (states counts spans lists : List ℕ) where

@@ -16,7 +16,7 @@ hinting : tie.Need-list-hint-requires
 hinting c κs =
     let args = c .before .before .before .before .before .before .before .before .before .before .before .before .before .before .before .before .before .before .args in
     let pre = c .before .before .before .before .before .before .before .before .before .before .before .before .before .before .before .before .before .before .pre in
-    let there = list-there (now (args .states)) (now (args .counts)) (now (args .spans)) (now (args .lists)) _ (args .node) (pre .0 .0 (args .node) (pre .1 .1 .1 .1)) (c .wide .result) (c .wide .ensures .0) in
+    let there = list-there _ _ _ _ _ _ (pre .0 .0 (args .node) (pre .1 .1 .1 .1)) (c .wide .result) (c .wide .ensures .0) in
     omega (arith, there .0, there .2)
 
 seeking : tie.Need-find-list-requires
@@ -24,8 +24,8 @@ seeking c κs =
     let args = c .before .before .before .before .before .before .before .before .before .before .before .before .before .before .before .before .before .before .before .before .before .args in
     let pre = c .before .before .before .before .before .before .before .before .before .before .before .before .before .before .before .before .before .before .before .before .before .pre in
     let memory = pre .1 .1 .1 .0 .0 in
-    let there = list-there (now (args .states)) (now (args .counts)) (now (args .spans)) (now (args .lists)) _ (args .node) (pre .0 .0 (args .node) (pre .1 .1 .1 .1)) (c .before .before .before .wide .result) (c .before .before .before .wide .ensures .0) in
-    let room = roomy (boxWords (now (args .states)) (now (args .counts)) (now (args .spans)) (now (args .lists))) (now (args .known)) (now (args .prints)) (args .many) (args .node) (args .boxes) memory (pre .1 .1 .1 .1) _ _ _ _ _ (pre .1 .1 .0) in
+    let there = list-there _ _ _ _ _ _ (pre .0 .0 (args .node) (pre .1 .1 .1 .1)) (c .before .before .before .wide .result) (c .before .before .before .wide .ensures .0) in
+    let room = roomy _ _ _ _ _ _ _ _ (memory .few) (pre .1 .1 .1 .1) (pre .1 .1 .0) in
     (omega (arith, room .0), omega (arith, room .1), there .0, there .1, there .2, memory .before)
 
 fits : tie.Need-mul-cells

@@ -18,7 +18,7 @@ printing : tie.Need-fingerprint-requires
 printing c κs =
     let args = c .before .before .before .before .before .before .before .before .before .before .before .before .before .before .before .before .before .before .before .before .before .before .before .before .before .before .before .before .before .before .before .before .before .before .before .before .args in
     let pre = c .before .before .before .before .before .before .before .before .before .before .before .before .before .before .before .before .before .before .before .before .before .before .before .before .before .before .before .before .before .before .before .before .before .before .before .before .pre in
-    words-fit (now (args .states)) (now (args .counts)) (now (args .spans)) (now (args .lists)) _ (args .node) (pre .0 .0 (args .node) (pre .1 .1 .1 .1)) _ _ (c .before .before .before .before .before .before .before .before .before .before .before .before .before .fold-box .ensures .1) (c .before .before .before .before .before .before .before .before .before .before .before .before .before .fold-box .kept .0)
+    words-fit _ _ _ _ _ _ (pre .0 .0 (args .node) (pre .1 .1 .1 .1)) _ _ (c .before .before .before .before .before .before .before .before .before .before .before .before .before .fold-box .ensures .1) (c .before .before .before .before .before .before .before .before .before .before .before .before .before .fold-box .kept .0)
 
 seeking : tie.Need-find-day-requires
 seeking c κs =
@@ -27,7 +27,7 @@ seeking c κs =
     let low = pre .1 .1 .1 .1 in
     let memory = pre .1 .1 .1 .0 .0 in
     let kept = c .before .before .before .before .before .before .before .before .before .before .before .before .before .before .before .before .before .before .before .before .before .before .before .fold-box .kept in
-    let room = roomy (boxWords (now (args .states)) (now (args .counts)) (now (args .spans)) (now (args .lists))) (now (args .known)) (now (args .prints)) (args .many) (args .node) (args .boxes) memory low _ _ _ _ _ (pre .1 .1 .0) in (
+    let room = roomy _ _ _ _ _ _ _ _ (memory .few) low (pre .1 .1 .0) in (
       known-ready (now (args .states)) (now (args .counts)) (now (args .spans)) (now (args .lists)) _ (args .boxes) (pre .0 .0) (now (args .known)) (now (args .prints)) (args .many) (args .node) memory low _ (pre .0 .1),
       (
         scratch-kept _ _ _ _ _ _ _ _ _ _ (kept .1 .0) (kept .1 .1 .0) (kept .1 .1 .1 .0) (kept .1 .1 .1 .1 .0) (kept .1 .1 .1 .1 .1 .0) (pre .1 .0),
@@ -36,7 +36,7 @@ seeking c κs =
             omega (arith, room .0),
             omega (arith, room .2),
             omega arith,
-            words-fit (now (args .states)) (now (args .counts)) (now (args .spans)) (now (args .lists)) _ (args .node) (pre .0 .0 (args .node) low) _ _ (c .before .before .before .before .before .before .before .before .before .before .before .before .before .before .before .before .before .before .before .before .before .before .before .fold-box .ensures .1) (kept .0),
+            words-fit _ _ _ _ _ _ (pre .0 .0 (args .node) low) _ _ (c .before .before .before .before .before .before .before .before .before .before .before .before .before .before .before .before .before .before .before .before .before .before .before .fold-box .ensures .1) (kept .0),
           ),
           (c .before .before .before .before .before .before .before .before .before .fingerprint .ensures, memory .printed),
         ),
@@ -49,9 +49,9 @@ settling c κs =
     let pre = c .before .before .before .before .before .before .before .before .before .before .before .before .before .before .before .before .before .before .before .before .before .before .before .before .before .before .before .before .before .before .before .before .before .before .before .before .before .before .before .before .before .before .before .before .before .before .before .before .before .before .before .before .before .before .before .before .before .before .before .before .before .before .before .before .before .pre in
     let low = pre .1 .1 .1 .1 in
     let memory = pre .1 .1 .1 .0 .0 in
-    let room = roomy (boxWords (now (args .states)) (now (args .counts)) (now (args .spans)) (now (args .lists))) (now (args .known)) (now (args .prints)) (args .many) (args .node) (args .boxes) memory low _ _ _ _ _ (pre .1 .1 .0) in (
+    let room = roomy _ _ _ _ _ _ _ _ (memory .few) low (pre .1 .1 .0) in (
       (
-        words-fit (now (args .states)) (now (args .counts)) (now (args .spans)) (now (args .lists)) _ (args .node) (pre .0 .0 (args .node) low) _ _ (c .before .before .before .before .before .before .before .before .before .before .before .before .before .before .before .before .before .before .before .before .before .before .before .before .before .before .before .before .before .before .before .before .before .before .before .before .before .before .before .before .before .before .fold-box .ensures .1) (c .before .before .before .before .before .before .before .before .before .before .before .before .before .before .before .before .before .before .before .before .before .before .before .before .before .before .before .before .before .before .before .before .before .before .before .before .before .before .before .before .before .before .fold-box .kept .0),
+        words-fit _ _ _ _ _ _ (pre .0 .0 (args .node) low) _ _ (c .before .before .before .before .before .before .before .before .before .before .before .before .before .before .before .before .before .before .before .before .before .before .before .before .before .before .before .before .before .before .before .before .before .before .before .before .before .before .before .before .before .before .fold-box .ensures .1) (c .before .before .before .before .before .before .before .before .before .before .before .before .before .before .before .before .before .before .before .before .before .before .before .before .before .before .before .before .before .before .before .before .before .before .before .before .before .before .before .before .before .before .fold-box .kept .0),
         room .0,
         room .1,
         room .2,
@@ -71,7 +71,7 @@ returned c =
     let pre = c .before .before .before .before .before .before .before .before .before .before .before .before .before .before .before .before .before .before .before .before .before .before .before .before .before .before .before .before .before .before .before .before .before .before .before .before .before .before .before .before .before .before .before .before .before .before .before .before .before .before .before .before .before .before .before .before .before .before .before .before .before .before .before .before .before .before .before .before .before .before .before .before .before .before .before .before .pre in
     let low = pre .1 .1 .1 .1 in
     let memory = pre .1 .1 .1 .0 .0 in
-    let room = roomy (boxWords (now (args .states)) (now (args .counts)) (now (args .spans)) (now (args .lists))) (now (args .known)) (now (args .prints)) (args .many) (args .node) (args .boxes) memory low _ _ _ _ _ (pre .1 .1 .0) in
+    let room = roomy _ _ _ _ _ _ _ _ (memory .few) low (pre .1 .1 .0) in
     settled (boxWords (now (args .states)) (now (args .counts)) (now (args .spans)) (now (args .lists))) (now (args .known)) (now (args .prints)) (args .many) (args .node) memory
     (part (c .before .before .before .before .before .before .before .before .before .before .before .before .before .before .before .before .before .before .before .before .before .before .before .before .before .before .before .before .before .before .before .before .before .before .before .before .before .before .before .before .before .before .before .before .before .before .before .before .before .before .before .before .before .fold-box .last .0) 0 (c .before .before .before .before .before .before .before .before .before .before .before .before .before .before .before .before .before .before .before .before .before .before .before .before .before .before .before .before .before .before .before .before .before .before .before .before .before .before .before .before .before .before .before .before .before .before .before .before .before .before .before .before .before .fold-box .result)) (now (args .cells)) (now (args .classes)) (pre .1 .1 .1 .0 .1) (c .before .before .before .before .before .before .before .before .before .before .before .before .before .before .before .before .before .before .before .before .before .before .before .before .before .before .before .before .before .before .before .before .before .before .before .before .before .before .before .before .before .before .before .before .before .before .before .before .before .before .before .before .before .fold-box .ensures .0) (room .3) (omega (arith, room .4))
     (c .before .before .before .before .before .before .before .before .before .before .before .before .before .before .before .before .before .before .before .before .before .before .before .before .before .before .before .before .before .find-day .result) (c .before .before .before .before .before .before .before .before .before .before .before .before .before .before .before .before .before .before .before .before .before .before .before .before .before .before .before .before .before .find-day .ensures) (room .0) (room .2) (c .before .before .before .before .before .before .before .before .before .before .before .before .before .before .before .before .before .before .before .before .before .before .before .before .before .before .before .before .before .before .before .before .before .before .before .before .before .before .before .fingerprint .result) (c .before .before .before .before .before .before .before .before .before .before .before .before .before .before .before .before .before .before .before .before .before .before .before .before .before .before .before .before .before .before .before .before .before .before .before .before .before .before .before .fingerprint .ensures)

@@ -6,7 +6,7 @@ use denote.Ref.{now}
 use borrow.Author.Needs.{needs}
 use borrow.Fn.Kinds.{In}
 use borrow.Fn.PlainCycle.{Measures, is, falls, and}
-use Rattle.paving_map.proofs.Lists.{next-skip}
+use Rattle.paving_map.proofs.Searching.{next-skip}
 use Rattle.paving_map.proofs.day.next_print.Reads as next-print
 use Rattle.paving_map.proofs.day.next_print.Kinds as next-print-kinds
 use Rattle.paving_map.proofs.day.+next_print.Lts-next_print as next-print-lts
