@@ -6,6 +6,7 @@ use mathlib.Core.List.{List, [], _∷_, map}
 use Prim.Native.Nat.{ℕ, zero, suc, _+_, _-_, _≤_, _<_}
 use native.Mathlib.Omega.{arith}
 use lib.Dec.{eqb}
+use lib.ListN.{length, length-map}
 use borrow.Author.Tests.{eq-eqb, ne-eqb}
 use Rattle.grid.specs.Cut.{Range, glue}
 use Rattle.definition.specs.Group.{itemsOf}
@@ -33,6 +34,16 @@ items-glued b j (k ∷ rs) h = go (eqb (j .1) (k .0)) refl
     go : (t : Bool) → eqb (j .1) (k .0) ≡ t → itemsOf b (glue j (k ∷ rs)) ≡ map asItem (glue j (k ∷ rs))
     go true e = rw (e, glue) (items-late b (j .0, k .1) rs h)
     go false e = rw (e, glue) (items-late b j (k ∷ rs) h)
+
+-- there are no more items than runs
+pub items-few : (b : Range) (rs : List Range) → length (itemsOf b rs) ≤ length rs
+unfolding itemsOf
+items-few b [] = omega arith
+items-few b (r ∷ rs) = go (eqb (r .0) (b .0) && eqb (r .1) (b .1)) refl
+  where
+    go : (t : Bool) → (eqb (r .0) (b .0) && eqb (r .1) (b .1)) ≡ t → length (itemsOf b (r ∷ rs)) ≤ length (r ∷ rs)
+    go true e = rw (e, itemsOf) (omega arith)
+    go false e = rw (e, itemsOf) (omega (arith, length-map rs asItem))
 
 module _ (cut : ℕ → ℕ) (t : ℕ → Bool) where
   rises-far : (d x : ℕ) → Rises cut x (suc d) → cut x < cut (suc x + d)

@@ -54,6 +54,12 @@ glue-one i (k ∷ rs) = go (eqb (i .1) (k .0)) refl
     go true e = rw (e, glue) (omega arith)
     go false e = rw (e, glue) (omega arith)
 
+-- ranges, joined, are no more
+pub joined-few : (D : List Range) → length (joined D) ≤ length D
+unfolding joined
+joined-few [] = omega arith
+joined-few (i ∷ D) = omega (arith, glue-one i (joined D), joined-few D)
+
 -- cuts that rise over n columns from x on
 abbrev pub Rises : (ℕ → ℕ) → ℕ → ℕ → Type 0
 Rises cut x n = (y : ℕ) → x ≤ y → y < x + n → cut y < cut (suc y)

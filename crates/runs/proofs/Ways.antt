@@ -4,7 +4,7 @@
 use mathlib.Core.Path.{_≡_, refl, sym, ap, _∙_}
 use mathlib.Core.Bool.{Bool, true, false}
 use mathlib.Core.List.{List, [], _∷_, map}
-use Prim.Native.Nat.{ℕ, suc, _+_, _-_, _*_, _/_, _≤_, _<_}
+use Prim.Native.Nat.{ℕ, suc, _+_, _-_, _*_, _≤_, _<_}
 use native.Mathlib.Omega.{arith}
 use lib.ListN.{length, getD, set, length-map}
 use lib.Seq.{sets}
@@ -14,7 +14,7 @@ use Rattle.definition.specs.Group.{itemsOf}
 use Rattle.paving.specs.Grid.{marksFrom}
 use Rattle.runs.specs.Runs.{intervalAt, runsOf, runEnd, markAt, cutOf, Cuts, runsFrom, asItem, numbers, itemsAt}
 use Rattle.runs.proofs.Joining.{runs-none, runs-out, runs-run, end-within, runs-few}
-use Rattle.runs.proofs.Filling.{full-none, not-full}
+use Rattle.runs.proofs.Filling.{items-few, full-none, not-full}
 
 -- a column more to go
 left-more : (width x : ℕ) → x < width → width - x ≡ suc (width - (x + 1))
@@ -98,8 +98,14 @@ module _ (marks : List ℕ) (base width : ℕ) (cuts : List ℕ) (row : ℕ) whe
       )
 
   -- ## A dimension
-  pub few-runs : 2 * length (runsFrom marks base width cuts row 0) ≤ 2 * ((width + 1) / 2)
-  few-runs = omega (arith, ap length (as-runs 0), runs-few (cutOf cuts row) (markAt marks base) (width - 0) 0)
+  pub items-half : 2 * length (itemsAt marks base width cuts row) ≤ width + 1
+  items-half =
+      omega (
+        arith,
+        items-few (cutOf cuts row 0, cutOf cuts row width) (runsFrom marks base width cuts row 0),
+        ap length (as-runs 0),
+        runs-few (cutOf cuts row) (markAt marks base) (width - 0) 0,
+      )
 
   whole : itemsAt marks base width cuts row ≡ itemsOf (cutOf cuts row 0, cutOf cuts row width) (runsOf (cutOf cuts row) (markAt marks base) 0 width)
   whole = let z : width - 0 ≡ width = omega arith in ap (itemsOf (cutOf cuts row 0, cutOf cuts row width)) (as-runs 0 ∙ ap (runsOf (cutOf cuts row) (markAt marks base) 0) z)
@@ -113,14 +119,19 @@ module _ (marks : List ℕ) (base width : ℕ) (cuts : List ℕ) (row : ℕ) whe
       let none = whole ∙ full-none (cutOf cuts row) (markAt marks base) width (λ y a b. lawful .rising y (omega arith)) q in
       (sym (ap length none), sym (ap (λ es. sets ends at (numbers es)) none))
 
+  items-runs : Cuts cuts row width → (e : ℕ) → e ≡ runEnd (markAt marks base) 0 (width - 0) → (e ≡ width → ⊥)
+      → itemsAt marks base width cuts row ≡ map asItem (runsFrom marks base width cuts row 0)
+  items-runs lawful e k h =
+      let z : width - 0 ≡ width = omega arith in
+      whole ∙ not-full (cutOf cuts row) (markAt marks base) width (λ y a b. lawful .rising y (omega arith)) (λ q. h (k ∙ ap (runEnd (markAt marks base) 0) z ∙ q))
+      ∙ ap (map asItem) (sym (as-runs 0 ∙ ap (runsOf (cutOf cuts row) (markAt marks base) 0) z))
+
+  pub runs-room : Cuts cuts row width → (e : ℕ) → e ≡ runEnd (markAt marks base) 0 (width - 0) → (e ≡ width → ⊥)
+      → length (itemsAt marks base width cuts row) ≡ length (runsFrom marks base width cuts row 0)
+  runs-room lawful e k h = ap length (items-runs lawful e k h) ∙ length-map (runsFrom marks base width cuts row 0) asItem
+
   pub items-some : Cuts cuts row width → (e r at : ℕ) (ends new : List ℕ) → e ≡ runEnd (markAt marks base) 0 (width - 0) → (e ≡ width → ⊥)
       → Put r at (runsFrom marks base width cuts row 0) ends new
       → (r ≡ length (itemsAt marks base width cuts row)) × (new ≡ sets ends at (numbers (itemsAt marks base width cuts row)))
   items-some lawful e r at ends new k h p =
-      let z : width - 0 ≡ width = omega arith in
-      let rs = runsFrom marks base width cuts row 0 in
-      let some : itemsAt marks base width cuts row ≡ map asItem rs =
-      whole ∙ not-full (cutOf cuts row) (markAt marks base) width (λ y a b. lawful .rising y (omega arith)) (λ q. h (k ∙ ap (runEnd (markAt marks base) 0) z ∙ q))
-      ∙ ap (map asItem) (sym (as-runs 0 ∙ ap (runsOf (cutOf cuts row) (markAt marks base) 0) z))
-      in
-      (p .0 ∙ sym (ap length some ∙ length-map rs asItem), p .1 ∙ ap (λ es. sets ends at (numbers es)) (sym some))
+      (p .0 ∙ sym (runs-room lawful e k h), p .1 ∙ ap (λ es. sets ends at (numbers es)) (sym (items-runs lawful e k h)))

@@ -3,7 +3,7 @@
 // The interval of column x goes from cut x of the dimension's row to the next cut.
 ghost use mathlib.Core.Path.{_≡_};
 ghost use mathlib.Core.List.{map};
-ghost use Prim.Native.Nat.{_+_, _-_, _*_, _/_, _≤_};
+ghost use Prim.Native.Nat.{_+_, _-_, _*_, _≤_};
 ghost use lib.ListN.{length};
 ghost use lib.Seq.{sets};
 ghost use Rattle.runs.specs.Runs.{markAt, runEnd, Cuts, runsFrom, asItem, numbers, itemsAt};
@@ -64,7 +64,7 @@ pub fn put_items(
 ) -> usize
     requires { ⌜ base + width ≤ length (now marks) ⌝ }
     requires { ⌜ Cuts (now cuts) row width ⌝ }
-    requires { ⌜ at + 2 * ((width + 1) / 2) ≤ length (now ends) ⌝ }
+    requires { ⌜ at + 2 * length (itemsAt (now marks) base width (now cuts) row) ≤ length (now ends) ⌝ }
     ensures { λ r. ⌜ (r ≡ length (itemsAt (now (marks .entry)) base width (now (cuts .entry)) row))
         × (now (ends .exit) ≡ sets (now (ends .entry)) at (numbers (itemsAt (now (marks .entry)) base width (now (cuts .entry)) row))) ⌝ }
 {

@@ -2,7 +2,7 @@
 -- Assumes nothing.
 use native.Mathlib.Omega.{arith}
 use borrow.Author.Needs.{needs}
-use Rattle.runs.proofs.Ways.{few-runs, items-none, items-some}
+use Rattle.runs.proofs.Ways.{runs-room, items-none, items-some}
 use Rattle.runs.proofs.put_items.Statement.{statement}
 use Rattle.runs.proofs.put_items.Tie as tie
 
@@ -13,8 +13,13 @@ returns c =
 
 put-runs-requires : tie.Need-put-runs-requires
 put-runs-requires c κs =
-    let a = c .before .before .before .before .before .before .args in
-    ((omega arith, c .before .before .before .before .before .before .pre .0), (c .before .before .before .before .before .before .pre .1 .0, omega (arith, few-runs (a .marks .now) (a .base) (a .width) (a .cuts .now) (a .row), c .before .before .before .before .before .before .pre .1 .1)))
+    let a = c .before .before .before .before .before .before .args in (
+      (omega arith, c .before .before .before .before .before .before .pre .0),
+      (
+        c .before .before .before .before .before .before .pre .1 .0,
+        omega (arith, runs-room (a .marks .now) (a .base) (a .width) (a .cuts .now) (a .row) (c .before .before .before .before .before .before .pre .1 .0) (c .before .before .run-end .result) (c .before .before .run-end .ensures) (c .before .if1 .left), c .before .before .before .before .before .before .pre .1 .1),
+      ),
+    )
 
 returns-2 : tie.Need-returns-2
 returns-2 c =
