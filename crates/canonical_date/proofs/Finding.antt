@@ -4,11 +4,12 @@ use mathlib.Core.Path.{_≡_, refl, sym, ap, _∙_}
 use mathlib.Core.List.{List}
 use mathlib.Core.Option.{Option, some}
 use mathlib.Core.Bool.{Bool, true, false}
-use Prim.Native.Nat.{ℕ, _≤_}
+use Prim.Native.Nat.{ℕ, _+_, _≤_, _<_, _^_}
 use native.Mathlib.Omega.{arith}
 use lib.ListN.{length}
 use Rattle.definition.specs.Field.{sheetBits}
 use Rattle.definition.proofs.Bits.{Bytes}
+use Rattle.definition.proofs.Lengths.{rule-short}
 use Rattle.definition.proofs.RuleParts.{RuleParts, rule-parts}
 use Rattle.sheet.specs.Begin.{ruleAt, Readable}
 use Rattle.canonical_date.specs.declared.days.Days.{Days}
@@ -17,10 +18,11 @@ use Rattle.canonical_date.specs.Days.{loaded, daysOf, daysLoaded}
 use Rattle.canonical_date.specs.Rule.{daysStop, daysRows, layRows, countRows}
 use Rattle.canonical_date.specs.Found.{Loads, Found}
 use Rattle.canonical_date.proofs.ItemFacts.{some-other}
+use Rattle.canonical_date.proofs.DayRows.{count-few}
 use Rattle.canonical_date.proofs.DaysMeaning.{days-pass, days-halt, days-few}
 use Rattle.canonical_date.proofs.Table.{table-selector, table-counts}
 
-module _ (sheet : List ℕ) (b : Bytes sheet) (p : ℕ) (readable : Readable (sheetBits sheet) p) (l c l′ c′ : List ℕ) (room : 256 ≤ length l) (seats : 4 ≤ length c) where
+module _ (sheet : List ℕ) (b : Bytes sheet) (p : ℕ) (readable : Readable (sheetBits sheet) p) (low : p < 2 ^ 25) (l c l′ c′ : List ℕ) (room : 256 ≤ length l) (seats : 4 ≤ length c) where
   found-spans : (n q : ℕ) → loaded l′ c′ (some (n, q)) ≡ daysLoaded (sheetBits sheet) p l c → Loads (sheetBits sheet) (ruleAt (sheetBits sheet) p) l c l′ c′ n q
   found-spans n q e = go (daysStop (ruleAt (sheetBits sheet) p)) refl
     where
@@ -45,7 +47,13 @@ module _ (sheet : List ℕ) (b : Bytes sheet) (p : ℕ) (readable : Readable (sh
             counted = counts;
             selected = rw (table, counts) (table-selector r l c room seats few);
             few = λ i m. rw counts (omega (arith, table-counts 0 (daysRows r) c (omega arith) few i (omega arith) (omega arith)));
-            spans = record { many = many; end = readable .end; read = rw (many, place) (w .spans-read) };
+            spans = record {
+              many = many;
+              few-spans = rw many (count-few (sheetBits sheet) (p + 20) 4 (length (r .spans)) _ (w .count-spans));
+              end = readable .end;
+              near = omega (arith, rule-short (sheetBits sheet) p r (readable .end) (readable .read));
+              read = rw (many, place) (w .spans-read);
+            };
           }
 
   pub found : (v : Days) → loaded l′ c′ (daysOf v) ≡ daysLoaded (sheetBits sheet) p l c → Found (sheetBits sheet) (ruleAt (sheetBits sheet) p) l c l′ c′ v

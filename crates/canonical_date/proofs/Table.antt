@@ -20,11 +20,11 @@ use Rattle.canonical_date.specs.Rule.{daysRows, layRows, countRows}
 use Rattle.canonical_date.proofs.Flat.{flat-length}
 
 -- ## Numbers laid into a list
-sets-before : (l : List ℕ) (p : ℕ) (vs : List ℕ) (k : ℕ) → k < p → getD (sets l p vs) k 0 ≡ getD l k 0
+pub sets-before : (l : List ℕ) (p : ℕ) (vs : List ℕ) (k : ℕ) → k < p → getD (sets l p vs) k 0 ≡ getD l k 0
 sets-before l p [] k h = refl
 sets-before l p (v ∷ vs) k h = sets-before (set l p v) (suc p) vs k (omega arith) ∙ getD-set-other l p k v 0 (λ z. omega arith)
 
-sets-inside : (l : List ℕ) (p : ℕ) (vs : List ℕ) (k : ℕ) → p + length vs ≤ length l → k < length vs → getD (sets l p vs) (p + k) 0 ≡ getD vs k 0
+pub sets-inside : (l : List ℕ) (p : ℕ) (vs : List ℕ) (k : ℕ) → p + length vs ≤ length l → k < length vs → getD (sets l p vs) (p + k) 0 ≡ getD vs k 0
 sets-inside l p [] k h i = absurd (omega arith)
 sets-inside l p (v ∷ vs) zero h i =
     let z : p + 0 ≡ p = omega arith in

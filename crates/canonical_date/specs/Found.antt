@@ -3,7 +3,7 @@
 use mathlib.Core.Path.{_≡_}
 use mathlib.Core.List.{List}
 use mathlib.Core.Bool.{true, false}
-use Prim.Native.Nat.{ℕ, _*_, _≤_, _<_}
+use Prim.Native.Nat.{ℕ, _*_, _≤_, _<_, _^_}
 use lib.ListN.{length, getD}
 use Rattle.definition.specs.Field.{got, readAll, Layout}
 use Rattle.definition.specs.Rule.{Rule}
@@ -18,7 +18,9 @@ use Rattle.canonical_date.specs.Rule.{daysStop, daysRows, layRows, count
 -- some spans that are read from a bit on
 pub record SpansRead (s : List ℕ) (r : Rule) (n q : ℕ) : Type 0 where
   pub many : n ≡ length (r .spans)
+  pub few-spans : n ≤ 16
   pub end : ℕ
+  pub near : end < 2 ^ 26
   pub read : readAll (span .read) n s q ≡ got (r .spans) end
 
 -- the rule r, whose table and counts were l and c and are l' and c', has n spans at q

@@ -1,1 +1,4 @@
 pub mod SpanWays
+pub mod SpanMeaning
+pub mod RuleWays
+pub mod Tabling

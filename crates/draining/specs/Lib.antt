@@ -1,1 +1,3 @@
 pub mod Span
+pub mod Rule
+pub mod Table

@@ -1,2 +1,50 @@
-// Draining: the rules before the first stopper, each with its state, its spans and whether it replaces, in tables.
+// Draining: "Rules before the first stopper, in order", each with its state, its spans and whether it replaces, in tables.
+pub mod rule;
 pub mod span;
+
+ghost use mathlib.Core.Path.{_≡_};
+ghost use Prim.Native.Nat.{_*_, _≤_};
+ghost use lib.ListN.{length};
+ghost use Rattle.definition.specs.Field.{sheetBits};
+ghost use Rattle.definition.specs.Stop.{drained};
+ghost use Rattle.draining.specs.Table.{Tabled, rulesFrom, AllBegin};
+
+// How many rules are drained, of those that begin at the noted bits; the tables then hold them.
+pub fn drain(
+    sheet: &[u8],
+    begins: &[usize],
+    count: usize,
+    states: &mut [u32],
+    span_counts: &mut [u8],
+    spans: &mut [u64],
+    replacing: &mut [u8],
+    ranges: &mut [u16],
+    counts: &mut [u16],
+) -> usize
+    requires { ⌜ AllBegin (sheetBits (now sheet)) (now begins) count ⌝ }
+    requires { ⌜ (count ≤ length (now begins)) × (count ≤ length (now states)) × (count ≤ length (now «span_counts»)) × (count * 16 ≤ length (now spans)) × (count ≤ length (now replacing)) ⌝ }
+    requires { ⌜ (256 ≤ length (now ranges)) × (4 ≤ length (now counts)) ⌝ }
+    ensures { λ r. ⌜ (r ≡ length (drained (rulesFrom (sheetBits (now (sheet .entry))) (now (begins .entry)) 0 count)))
+        × Tabled (now (states .exit)) (now («span_counts» .exit)) (now (spans .exit)) (now (replacing .exit))
+        (drained (rulesFrom (sheetBits (now (sheet .entry))) (now (begins .entry)) 0 count)) ⌝ }
+{
+    let mut i: usize = 0;
+    while i < count {
+        let at = begins[i];
+        if crate::rule::drain_rule(
+            sheet,
+            at,
+            i,
+            states,
+            span_counts,
+            spans,
+            replacing,
+            ranges,
+            counts,
+        ) {
+            return i;
+        }
+        i += 1;
+    }
+    count
+}

@@ -1,6 +1,6 @@
 // A rule's spans as numbers.
-use canonical_date::canonical::number16;
 use canonical_date::canonical::number8;
+use canonical_date::canonical::number16;
 use item::time::SpanRead;
 use item::time::Time;
 ghost use mathlib.Core.Path.{_≡_};

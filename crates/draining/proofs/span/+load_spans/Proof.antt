@@ -1,6 +1,6 @@
 -- `draining::span::load_spans` meets its contract: a span's number, then those of the spans after it.
 -- Assumes nothing.
-use mathlib.Core.Path.{_≡_, sym, ap, _∙_}
+use mathlib.Core.Path.{sym, ap, _∙_}
 use Prim.Native.Nat.{ℕ, _+_, _≤_, _<_}
 use native.Mathlib.Omega.{arith}
 use borrow.Author.Needs.{needs}
@@ -39,7 +39,7 @@ pub +load-spans-spec : {M : Type 1} → statement M
     (λ c. search needs)
     (λ c. omega (arith, c .before .before .before .before .before .before .before .before .before .before .pre .1, c .before .before .before .before .before .before .before .if1 .left, c .before .before .before .before .before .before .before .before .before .before .fits))
     (λ c κs. let short : c .before .before .before .before .read .given .0 .1 .0 ≤ c .before .before .before .before .before .before .before .before .before .before .args .at + 52 = number-short _ _ _ _ (sym (c .before .before .before .before .before .before .number-at .ensures) ∙ ap numberOf (c .before .before .before .before .read .given .1)) in
-        (omega (arith, c .before .before .before .before .before .before .before .before .before .before .pre .0, c .before .before .before .before .before .before .before .if1 .left), (omega (arith, c .before .before .before .before .before .before .before .before .before .before .pre .1, c .before .before .before .before .before .before .before .if1 .left, short), simp length-set (omega (arith, c .before .before .before .before .before .before .before .before .before .before .pre .1, c .before .before .before .before .before .before .before .if1 .left)))))
+    (omega (arith, c .before .before .before .before .before .before .before .before .before .before .pre .0, c .before .before .before .before .before .before .before .if1 .left), (omega (arith, c .before .before .before .before .before .before .before .before .before .before .pre .1, c .before .before .before .before .before .before .before .if1 .left, short), simp length-set (omega (arith, c .before .before .before .before .before .before .before .before .before .before .pre .1, c .before .before .before .before .before .before .before .if1 .left)))))
     (λ c. c .before .before .load-spans .kept .1 .1 .1 .0 ∙ simp length-set)
     (λ c. spans-go _ _ _ _ _ _ _ _ _ _ _ _ (omega (arith, c .before .before .before .before .before .before .before .before .before .before .if1 .left)) (sym (c .before .before .before .before .before .before .before .before .before .number-at .ensures) ∙ ap numberOf (c .before .before .before .before .before .before .before .read .given .1)) (c .before .before .before .before .before .no-overlap-with-next-day .ensures) (c .before .before .before .before .if2 .taken) (omega arith) (c .before .before .load-spans .ensures))
     (λ c. search needs)

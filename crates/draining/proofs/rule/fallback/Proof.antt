@@ -1,0 +1,15 @@
+-- `draining::rule::fallback` meets its contract.
+-- Assumes nothing.
+use mathlib.Core.Path.{sym}
+use native.Mathlib.Omega.{arith}
+use borrow.Author.Tests.{eq-eqb, ne-eqb}
+use Rattle.draining.proofs.rule.fallback.Statement.{statement}
+use Rattle.draining.proofs.rule.fallback.Tie as tie
+
+pub fallback-spec : {M : Type 1} → statement M
+fallback-spec =
+    tie.close
+    (tie.spec
+    (λ c. sym (rw (eq-eqb (c .before .args .operator) 0 (omega arith))))
+    (λ c. sym (rw (ne-eqb (c .before .args .operator) 0 (omega arith), eq-eqb (c .before .args .operator) 1 (omega arith))))
+    (λ c. sym (rw (ne-eqb (c .before .args .operator) 0 (omega arith), ne-eqb (c .before .args .operator) 1 (omega arith)))))

@@ -1,0 +1,143 @@
+// One rule, from the sheet to the tables; or that it stops.
+use canonical_date::days::Days;
+use sheet::rule::TitleRead;
+ghost use mathlib.Core.Path.{_≡_};
+ghost use mathlib.Core.List.{map};
+ghost use mathlib.Core.Bool.{_&&_, not, cond};
+ghost use Prim.Native.Nat.{_+_, _*_, _≤_, _<_, _^_};
+ghost use lib.ListN.{length};
+ghost use lib.Seq.{sets};
+ghost use mathlib.Core.Option.{none, some};
+ghost use Rattle.definition.specs.Field.{sheetBits};
+ghost use Rattle.definition.specs.Rule.{operatorOf, kindOf};
+ghost use Rattle.definition.specs.Stop.{isFallback, stops};
+ghost use Rattle.definition.specs.Point.{isNormal, isClosed};
+ghost use Rattle.sheet.specs.Begin.{ruleAt, Readable};
+ghost use Rattle.canonical_date.specs.Days.{Loaded, daysLoaded};
+ghost use Rattle.span_number.specs.Number.{stateNumber, stateOf, spanNumber};
+ghost use Rattle.draining.specs.Rule.{loadedSpans, partsStop, loadOf, SetRule, DrainedRule};
+
+// How many spans a rule has; or an item or a span stops it.
+pub enum Load {
+    Spans(u64),
+    Stops,
+}
+
+// A rule's ranges, and its spans in their row of the table.
+fn load_rule(
+    sheet: &[u8],
+    at: usize,
+    rule: usize,
+    spans: &mut [u64],
+    ranges: &mut [u16],
+    counts: &mut [u16],
+) -> Load
+    requires { ⌜ Readable (sheetBits (now sheet)) at ⌝ }
+    requires { ⌜ (at < 2 ^ 25) × (rule * 16 + 16 ≤ length (now spans)) × (256 ≤ length (now ranges)) × (4 ≤ length (now counts)) ⌝ }
+    ensures { λ r. ⌜ (loadOf r ≡ cond (partsStop (ruleAt (sheetBits (now (sheet .entry))) at)) none (some (length ((ruleAt (sheetBits (now (sheet .entry))) at) .spans))))
+        × (now (spans .exit) ≡ sets (now (spans .entry)) (rule * 16) (map spanNumber (loadedSpans (ruleAt (sheetBits (now (sheet .entry))) at))))
+        × (now (ranges .exit) ≡ (daysLoaded (sheetBits (now (sheet .entry))) at (now (ranges .entry)) (now (counts .entry))) .ranges)
+        × (now (counts .exit) ≡ (daysLoaded (sheetBits (now (sheet .entry))) at (now (ranges .entry)) (now (counts .entry))) .counts) ⌝ }
+{
+    let days = canonical_date::days::rule_ranges(sheet, at, ranges, counts);
+    match days {
+        Days::Spans(count, place) => {
+            if crate::span::load_spans(sheet, place, count, spans, rule * 16) {
+                return Load::Stops;
+            }
+            Load::Spans(count)
+        }
+        Days::Stops => Load::Stops,
+    }
+}
+
+fn fallback(operator: u64) -> bool
+    ensures { λ r. ⌜ r ≡ isFallback (operatorOf operator) ⌝ }
+{
+    match operator {
+        0 => false,
+        1 => false,
+        _ => true,
+    }
+}
+
+// "A Normal rule that isn't Closed replaces the list": 1, else 0.
+fn replace_number(operator: u64, kind: u64) -> u8
+    ensures { λ r. ⌜ r ≡ cond (isNormal (operatorOf operator) && not (isClosed (kindOf kind))) 1 0 ⌝ }
+{
+    if operator == 0 {
+        if kind == 1 { 0 } else { 1 }
+    } else {
+        0
+    }
+}
+
+fn state_number(kind: u64, comment: u64) -> u32
+    requires { ⌜ comment < 65536 ⌝ }
+    ensures { λ r. ⌜ r ≡ stateNumber (stateOf (kindOf kind) comment) ⌝ }
+{
+    let narrow = comment as u32;
+    match kind {
+        0 => narrow,
+        1 => 65536 + narrow,
+        _ => 131072 + narrow,
+    }
+}
+
+// A rule's state, its number of spans and whether it replaces, in the tables; unless it is a Fallback.
+fn set_rule(
+    sheet: &[u8],
+    at: usize,
+    rule: usize,
+    count: u64,
+    states: &mut [u32],
+    span_counts: &mut [u8],
+    replacing: &mut [u8],
+) -> bool
+    requires { ⌜ Readable (sheetBits (now sheet)) at ⌝ }
+    requires { ⌜ (at < 2 ^ 25) × (count ≤ 16) × (rule < length (now states)) × (rule < length (now «span_counts»)) × (rule < length (now replacing)) ⌝ }
+    ensures { λ r. ⌜ SetRule (ruleAt (sheetBits (now (sheet .entry))) at) rule count (now (states .entry)) (now («span_counts» .entry)) (now (replacing .entry))
+        (now (states .exit)) (now («span_counts» .exit)) (now (replacing .exit)) r ⌝ }
+{
+    let title = sheet::rule::title_at(sheet, at);
+    match title {
+        TitleRead::Title(operator, kind, comment, next) => {
+            if fallback(operator) {
+                return true;
+            }
+            states[rule] = state_number(kind, comment);
+            span_counts[rule] = canonical_date::canonical::number8(count);
+            replacing[rule] = replace_number(operator, kind);
+            false
+        }
+        TitleRead::Refused(code, place) => true,
+    }
+}
+
+// Drains the rule at a bit into the tables; or answers that it stops.
+pub fn drain_rule(
+    sheet: &[u8],
+    at: usize,
+    rule: usize,
+    states: &mut [u32],
+    span_counts: &mut [u8],
+    spans: &mut [u64],
+    replacing: &mut [u8],
+    ranges: &mut [u16],
+    counts: &mut [u16],
+) -> bool
+    requires { ⌜ Readable (sheetBits (now sheet)) at ⌝ }
+    requires { ⌜ (at < 2 ^ 25) × (rule * 16 + 16 ≤ length (now spans)) × (rule < length (now states)) × (rule < length (now «span_counts»)) × (rule < length (now replacing)) ⌝ }
+    requires { ⌜ (256 ≤ length (now ranges)) × (4 ≤ length (now counts)) ⌝ }
+    ensures { λ r. ⌜ (r ≡ stops (ruleAt (sheetBits (now (sheet .entry))) at))
+        × DrainedRule (ruleAt (sheetBits (now (sheet .entry))) at) rule (now (states .entry)) (now («span_counts» .entry)) (now (spans .entry)) (now (replacing .entry))
+        (now (states .exit)) (now («span_counts» .exit)) (now (spans .exit)) (now (replacing .exit))
+        × (now (ranges .exit) ≡ (daysLoaded (sheetBits (now (sheet .entry))) at (now (ranges .entry)) (now (counts .entry))) .ranges)
+        × (now (counts .exit) ≡ (daysLoaded (sheetBits (now (sheet .entry))) at (now (ranges .entry)) (now (counts .entry))) .counts) ⌝ }
+{
+    let load = load_rule(sheet, at, rule, spans, ranges, counts);
+    match load {
+        Load::Spans(count) => set_rule(sheet, at, rule, count, states, span_counts, replacing),
+        Load::Stops => true,
+    }
+}
