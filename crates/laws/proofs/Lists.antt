@@ -42,6 +42,10 @@ pub All-image : {A B : Type 0} (P : B → Type 0) (f : A → B) (xs : List A) �
 All-image P f [] h = tt
 All-image P f (x ∷ xs) h = (h .0, All-image P f xs (h .1))
 
+pub image-All : {A B : Type 0} (P : B → Type 0) (f : A → B) (xs : List A) → All P (map f xs) → All (λ x. P (f x)) xs
+image-All P f [] h = tt
+image-All P f (x ∷ xs) h = (h .0, image-All P f xs (h .1))
+
 -- ## Every element, some element
 pub every-all : {A : Type 0} (P : A → Type 0) (t : A → Bool) → ((x : A) → t x ≡ true → P x) → (xs : List A) → every t xs ≡ true → All P xs
 unfolding every

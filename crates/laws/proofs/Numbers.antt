@@ -1,15 +1,16 @@
 -- Laws of the numbers from one on. Rests on the lists' laws.
 -- Assumes nothing.
 use mathlib.Core.Path.{_≡_, refl, ap, ap₂, _∙_}
-use mathlib.Core.List.{_∷_, _++_}
+use mathlib.Core.List.{_∷_, _++_, map}
 use mathlib.Core.Bool.{Bool, true, false}
+use mathlib.Core.Option.{none, some}
 use mathlib.Core.Logic.{_⊎_, inl, inr}
 use Prim.Native.Nat.{ℕ, zero, suc, _+_, _≤_, _<_}
 use native.Mathlib.Omega.{arith}
 use lib.ListN.{length}
 use lib.Dec.{eqb, ltb}
 use borrow.Author.Tests.{ne-eqb, eqb-true, eqb-false, ltb-true, ltb-false}
-use Rattle.laws.specs.Lists.{from, every, anyOf, All, Mem}
+use Rattle.laws.specs.Lists.{from, firstOf, onlyIf, every, anyOf, All, Mem}
 use Rattle.laws.proofs.Tests.{exact-eqb}
 use Rattle.laws.proofs.Lists.{every-at, any-Mem}
 
@@ -62,3 +63,37 @@ order x y = go (ltb x y) refl (eqb x y) refl
     go true e t f = inl (ltb-true x y e)
     go false e true f = inr (inl (eqb-true x y f))
     go false e false f = inr (inr (omega (arith, ltb-false x y e, eqb-false x y f)))
+
+-- a fact of each of the numbers from one on
+pub from-All : (P : ℕ → Type 0) (s n : ℕ) → All P (from s n) → (x : ℕ) → s ≤ x → x < s + n → P x
+unfolding from
+from-All P s zero h x l k = absurd (omega arith)
+from-All P s (suc n) h x l k = go (order x s) (from-All P (suc s) n (h .1) x)
+  where
+    go : (x < s) ⊎ ((x ≡ s) ⊎ (s < x)) → (suc s ≤ x → x < suc s + n → P x) → P x
+    go (inl a) ih = absurd (omega arith)
+    go (inr (inl e)) ih = rw e (h .0)
+    go (inr (inr a)) ih = ih a (omega arith)
+
+pub map-from : {B : Type 0} (f g : ℕ → B) (s n : ℕ) → ((k : ℕ) → s ≤ k → k < s + n → f k ≡ g k) → map f (from s n) ≡ map g (from s n)
+unfolding from
+map-from f g s zero h = refl
+map-from f g s (suc n) h = ap₂ _∷_ (h s (omega arith) (omega arith)) (map-from f g (suc s) n (λ k l m. h k (omega arith) (omega arith)))
+
+-- the first number that passes
+pub first-at : (t : ℕ → Bool) (k s n : ℕ) → s ≤ k → k < s + n → ((j : ℕ) → s ≤ j → j < k → t j ≡ false) → t k ≡ true → firstOf (λ j. onlyIf (t j) j) (from s n) ≡ some k
+unfolding firstOf from
+first-at t k s zero l m h e = absurd (omega arith)
+first-at t k s (suc n) l m h e = go (eqb s k) refl (first-at t k (suc s) n)
+  where
+    go : (b : Bool) → eqb s k ≡ b → (suc s ≤ k → k < suc s + n → ((j : ℕ) → suc s ≤ j → j < k → t j ≡ false) → t k ≡ true → firstOf (λ j. onlyIf (t j) j) (from (suc s) n) ≡ some k)
+        → firstOf (λ j. onlyIf (t j) j) (from s (suc n)) ≡ some k
+    go true q ih = rw (ap t (eqb-true s k q) ∙ e, firstOf) (ap some (eqb-true s k q))
+    go false q ih =
+        let ne = eqb-false s k q in
+        rw (h s (omega arith) (omega (arith, ne)), firstOf) (ih (omega (arith, ne)) (omega arith) (λ j a b. h j (omega arith) b) e)
+
+pub first-none : (t : ℕ → Bool) (s n : ℕ) → ((j : ℕ) → s ≤ j → j < s + n → t j ≡ false) → firstOf (λ j. onlyIf (t j) j) (from s n) ≡ none
+unfolding firstOf from
+first-none t s zero h = refl
+first-none t s (suc n) h = rw (h s (omega arith) (omega arith), firstOf) (first-none t (suc s) n (λ j a b. h j (omega arith) (omega arith)))

@@ -4,13 +4,14 @@ use mathlib.Core.Path.{_≡_, refl, sym, ap, ap₂, _∙_}
 use mathlib.Core.Bool.{Bool, true, false}
 use mathlib.Core.Option.{some, none}
 use mathlib.Core.List.{List, [], _∷_, _++_, map}
-use Prim.Native.Nat.{ℕ, zero, suc, _+_, _*_, _≤_, _<_, _/_}
+use Prim.Native.Nat.{ℕ, suc, _+_, _*_, _<_, _/_}
 use native.Mathlib.Omega.{arith}
 use lib.Dec.{eqb, ltb}
 use borrow.Author.Tests.{eqb-true, eqb-false}
 use lib.ListN.{length, getD, take, length-map}
 use lib.Seq.{take-suc}
-use Rattle.laws.specs.Lists.{from, firstOf, onlyIf, All}
+use Rattle.laws.specs.Lists.{from, All}
+use Rattle.laws.proofs.Numbers.{first-at, first-none}
 use Rattle.grid.specs.Group.{somewhere}
 use Rattle.definition.specs.Rule.{Rule}
 use Rattle.definition.specs.Point.{dimensions, points, selector, combinations, replaces, after, listFrom, listAt, tooLong, firstTooLong}
@@ -35,24 +36,6 @@ list-next : (rs : List Rule) (k : ℕ) (p : List ℕ) → k < length rs
     → listAt (take (suc k) rs) p ≡ after (ruleAt rs k) (combinations (selector dimensions (ruleAt rs k)) p) (listAt (take k rs) p)
 unfolding listFrom
 list-next rs k p h = ap (λ z. listFrom [] z p) (take-suc rs k noRule h) ∙ list-append [] (take k rs) (ruleAt rs k ∷ []) p
-
--- ## The first number that passes
-first-at : (t : ℕ → Bool) (k s n : ℕ) → s ≤ k → k < s + n → ((j : ℕ) → s ≤ j → j < k → t j ≡ false) → t k ≡ true → firstOf (λ j. onlyIf (t j) j) (from s n) ≡ some k
-unfolding firstOf from
-first-at t k s zero l m h e = absurd (omega arith)
-first-at t k s (suc n) l m h e = go (eqb s k) refl (first-at t k (suc s) n)
-  where
-    go : (b : Bool) → eqb s k ≡ b → (suc s ≤ k → k < suc s + n → ((j : ℕ) → suc s ≤ j → j < k → t j ≡ false) → t k ≡ true → firstOf (λ j. onlyIf (t j) j) (from (suc s) n) ≡ some k)
-        → firstOf (λ j. onlyIf (t j) j) (from s (suc n)) ≡ some k
-    go true q ih = rw (ap t (eqb-true s k q) ∙ e, firstOf) (ap some (eqb-true s k q))
-    go false q ih =
-        let ne = eqb-false s k q in
-        rw (h s (omega arith) (omega (arith, ne)), firstOf) (ih (omega (arith, ne)) (omega arith) (λ j a b. h j (omega arith) b) e)
-
-first-none : (t : ℕ → Bool) (s n : ℕ) → ((j : ℕ) → s ≤ j → j < s + n → t j ≡ false) → firstOf (λ j. onlyIf (t j) j) (from s n) ≡ none
-unfolding firstOf from
-first-none t s zero h = refl
-first-none t s (suc n) h = rw (h s (omega arith) (omega arith), firstOf) (first-none t (suc s) n (λ j a b. h j (omega arith) (omega arith)))
 
 -- ## The lists
 -- THE START: every list is empty

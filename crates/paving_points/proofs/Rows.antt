@@ -3,13 +3,12 @@
 -- Assumes nothing.
 use mathlib.Core.Path.{_≡_, refl, sym, ap, ap₂, _∙_, subst}
 use mathlib.Core.List.{List, [], _∷_, map, flatMap}
-use mathlib.Core.Logic.{_⊎_, inl, inr}
 use Prim.Native.Nat.{ℕ, zero, suc, _+_, _-_, _≤_, _<_}
 use native.Mathlib.Omega.{arith}
 use lib.ListN.{getD}
 use Rattle.laws.specs.Lists.{from, All}
-use Rattle.laws.proofs.Lists.{All-each}
-use Rattle.laws.proofs.Numbers.{order}
+use Rattle.laws.proofs.Lists.{All-each, image-All}
+use Rattle.laws.proofs.Numbers.{from-All}
 use Rattle.laws.proofs.Spread.{flatMap-map}
 use Rattle.grid.specs.Cut.{Range, coordinates, cuts, between, intervals}
 use Rattle.grid.proofs.Interval.{block, Rising}
@@ -19,22 +18,7 @@ use Rattle.paving_update.specs.Update.{cutOf}
 use Rattle.paving_cuts.specs.Cuts.{stretch, rowOf}
 use Rattle.paving_points.specs.Paged.{intervalAt}
 
--- ## Numbered elements
--- a fact of each of the numbers from one on
-from-all : (P : ℕ → Type 0) (s n : ℕ) → All P (from s n) → (x : ℕ) → s ≤ x → x < s + n → P x
-unfolding from
-from-all P s zero h x l k = absurd (omega arith)
-from-all P s (suc n) h x l k = go (order x s) (from-all P (suc s) n (h .1) x)
-  where
-    go : (x < s) ⊎ ((x ≡ s) ⊎ (s < x)) → (suc s ≤ x → x < suc s + n → P x) → P x
-    go (inl a) ih = absurd (omega arith)
-    go (inr (inl e)) ih = rw e (h .0)
-    go (inr (inr a)) ih = ih a (omega arith)
-
-image-all : {B : Type 0} (P : B → Type 0) (f : ℕ → B) (xs : List ℕ) → All P (map f xs) → All (λ x. P (f x)) xs
-image-all P f [] h = tt
-image-all P f (x ∷ xs) h = (h .0, image-all P f xs (h .1))
-
+-- ## Intervals by number
 rising-each : (lo : ℕ) (D : List Range) → Rising lo D → All (λ i. i .0 < i .1) D
 rising-each lo [] h = tt
 rising-each lo (i ∷ D) h = (h .1, rising-each (i .1) D (h .2))
@@ -70,7 +54,7 @@ module _ (rows sizes table : List ℕ) (i : ℕ) (b : Range) (proper : b .0 < b 
 
   each : (P : Range → Type 0) → All P (intervals b R) → (x : ℕ) → x < getD sizes i 0 → P (at-row x)
   each P h x l =
-      from-all (λ x. P (at-row x)) 0 (getD sizes i 0) (image-all P at-row (from 0 (getD sizes i 0)) (subst (All P) (sym row-intervals) h)) x (omega arith) (omega arith)
+      from-All (λ x. P (at-row x)) 0 (getD sizes i 0) (image-All P at-row (from 0 (getD sizes i 0)) (subst (All P) (sym row-intervals) h)) x (omega arith) (omega arith)
 
   pub row-rises : (x : ℕ) → x < getD sizes i 0 → cutOf rows table i x < cutOf rows table i (suc x)
   row-rises = each (λ i. i .0 < i .1) (rising-each (b .0) (intervals b R) (intervals-rise b proper R inside))
@@ -78,7 +62,7 @@ module _ (rows sizes table : List ℕ) (i : ℕ) (b : Range) (proper : b .0 < b 
   pub row-marks : (x : ℕ) → x < getD sizes i 0 → (y : ℕ) → cutOf rows table i x ≤ y → y < cutOf rows table i (suc x) → Marks R (cutOf rows table i x) y
   unfolding from
   row-marks x l y lo hi =
-      from-all (λ y. Marks R (cutOf rows table i x) y) (cutOf rows table i x) (suc (cutOf rows table i (suc x) - suc (cutOf rows table i x)))
+      from-All (λ y. Marks R (cutOf rows table i x) y) (cutOf rows table i x) (suc (cutOf rows table i (suc x) - suc (cutOf rows table i x)))
       (each (λ i. All (λ y. Marks R (i .0) y) (block i)) (intervals-marks b proper R inside) x l) y lo (omega arith)
 
   pub row-all : flatMap (interval (cutOf rows table i)) (from 0 (getD sizes i 0)) ≡ coordinates b

@@ -4,23 +4,18 @@ use mathlib.Core.Path.{_≡_, refl, sym, ap, ap₂, _∙_, subst}
 use mathlib.Core.Bool.{Bool, true, false, cond, true≢false, false≢true}
 use mathlib.Core.List.{List, [], _∷_, _++_, map, append-assoc, append-nil, map-append}
 use mathlib.Core.Logic.{inl, inr}
-use Prim.Native.Nat.{ℕ, zero, suc, _+_, _*_, _≤_, _<_}
+use Prim.Native.Nat.{ℕ, suc, _+_, _*_, _≤_, _<_}
 use native.Mathlib.Omega.{arith}
 use lib.Dec.{eqb, ltb}
 use lib.ListN.{length, getD, set, replicate, length-set, length-append, length-map, length-replicate}
 use lib.Seq.{getD-set-same, getD-set-other}
 use borrow.Author.Tests.{ltb-true, ltb-false, eqb-true, eqb-false, eq-eqb, ne-eqb}
 use Rattle.laws.specs.Lists.{from, count, Mem}
-use Rattle.laws.proofs.Numbers.{length-from, from-append}
+use Rattle.laws.proofs.Numbers.{length-from, from-append, map-from}
 use Rattle.paving_update.specs.Update.{listPlaces, listLimit, Drawn, drawn, drawOne, drawAll}
 use Rattle.paving_update.specs.Boxes.{listOf, Short, afterNumber}
 
 -- ## A box's list
-map-ext : (f g : ℕ → ℕ) (s n : ℕ) → ((k : ℕ) → s ≤ k → k < s + n → f k ≡ g k) → map f (from s n) ≡ map g (from s n)
-unfolding from
-map-ext f g s zero h = refl
-map-ext f g s (suc n) h = ap₂ _∷_ (h s (omega arith) (omega arith)) (map-ext f g (suc s) n (λ k l m. h k (omega arith) (omega arith)))
-
 pub list-length : (lists : List ℕ) (node : ℕ) → length (listOf lists node) ≡ getD lists (node * listPlaces) 0
 unfolding listOf
 list-length lists node =
@@ -50,7 +45,7 @@ module _ (lists : List ℕ) (rule node w n place : ℕ) (room : node * listPlace
   unfolding listOf
   other-list short d ne =
       ap (λ m. map (λ k. getD after (d * listPlaces + 1 + k) 0) (from 0 m)) (other-count d ne)
-      ∙ map-ext (λ k. getD after (d * listPlaces + 1 + k) 0) (λ k. getD lists (d * listPlaces + 1 + k) 0) 0 (getD lists (d * listPlaces) 0)
+      ∙ map-from (λ k. getD after (d * listPlaces + 1 + k) 0) (λ k. getD lists (d * listPlaces + 1 + k) 0) 0 (getD lists (d * listPlaces) 0)
       (λ k _ l. elsewhere (d * listPlaces + 1 + k) (λ e. ne (omega (arith, short d))) (λ e. ne (omega (arith, short d))))
 
   still-short : Short lists → n ≤ listLimit → Short after
@@ -71,7 +66,7 @@ module _ (lists : List ℕ) (rule node w n place : ℕ) (room : node * listPlace
   unfolding listOf from
   more-list z e =
       ap (λ m. map f (from 0 m)) (at-count ∙ e) ∙ ap (map f) (sym (from-append 0 w 1 w (omega arith))) ∙ map-append f (from 0 w) (from w 1)
-      ∙ ap₂ (λ l x. l ++ (x ∷ [])) (map-ext f (λ k. getD lists (node * listPlaces + 1 + k) 0) 0 w (λ k _ l. elsewhere (node * listPlaces + 1 + k) (omega arith) (omega arith))
+      ∙ ap₂ (λ l x. l ++ (x ∷ [])) (map-from f (λ k. getD lists (node * listPlaces + 1 + k) 0) 0 w (λ k _ l. elsewhere (node * listPlaces + 1 + k) (omega arith) (omega arith))
       ∙ ap (λ m. map (λ k. getD lists (node * listPlaces + 1 + k) 0) (from 0 m)) z) at-entry
     where
       f : ℕ → ℕ
