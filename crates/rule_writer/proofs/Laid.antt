@@ -18,7 +18,7 @@ use Rattle.definition.specs.Point.{Dimension}
 use Rattle.definition.specs.Group.{itemsOf, laidOver}
 use Rattle.item_writer.specs.Written.{yearsFrom, weeksFrom, daysFrom}
 use Rattle.rule_writer.specs.Rows.{itemBits, rowBits, rowPlace, row, rowsBits, spansAt, titleOf, countsOf}
-use Rattle.rule_writer.specs.Written.{overItems, itemsIn, rowsBelow, ruleOf, ruleBits}
+use Rattle.rule_writer.specs.Written.{overItems, itemsIn, rowsBelow, ruleBits}
 use Rattle.rule_writer.proofs.Rows.{row-length, spans-length}
 
 -- items of one sort, one behind the other

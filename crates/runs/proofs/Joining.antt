@@ -1,7 +1,7 @@
 -- The runs of columns, column by column: one that is out, and one that is in, whose run goes on to its end. How many runs there are at
 -- most; and they are the maximal runs of the coordinates. Rests on the laws of intervals.
 -- Assumes nothing.
-use mathlib.Core.Path.{_≡_, refl, sym, ap, ap₂, _∙_}
+use mathlib.Core.Path.{_≡_, refl, sym, ap, _∙_}
 use mathlib.Core.Bool.{Bool, true, false}
 use mathlib.Core.List.{List, [], _∷_, map, flatMap}
 use Prim.Native.Nat.{ℕ, zero, suc, _+_, _-_, _*_, _≤_, _<_}

@@ -2,7 +2,6 @@
 -- written; a full dimension and any other. Rests on the runs of columns.
 -- Assumes nothing.
 use mathlib.Core.Path.{_≡_, refl, sym, ap, _∙_}
-use mathlib.Core.Bool.{Bool, true, false}
 use mathlib.Core.List.{List, [], _∷_, map}
 use Prim.Native.Nat.{ℕ, suc, _+_, _-_, _*_, _≤_, _<_}
 use native.Mathlib.Omega.{arith}
@@ -12,7 +11,7 @@ use borrow.Author.Tests.{eq-eqb, ne-eqb}
 use Rattle.grid.specs.Cut.{Range}
 use Rattle.definition.specs.Group.{itemsOf}
 use Rattle.paving.specs.Grid.{marksFrom}
-use Rattle.runs.specs.Runs.{intervalAt, runsOf, runEnd, markAt, cutOf, Cuts, runsFrom, asItem, numbers, itemsAt}
+use Rattle.runs.specs.Runs.{runsOf, runEnd, markAt, cutOf, Cuts, runsFrom, asItem, numbers, itemsAt}
 use Rattle.runs.proofs.Joining.{runs-none, runs-out, runs-run, end-within, runs-few}
 use Rattle.runs.proofs.Filling.{items-few, full-none, not-full}
 
@@ -42,7 +41,7 @@ module _ (marks : List ℕ) (base width x : ℕ) where
 
 -- ## The runs from a column on
 module _ (marks : List ℕ) (base width : ℕ) (cuts : List ℕ) (row : ℕ) where
-  as-runs : (x : ℕ) → runsFrom marks base width cuts row x ≡ runsOf (cutOf cuts row) (markAt marks base) x (width - x)
+  pub as-runs : (x : ℕ) → runsFrom marks base width cuts row x ≡ runsOf (cutOf cuts row) (markAt marks base) x (width - x)
   unfolding runsOf marksFrom
   as-runs x = refl
 

@@ -7,7 +7,7 @@ use Prim.Native.Nat.{ℕ, zero, suc, _+_, _*_, _-_, _/_, _^_, _≤_}
 use native.Mathlib.Nat.{zero-div, zero-mod}
 use native.Mathlib.Omega.{arith}
 use lib.ListN.{length, take, drop, replicate, length-append, length-drop, length-replicate}
-use lib.Seq.{sets, sets-eq, take-append-le, drop-append-le, drop-append-add}
+use lib.Seq.{sets-eq, take-append-le, drop-append-le, drop-append-add}
 use Rattle.definition.specs.Field.{bits, number, sheetBits, bytesFor, bytes, packed, Layout, field, tagged, several}
 use Rattle.definition.specs.Rule.{Rule}
 use Rattle.definition.specs.Sheet.{form1, limits1, rule, rules, encode}

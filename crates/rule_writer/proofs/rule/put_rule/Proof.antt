@@ -1,6 +1,6 @@
 -- `rule_writer::rule::put_rule` meets its contract: title, counts, rows, spans, one behind the other.
 -- Assumes nothing.
-use mathlib.Core.Path.{_≡_, refl}
+use mathlib.Core.Path.{refl}
 use native.Mathlib.Omega.{arith}
 use borrow.Author.Needs.{needs}
 use Rattle.rule_writer.specs.Rows.{rowPlace}
