@@ -16,7 +16,7 @@ use Rattle.runs.specs.Runs.{cutOf}
 use Rattle.runs.proofs.Within.{items-below}
 use Rattle.rule_writer.specs.Rows.{upperOf, Below, rowPlace, row, Rows}
 use Rattle.rule_writer.specs.Written.{rowsBelow}
-use Rattle.rule_rows.specs.Rows.{itemsIn, itemsBelow, numbersBelow, countsBelow, Marked}
+use Rattle.rule_rows.specs.Rows.{rowItems, itemsBelow, numbersBelow, countsBelow, Marked}
 use Rattle.rule_rows.proofs.Stepping.{items-few, numbers-few}
 use Rattle.rule_rows.proofs.Standing.{Counted, counts-length, counted, rows-stand, rows-inside}
 
@@ -28,12 +28,12 @@ past-end (x ∷ xs) (suc k) h = past-end xs k (omega arith)
 module _ (marks sizes cuts : List ℕ) (apart : ℕ) where
   -- a fact of every dimension's items is one of every row
   row-fact : (P : ℕ → Ends → Type 0) (ends counts : List ℕ) (l base : ℕ) → rowsBelow ends counts l ≡ itemsBelow marks sizes cuts apart l base
-      → ((k b : ℕ) → k < l → All (P k) (itemsIn marks sizes cuts apart k b)) → (sort : ℕ) → sort < l → All (P sort) (row ends counts sort)
+      → ((k b : ℕ) → k < l → All (P k) (rowItems marks sizes cuts apart k b)) → (sort : ℕ) → sort < l → All (P sort) (row ends counts sort)
   unfolding rowsBelow itemsBelow
   row-fact P ends counts zero base e h sort s = absurd (omega arith)
   row-fact P ends counts (suc l) base e h sort s = go (ltb sort l) refl (row-fact P ends counts l (base + getD sizes l 0) rest (λ k c d. h k c (omega arith)) sort)
     where
-      first : row ends counts l ≡ itemsIn marks sizes cuts apart l base
+      first : row ends counts l ≡ rowItems marks sizes cuts apart l base
       first = cc
 
       rest : rowsBelow ends counts l ≡ itemsBelow marks sizes cuts apart l (base + getD sizes l 0)

@@ -11,7 +11,7 @@ use Rattle.definition.specs.Range.{Ends}
 use Rattle.runs.specs.Runs.{numbers}
 use Rattle.rule_writer.specs.Rows.{pairs, endsAt, rowPlace, row}
 use Rattle.rule_writer.specs.Written.{rowsBelow}
-use Rattle.rule_rows.specs.Rows.{itemsIn, itemsBelow, numbersBelow, countsBelow}
+use Rattle.rule_rows.specs.Rows.{rowItems, itemsBelow, numbersBelow, countsBelow}
 use Rattle.rule_rows.proofs.Stepping.{numbers-length}
 
 pairs-numbers : (es : List Ends) → pairs (numbers es) ≡ es
@@ -29,7 +29,7 @@ module _ (marks sizes cuts : List ℕ) (apart : ℕ) where
   -- the counts of l dimensions stand
   abbrev pub Counted : ℕ → ℕ → List ℕ → Type 0
   Counted zero base counts = Unit {0}
-  Counted (suc l) base counts = (getD counts l 0 ≡ length (itemsIn marks sizes cuts apart l base)) × Counted l (base + getD sizes l 0) counts
+  Counted (suc l) base counts = (getD counts l 0 ≡ length (rowItems marks sizes cuts apart l base)) × Counted l (base + getD sizes l 0) counts
 
   counted-set : (l base k n : ℕ) (counts : List ℕ) → l ≤ k → Counted l base counts → Counted l base (set counts k n)
   counted-set zero base k n counts h c = tt
@@ -40,21 +40,21 @@ module _ (marks sizes cuts : List ℕ) (apart : ℕ) where
   unfolding countsBelow
   counts-length zero base counts = refl
   counts-length (suc l) base counts =
-      length-set (countsBelow marks sizes cuts apart l (base + getD sizes l 0) counts) l (length (itemsIn marks sizes cuts apart l base)) ∙ counts-length l (base + getD sizes l 0) counts
+      length-set (countsBelow marks sizes cuts apart l (base + getD sizes l 0) counts) l (length (rowItems marks sizes cuts apart l base)) ∙ counts-length l (base + getD sizes l 0) counts
 
   pub counted : (l base : ℕ) (counts : List ℕ) → l ≤ length counts → Counted l base (countsBelow marks sizes cuts apart l base counts)
   unfolding countsBelow
   counted zero base counts h = tt
   counted (suc l) base counts h =
       let old = countsBelow marks sizes cuts apart l (base + getD sizes l 0) counts in
-      let n = length (itemsIn marks sizes cuts apart l base) in
+      let n = length (rowItems marks sizes cuts apart l base) in
       (getD-set-same old l n 0 (omega (arith, counts-length l (base + getD sizes l 0) counts)), counted-set l (base + getD sizes l 0) l n old (omega arith) (counted l (base + getD sizes l 0) counts (omega arith)))
 
   places : (l base : ℕ) (counts : List ℕ) → Counted l base counts → rowPlace counts l ≡ length (numbersBelow marks sizes cuts apart l base)
   unfolding rowPlace numbersBelow
   places zero base counts c = refl
   places (suc l) base counts c =
-      let es = itemsIn marks sizes cuts apart l base in
+      let es = rowItems marks sizes cuts apart l base in
       omega (arith, places l (base + getD sizes l 0) counts (c .1), c .0, length-append (numbersBelow marks sizes cuts apart l (base + getD sizes l 0)) (numbers es), numbers-length es)
 
   rows-in : (l base : ℕ) (counts behind : List ℕ) → Counted l base counts → rowsBelow (numbersBelow marks sizes cuts apart l base ++ behind) counts l ≡ itemsBelow marks sizes cuts apart l base
@@ -62,7 +62,7 @@ module _ (marks sizes cuts : List ℕ) (apart : ℕ) where
   rows-in zero base counts behind c = refl
   rows-in (suc l) base counts behind c =
       let before = numbersBelow marks sizes cuts apart l (base + getD sizes l 0) in
-      let es = itemsIn marks sizes cuts apart l base in
+      let es = rowItems marks sizes cuts apart l base in
       ap (λ s. endsAt s (rowPlace counts l) (getD counts l 0) ∷ rowsBelow s counts l) (append-assoc before (numbers es) behind)
       ∙ ap₂ _∷_ (ends-stand before behind es (rowPlace counts l) (getD counts l 0) (places l (base + getD sizes l 0) counts (c .1)) (c .0))
       (rows-in l (base + getD sizes l 0) counts (numbers es ++ behind) (c .1))

@@ -15,7 +15,7 @@ use Rattle.paving.specs.Grid.{widthOf}
 use Rattle.item_writer.proofs.Chain.{sets-append}
 use Rattle.runs.specs.Runs.{Cuts, runsFrom, asItem, numbers, itemsAt}
 use Rattle.runs.proofs.Ways.{few-runs}
-use Rattle.rule_rows.specs.Rows.{itemsIn, numbersBelow, countsBelow, Marked}
+use Rattle.rule_rows.specs.Rows.{rowItems, numbersBelow, countsBelow, Marked}
 
 -- ## How many numbers
 items-less : (b : Range) (rs : List Range) → length (itemsOf b rs) ≤ length rs
@@ -41,7 +41,7 @@ module _ (marks sizes cuts : List ℕ) (apart : ℕ) where
   unfolding numbersBelow widthOf
   numbers-few zero base = omega arith
   numbers-few (suc l) base =
-      let es = itemsIn marks sizes cuts apart l base in
+      let es = rowItems marks sizes cuts apart l base in
       omega (
         arith,
         numbers-few l (base + getD sizes l 0),
@@ -65,13 +65,13 @@ module _ (marks sizes cuts : List ℕ) (apart : ℕ) where
       → (place ≡ length (numbersBelow marks sizes cuts apart l (base + getD sizes l 0)))
       × (ends₁ ≡ sets ends 0 (numbersBelow marks sizes cuts apart l (base + getD sizes l 0)))
       × (counts₁ ≡ countsBelow marks sizes cuts apart l (base + getD sizes l 0) counts)
-      → (many ≡ length (itemsIn marks sizes cuts apart l base)) × (ends₂ ≡ sets ends₁ place (numbers (itemsIn marks sizes cuts apart l base)))
+      → (many ≡ length (rowItems marks sizes cuts apart l base)) × (ends₂ ≡ sets ends₁ place (numbers (rowItems marks sizes cuts apart l base)))
       → (place + 2 * many ≡ length (numbersBelow marks sizes cuts apart (suc l) base)) × (ends₂ ≡ sets ends 0 (numbersBelow marks sizes cuts apart (suc l) base))
       × (set counts₁ l many ≡ countsBelow marks sizes cuts apart (suc l) base counts)
   unfolding numbersBelow countsBelow
   rows-more l base place many ends ends₁ ends₂ counts counts₁ p q =
       let before = numbersBelow marks sizes cuts apart l (base + getD sizes l 0) in
-      let es = itemsIn marks sizes cuts apart l base in
+      let es = rowItems marks sizes cuts apart l base in
       let z : place ≡ 0 + length before = omega (arith, p .0) in (
         omega (arith, p .0, q .0, length-append before (numbers es), numbers-length es),
         q .1 ∙ ap₂ (λ s j. sets s j (numbers es)) (p .1) z ∙ sets-append before (numbers es) ends 0,

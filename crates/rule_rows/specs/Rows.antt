@@ -9,22 +9,22 @@ use Rattle.runs.specs.Runs.{Cuts, numbers, itemsAt}
 
 module _ (marks sizes cuts : List ℕ) (apart : ℕ) where
   -- the items of the first of l + 1 dimensions
-  abbrev pub itemsIn : ℕ → ℕ → List Ends
-  itemsIn l base = itemsAt marks base (getD sizes l 0) cuts (l * apart)
+  abbrev pub rowItems : ℕ → ℕ → List Ends
+  rowItems l base = itemsAt marks base (getD sizes l 0) cuts (l * apart)
 
   -- of all l dimensions, the first dimension first
   unfoldable pub itemsBelow : ℕ → ℕ → List (List Ends)
   itemsBelow zero base = []
-  itemsBelow (suc l) base = itemsIn l base ∷ itemsBelow l (base + getD sizes l 0)
+  itemsBelow (suc l) base = rowItems l base ∷ itemsBelow l (base + getD sizes l 0)
 
   -- their numbers, the last dimension's row first
   unfoldable pub numbersBelow : ℕ → ℕ → List ℕ
   numbersBelow zero base = []
-  numbersBelow (suc l) base = numbersBelow l (base + getD sizes l 0) ++ numbers (itemsIn l base)
+  numbersBelow (suc l) base = numbersBelow l (base + getD sizes l 0) ++ numbers (rowItems l base)
 
   unfoldable pub countsBelow : ℕ → ℕ → List ℕ → List ℕ
   countsBelow zero base counts = counts
-  countsBelow (suc l) base counts = set (countsBelow l (base + getD sizes l 0) counts) l (length (itemsIn l base))
+  countsBelow (suc l) base counts = set (countsBelow l (base + getD sizes l 0) counts) l (length (rowItems l base))
 
 -- marks and cuts are all there for l dimensions, and room for their rows
 pub record Marked (marks sizes cuts : List ℕ) (apart room l base : ℕ) : Type 0 where
