@@ -2,3 +2,4 @@ pub mod SpanWays
 pub mod SpanMeaning
 pub mod RuleWays
 pub mod Tabling
+pub mod Begun

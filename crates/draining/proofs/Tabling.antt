@@ -75,7 +75,7 @@ drained-at (r ∷ rs) k h = go (stops r) refl k h (drained-at rs)
     go false e (suc k) m ih = let l : suc k < suc (length (drained rs)) = rw (e, drained) at m in rw (e, drained) (ih k (omega arith))
 
 module _ (s begins : List ℕ) where
-  rules-at : (n i k : ℕ) → k < n → getD (rulesFrom s begins i n) k noRule ≡ ruleAt s (getD begins (i + k) 0)
+  pub rules-at : (n i k : ℕ) → k < n → getD (rulesFrom s begins i n) k noRule ≡ ruleAt s (getD begins (i + k) 0)
   unfolding rulesFrom
   rules-at zero i k h = absurd (omega arith)
   rules-at (suc n) i zero h = let z : i ≡ i + 0 = omega arith in ap (λ j. ruleAt s (getD begins j 0)) z

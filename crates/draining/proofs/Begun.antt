@@ -1,0 +1,37 @@
+-- The rules at the bits that a check notes are the rules that the definition reads.
+-- Assumes nothing.
+use mathlib.Core.Path.{_≡_, refl, sym, ap, _∙_}
+use mathlib.Core.List.{List}
+use Prim.Native.Nat.{ℕ, zero, suc, _+_, _≤_, _<_}
+use native.Mathlib.Omega.{arith}
+use lib.ListN.{length, getD}
+use lib.Seq.{ext-getD}
+use Rattle.definition.specs.Field.{got, sheetBits}
+use Rattle.definition.specs.Rule.{Rule}
+use Rattle.definition.specs.Sheet.{form1, limits1, decode}
+use Rattle.definition.proofs.Bits.{Bytes}
+use Rattle.sheet.specs.Rules.{begun}
+use Rattle.sheet.specs.Begin.{noRule, ruleAt}
+use Rattle.sheet.proofs.Begins.{Begins, rules-begin}
+use Rattle.draining.specs.Table.{rulesFrom, AllBegin}
+use Rattle.draining.proofs.Tabling.{rules-at}
+
+rules-length : (s begins : List ℕ) (n i : ℕ) → length (rulesFrom s begins i n) ≡ n
+unfolding rulesFrom
+rules-length s begins zero i = refl
+rules-length s begins (suc n) i = ap suc (rules-length s begins n (i + 1))
+
+module _ (sheet : List ℕ) (b : Bytes sheet) (rs : List Rule) (q : ℕ) (e : decode form1 limits1 sheet ≡ got rs q) (begins : List ℕ) (room : 64 ≤ length begins) where
+  pub all-begin : AllBegin (sheetBits sheet) (begun sheet begins) (length rs)
+  all-begin i l = let w = rules-begin sheet rs q b e begins room i l in (w .readable, w .low)
+
+  -- THE RULES OF THE SHEET
+  pub rules-noted : rulesFrom (sheetBits sheet) (begun sheet begins) 0 (length rs) ≡ rs
+  rules-noted = ext-getD noRule _ rs long (λ k l.
+      let m : k < length rs = omega (arith, long) in
+      let z : 0 + k ≡ k = omega arith in
+      rules-at (sheetBits sheet) (begun sheet begins) (length rs) 0 k m ∙ ap (λ j. ruleAt (sheetBits sheet) (getD (begun sheet begins) j 0)) z
+      ∙ (rules-begin sheet rs q b e begins room k m) .begun-rule)
+    where
+      long : length (rulesFrom (sheetBits sheet) (begun sheet begins) 0 (length rs)) ≡ length rs
+      long = rules-length (sheetBits sheet) (begun sheet begins) (length rs) 0
