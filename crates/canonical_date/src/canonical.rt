@@ -77,10 +77,10 @@ fn weeks_at(sheet: &[u8], at: usize) -> Canonical
     ensures { λ r. ⌜ itemOf r ≡ told weekSays (weekRange .read (sheetBits (now (sheet .entry))) at) ⌝ }
 {
     let read = item::day::week_range_at(sheet, at);
-    let Stepped::Item(start, end, step, next) = read else {
+    let Stepped::Item(start, end, every, next) = read else {
         return Canonical::Stops;
     };
-    if step == 1 {
+    if every == 1 {
         let split = WeekNum::split_inverted_range(WeekNum(number8(start)), WeekNum(number8(end)));
         return Canonical::Ranges(split, next);
     }
