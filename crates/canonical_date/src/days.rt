@@ -1,6 +1,7 @@
 // A rule's days: four rows of items, one behind the other, each with its row of ranges.
 use crate::row::Row;
 use field::Taken;
+use field::width;
 ghost use mathlib.Core.Path.{_≡_};
 ghost use Prim.Native.Nat.{_+_, _-_, _*_, _/_, _≤_, _<_, _^_};
 ghost use lib.ListN.{length};
@@ -23,7 +24,7 @@ fn ranges_before(sort: usize, place: usize) -> u16
     ((place - sort * 64) / 2) as u16
 }
 
-// The rows from a sort on; their counts stand ten bits for each sort behind `head`.
+// The rows from a sort on; their counts stand one behind the other from `head` on.
 fn rows(
     sheet: &[u8],
     head: usize,
@@ -36,7 +37,7 @@ fn rows(
     ensures { λ r. ⌜ loaded (now (ranges .exit)) (now (counts .exit)) (daysOf r)
         ≡ loadRows (4 - sort) (sheetBits (now (sheet .entry))) head sort at (now (ranges .entry)) (now (counts .entry)) ⌝ }
 {
-    let count = field::count_at(sheet, head + 10 * sort);
+    let count = field::count_at(sheet, head + width::ITEM_COUNT * sort);
     let Taken::Value(items, after) = count else {
         return Days::Stops;
     };
@@ -60,5 +61,12 @@ pub fn rule_ranges(sheet: &[u8], at: usize, ranges: &mut [u16], counts: &mut [u1
     ensures { λ r. ⌜ (loaded (now (ranges .exit)) (now (counts .exit)) (daysOf r) ≡ daysLoaded (sheetBits (now (sheet .entry))) at (now (ranges .entry)) (now (counts .entry)))
         × Found (sheetBits (now (sheet .entry))) (ruleAt (sheetBits (now (sheet .entry))) at) (now (ranges .entry)) (now (counts .entry)) (now (ranges .exit)) (now (counts .exit)) r ⌝ }
 {
-    rows(sheet, at + 20, at + 70, 0, ranges, counts)
+    rows(
+        sheet,
+        at + width::TITLE,
+        at + width::HEAD,
+        0,
+        ranges,
+        counts,
+    )
 }

@@ -1,5 +1,7 @@
 // The fields of the packed sheet, read at a bit: one reader of bits, and above it one small function for each field that not every
 // value of its width may stand in. Positions stay below `2 ^ 32`: the crates above show that no lawful sheet reaches further.
+pub mod width;
+
 ghost use mathlib.Core.Path.{_≡_};
 ghost use Prim.Native.Nat.{ℕ, _+_, _*_, _≤_, _<_, _^_};
 ghost use lib.ListN.{length};
@@ -59,7 +61,7 @@ pub fn choice_at(sheet: &[u8], at: usize) -> Taken
     requires { ⌜ at < 2 ^ 32 ⌝ }
     ensures { λ r. ⌜ asRead r ≡ choice .read (sheetBits (now (sheet .entry))) at ⌝ }
 {
-    let taken = take_at(sheet, at, 2);
+    let taken = take_at(sheet, at, width::CHOICE);
     let Taken::Value(value, next) = taken else {
         return taken;
     };
@@ -74,7 +76,7 @@ pub fn rule_count_at(sheet: &[u8], at: usize) -> Taken
     requires { ⌜ at < 2 ^ 32 ⌝ }
     ensures { λ r. ⌜ asRead r ≡ (counted (form1 .ruleCount) (limits1 .rules)) .read (sheetBits (now (sheet .entry))) at ⌝ }
 {
-    let taken = take_at(sheet, at, 16);
+    let taken = take_at(sheet, at, width::RULE_COUNT);
     let Taken::Value(value, next) = taken else {
         return taken;
     };
@@ -89,7 +91,7 @@ pub fn count_at(sheet: &[u8], at: usize) -> Taken
     requires { ⌜ at < 2 ^ 32 ⌝ }
     ensures { λ r. ⌜ asRead r ≡ (counted (form1 .itemCount) (limits1 .items)) .read (sheetBits (now (sheet .entry))) at ⌝ }
 {
-    let taken = take_at(sheet, at, 10);
+    let taken = take_at(sheet, at, width::ITEM_COUNT);
     let Taken::Value(value, next) = taken else {
         return taken;
     };
@@ -104,7 +106,7 @@ pub fn year_at(sheet: &[u8], at: usize) -> Taken
     requires { ⌜ at < 2 ^ 32 ⌝ }
     ensures { λ r. ⌜ asRead r ≡ year .read (sheetBits (now (sheet .entry))) at ⌝ }
 {
-    let taken = take_at(sheet, at, 14);
+    let taken = take_at(sheet, at, width::YEAR);
     let Taken::Value(value, next) = taken else {
         return taken;
     };
@@ -119,7 +121,7 @@ pub fn month_at(sheet: &[u8], at: usize) -> Taken
     requires { ⌜ at < 2 ^ 32 ⌝ }
     ensures { λ r. ⌜ asRead r ≡ month .read (sheetBits (now (sheet .entry))) at ⌝ }
 {
-    let taken = take_at(sheet, at, 4);
+    let taken = take_at(sheet, at, width::MONTH);
     let Taken::Value(value, next) = taken else {
         return taken;
     };
@@ -134,7 +136,7 @@ pub fn week_at(sheet: &[u8], at: usize) -> Taken
     requires { ⌜ at < 2 ^ 32 ⌝ }
     ensures { λ r. ⌜ asRead r ≡ week .read (sheetBits (now (sheet .entry))) at ⌝ }
 {
-    let taken = take_at(sheet, at, 6);
+    let taken = take_at(sheet, at, width::WEEK);
     let Taken::Value(value, next) = taken else {
         return taken;
     };
@@ -149,7 +151,7 @@ pub fn weekday_at(sheet: &[u8], at: usize) -> Taken
     requires { ⌜ at < 2 ^ 32 ⌝ }
     ensures { λ r. ⌜ asRead r ≡ weekday .read (sheetBits (now (sheet .entry))) at ⌝ }
 {
-    let taken = take_at(sheet, at, 3);
+    let taken = take_at(sheet, at, width::WEEKDAY);
     let Taken::Value(value, next) = taken else {
         return taken;
     };
@@ -164,7 +166,7 @@ pub fn minutes_at(sheet: &[u8], at: usize) -> Taken
     requires { ⌜ at < 2 ^ 32 ⌝ }
     ensures { λ r. ⌜ asRead r ≡ minutes .read (sheetBits (now (sheet .entry))) at ⌝ }
 {
-    let taken = take_at(sheet, at, 12);
+    let taken = take_at(sheet, at, width::MINUTES);
     let Taken::Value(value, next) = taken else {
         return taken;
     };

@@ -1,6 +1,7 @@
 // The items of days, read at a bit: each answers its values with the bit after it, or a refusal's code and place.
 // Positions stay below `2 ^ 31`, so that no sum of a position and a width passes a machine word.
 use field::Taken;
+use field::width;
 ghost use mathlib.Core.Path.{_≡_};
 ghost use Prim.Native.Nat.{_<_, _^_};
 ghost use Rattle.definition.specs.Field.{Layout, sheetBits};
@@ -77,7 +78,7 @@ pub fn year_range_at(sheet: &[u8], at: usize) -> Stepped
     let Taken::Value(end, after_end) = second else {
         return Stepped::refused(second);
     };
-    let third = field::step_at(sheet, after_end, 16);
+    let third = field::step_at(sheet, after_end, width::YEAR_STEP);
     let Taken::Value(step, next) = third else {
         return Stepped::refused(third);
     };
@@ -97,7 +98,7 @@ pub fn week_range_at(sheet: &[u8], at: usize) -> Stepped
     let Taken::Value(end, after_end) = second else {
         return Stepped::refused(second);
     };
-    let third = field::step_at(sheet, after_end, 8);
+    let third = field::step_at(sheet, after_end, width::WEEK_STEP);
     let Taken::Value(step, next) = third else {
         return Stepped::refused(third);
     };
@@ -145,7 +146,7 @@ pub fn dated_at(sheet: &[u8], at: usize) -> Monthday
     requires { ⌜ at < 2 ^ 31 ⌝ }
     ensures { λ r. ⌜ asMonthday r ≡ datedLayout .read (sheetBits (now (sheet .entry))) at ⌝ }
 {
-    let first = field::take_at(sheet, at, 32);
+    let first = field::take_at(sheet, at, width::REFERENCE);
     let Taken::Value(reference, next) = first else {
         return Monthday::refused(first);
     };
@@ -181,15 +182,15 @@ pub fn fixed_days_at(sheet: &[u8], at: usize) -> WeekDay
     let Taken::Value(end, after_end) = second else {
         return WeekDay::refused(second);
     };
-    let third = field::take_at(sheet, after_end, 16);
+    let third = field::take_at(sheet, after_end, width::OFFSET);
     let Taken::Value(offset, after_offset) = third else {
         return WeekDay::refused(third);
     };
-    let fourth = field::take_at(sheet, after_offset, 5);
+    let fourth = field::take_at(sheet, after_offset, width::NTH);
     let Taken::Value(from_start, after_from_start) = fourth else {
         return WeekDay::refused(fourth);
     };
-    let fifth = field::take_at(sheet, after_from_start, 5);
+    let fifth = field::take_at(sheet, after_from_start, width::NTH);
     let Taken::Value(from_end, next) = fifth else {
         return WeekDay::refused(fifth);
     };
@@ -201,11 +202,11 @@ pub fn holiday_at(sheet: &[u8], at: usize) -> WeekDay
     requires { ⌜ at < 2 ^ 31 ⌝ }
     ensures { λ r. ⌜ asWeekDay r ≡ holidayLayout .read (sheetBits (now (sheet .entry))) at ⌝ }
 {
-    let first = field::take_at(sheet, at, 1);
+    let first = field::take_at(sheet, at, width::FLAG);
     let Taken::Value(kind, after_kind) = first else {
         return WeekDay::refused(first);
     };
-    let second = field::take_at(sheet, after_kind, 16);
+    let second = field::take_at(sheet, after_kind, width::OFFSET);
     let Taken::Value(offset, next) = second else {
         return WeekDay::refused(second);
     };
@@ -217,7 +218,7 @@ pub fn week_day_range_at(sheet: &[u8], at: usize) -> WeekDay
     requires { ⌜ at < 2 ^ 30 ⌝ }
     ensures { λ r. ⌜ asWeekDay r ≡ weekDayRange .read (sheetBits (now (sheet .entry))) at ⌝ }
 {
-    let tag = field::take_at(sheet, at, 1);
+    let tag = field::take_at(sheet, at, width::FLAG);
     let Taken::Value(which, body) = tag else {
         return WeekDay::refused(tag);
     };

@@ -1,5 +1,6 @@
 // Times and spans, read at a bit.
 use field::Taken;
+use field::width;
 ghost use mathlib.Core.Path.{_≡_};
 ghost use Prim.Native.Nat.{_<_, _^_};
 ghost use Rattle.definition.specs.Field.{Layout, sheetBits};
@@ -52,11 +53,11 @@ pub fn variable_time_at(sheet: &[u8], at: usize) -> TimeRead
     requires { ⌜ at < 2 ^ 31 ⌝ }
     ensures { λ r. ⌜ asTimeRead r ≡ variableLayout .read (sheetBits (now (sheet .entry))) at ⌝ }
 {
-    let first = field::take_at(sheet, at, 2);
+    let first = field::take_at(sheet, at, width::EVENT);
     let Taken::Value(event, after_event) = first else {
         return TimeRead::refused(first);
     };
-    let second = field::take_at(sheet, after_event, 16);
+    let second = field::take_at(sheet, after_event, width::OFFSET);
     let Taken::Value(offset, next) = second else {
         return TimeRead::refused(second);
     };
@@ -68,7 +69,7 @@ pub fn time_at(sheet: &[u8], at: usize) -> TimeRead
     requires { ⌜ at < 2 ^ 30 ⌝ }
     ensures { λ r. ⌜ asTimeRead r ≡ time .read (sheetBits (now (sheet .entry))) at ⌝ }
 {
-    let tag = field::take_at(sheet, at, 1);
+    let tag = field::take_at(sheet, at, width::FLAG);
     let Taken::Value(which, body) = tag else {
         return TimeRead::refused(tag);
     };
@@ -83,14 +84,14 @@ fn repeats_at(sheet: &[u8], at: usize) -> Taken
     requires { ⌜ at < 2 ^ 31 ⌝ }
     ensures { λ r. ⌜ asRepeats r ≡ repeatsLayout .read (sheetBits (now (sheet .entry))) at ⌝ }
 {
-    let flag = field::take_at(sheet, at, 1);
+    let flag = field::take_at(sheet, at, width::FLAG);
     let Taken::Value(set, body) = flag else {
         return flag;
     };
     if set == 0 {
         return Taken::Value(0, body);
     }
-    let field = field::take_at(sheet, body, 12);
+    let field = field::take_at(sheet, body, width::REPEATS);
     let Taken::Value(minutes, next) = field else {
         return field;
     };
@@ -131,7 +132,7 @@ pub fn span_at(sheet: &[u8], at: usize) -> SpanRead
     let TimeRead::Time(end, after_end) = second else {
         return SpanRead::refused_time(second);
     };
-    let third = field::take_at(sheet, after_end, 1);
+    let third = field::take_at(sheet, after_end, width::FLAG);
     let Taken::Value(open_end, after_open_end) = third else {
         return SpanRead::refused(third);
     };

@@ -1,6 +1,6 @@
 // The items of days.
 use crate::put::put_three;
-use crate::width;
+use field::width;
 ghost use Prim.Native.Nat.{_<_};
 ghost use lib.ListN.{length};
 ghost use Rattle.definition.specs.Field.{Layout};
@@ -42,7 +42,7 @@ pub fn put_months(out: &mut [u8], at: usize, start: u64, end: u64) -> usize
     put_three(
         out,
         at,
-        width::MONTHDAY_TAG,
+        width::CHOICE,
         0,
         width::MONTH,
         start,
@@ -78,7 +78,7 @@ pub fn put_weekdays(out: &mut [u8], at: usize, start: u64, end: u64) -> usize
     let offset_at = put_three(
         out,
         at,
-        width::WEEKDAY_TAG,
+        width::FLAG,
         0,
         width::WEEKDAY,
         start,

@@ -3,4 +3,3 @@
 pub mod day;
 pub mod put;
 pub mod time;
-pub mod width;

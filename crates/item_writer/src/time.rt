@@ -1,7 +1,7 @@
 // Times and spans, from their numbers.
 use crate::put::put;
 use crate::put::put_three;
-use crate::width;
+use field::width;
 ghost use mathlib.Core.Path.{_≡_};
 ghost use mathlib.Core.Bool.{true};
 ghost use lib.ListN.{length};
@@ -17,13 +17,13 @@ pub fn put_time(out: &mut [u8], at: usize, number: u64) -> usize
     ensures { λ r. ⌜ Wrote (now (out .entry)) at (time .write (timeAt number)) (now (out .exit)) r ⌝ }
 {
     if number < 262144 {
-        let minutes_at = put(out, at, width::TIME_TAG, 0);
+        let minutes_at = put(out, at, width::FLAG, 0);
         return put(out, minutes_at, width::MINUTES, number);
     }
     put_three(
         out,
         at,
-        width::TIME_TAG,
+        width::FLAG,
         1,
         width::EVENT,
         (number - 262144) / 65536,

@@ -1,5 +1,5 @@
 // How many bits items, rows, spans and a whole rule take, before anything is written: the lengths of what `rule_writer` writes.
-use item_writer::width;
+use field::width;
 use rule_writer::row::size;
 ghost use mathlib.Core.Path.{_≡_};
 ghost use mathlib.Core.List.{List, flatMap};
@@ -18,15 +18,10 @@ fn item_bits(sort: usize) -> usize
 {
     match sort {
         0 => width::YEAR + width::YEAR + width::YEAR_STEP,
-        1 => width::MONTHDAY_TAG + width::MONTH + width::MONTH,
+        1 => width::CHOICE + width::MONTH + width::MONTH,
         2 => width::WEEK + width::WEEK + width::WEEK_STEP,
         _ => {
-            width::WEEKDAY_TAG
-                + width::WEEKDAY
-                + width::WEEKDAY
-                + width::OFFSET
-                + width::NTH
-                + width::NTH
+            width::FLAG + width::WEEKDAY + width::WEEKDAY + width::OFFSET + width::NTH + width::NTH
         }
     }
 }
@@ -47,9 +42,9 @@ fn time_bits(number: u64) -> usize
     ensures { λ r. ⌜ (length (time .write (timeAt number)) ≡ r) × (r ≤ 19) ⌝ }
 {
     if number < 262144 {
-        width::TIME_TAG + width::MINUTES
+        width::FLAG + width::MINUTES
     } else {
-        width::TIME_TAG + width::EVENT + width::OFFSET
+        width::FLAG + width::EVENT + width::OFFSET
     }
 }
 
@@ -85,6 +80,5 @@ pub fn rule_bits(counts: &[u16], spans: &[u64], first: usize, many: usize) -> us
 {
     let rows = rows_bits(counts, 0);
     let times = spans_bits(spans, first, many);
-    let title = width::OPERATOR + width::KIND + width::COMMENT;
-    title + 5 * width::ITEM_COUNT + rows + times
+    width::HEAD + rows + times
 }

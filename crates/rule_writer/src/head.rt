@@ -1,8 +1,8 @@
 // A rule's head: operator and state, and five counts.
 use crate::row::wide;
+use field::width;
 use item_writer::put::put;
 use item_writer::put::put_three;
-use item_writer::width;
 ghost use mathlib.Core.Path.{_≡_};
 ghost use Prim.Native.Nat.{ℕ, _≤_, _<_, _^_};
 ghost use lib.ListN.{length, getD};
@@ -27,9 +27,9 @@ pub fn put_title(out: &mut [u8], at: usize, operator: u64, state: u64) -> usize
     put_three(
         out,
         at,
-        width::OPERATOR,
+        width::CHOICE,
         operator,
-        width::KIND,
+        width::CHOICE,
         wide8(span_number::kind_of(state)),
         width::COMMENT,
         state % 65536,

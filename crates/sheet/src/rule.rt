@@ -1,6 +1,7 @@
 // A rule's head and its end: operator, kind and comment; the five counts; and the items behind them.
 use crate::end::Step;
 use field::Taken;
+use field::width;
 ghost use mathlib.Core.Path.{_≡_};
 ghost use Prim.Native.Nat.{_≤_, _<_, _^_};
 ghost use Rattle.definition.specs.Field.{Layout, sheetBits};
@@ -58,7 +59,7 @@ pub fn title_at(sheet: &[u8], at: usize) -> TitleRead
     let Taken::Value(kind, after_kind) = second else {
         return TitleRead::refused(second);
     };
-    let third = field::take_at(sheet, after_kind, 16);
+    let third = field::take_at(sheet, after_kind, width::COMMENT);
     let Taken::Value(comment, next) = third else {
         return TitleRead::refused(third);
     };

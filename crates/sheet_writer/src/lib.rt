@@ -1,6 +1,6 @@
 // A whole sheet's frame: the rule count in front of the rules, and zero bits to the byte's end behind them.
+use field::width;
 use item_writer::put::put;
-use item_writer::width;
 ghost use mathlib.Core.Path.{_≡_};
 ghost use Prim.Native.Nat.{_*_, _≤_, _<_, _^_};
 ghost use lib.ListN.{length};

@@ -18,5 +18,5 @@ returns c =
 pub rule-bits-spec : {M : Type 1} → statement M
 rule-bits-spec =
     tie.close
-    (tie.spec (λ c κs. let pre = c .before .before .pre .0 in (pre .0, pre .1, omega arith)) (λ c κs. c .before .before .before .pre .1) (λ c. search needs) (λ c. search needs) (λ c. search needs)
-    (λ c. search needs) (λ c. omega (arith, c .before .rows-bits .ensures .1)) (λ c. omega (arith, c .before .rows-bits .ensures .1, c .spans-bits .ensures .1, c .before .before .before .before .pre .1 .1)) returns)
+    (tie.spec (λ c κs. let pre = c .before .before .pre .0 in (pre .0, pre .1, omega arith)) (λ c κs. c .before .before .before .pre .1)
+    (λ c. omega (arith, c .before .rows-bits .ensures .1)) (λ c. omega (arith, c .before .rows-bits .ensures .1, c .spans-bits .ensures .1, c .before .before .before .before .pre .1 .1)) returns)
