@@ -47,7 +47,7 @@ flat-end (r ∷ R) zero h = refl
 flat-end (r ∷ R) (suc k) h = let z : 2 * suc k + 1 ≡ suc (suc (2 * k + 1)) = omega arith in ap (λ j. getD (flat (r ∷ R)) j 0) z ∙ flat-end R k (omega arith)
 
 -- a list, by what stands at each place
-map-from : {A : Type 0} (f : ℕ → A) (d : A) (xs : List A) (s : ℕ) → ((k : ℕ) → k < length xs → f (s + k) ≡ getD xs k d) → map f (from s (length xs)) ≡ xs
+pub map-from : {A : Type 0} (f : ℕ → A) (d : A) (xs : List A) (s : ℕ) → ((k : ℕ) → k < length xs → f (s + k) ≡ getD xs k d) → map f (from s (length xs)) ≡ xs
 unfolding from
 map-from f d [] s h = refl
 map-from f d (x ∷ xs) s h =

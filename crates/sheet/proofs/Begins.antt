@@ -24,7 +24,7 @@ use Rattle.sheet.specs.End.{ends}
 use Rattle.sheet.specs.Rules.{ruleEnds, noted, begun, checked, rulesAt}
 use Rattle.sheet.specs.Begin.{noRule, ruleOf, ruleAt, Readable}
 use Rattle.sheet.proofs.RuleRows.{noted-goes}
-use Rattle.sheet.proofs.Whole.{count-begun, count-low}
+use Rattle.sheet.proofs.Whole.{count-begun, none-begun, count-low}
 
 -- the i-th of some rules that end at q begins at p
 pub record Begins (s : List ℕ) (q : ℕ) (rs : List Rule) (i p : ℕ) : Type 0 where
@@ -52,6 +52,16 @@ noted-before s (suc n) i p begins k l = go (ruleEnds s p) refl (λ q bs. noted-b
         → getD (noted s (suc n) i p begins) k 0 ≡ getD begins k 0
     go (got u q) h ih = rw (h, noted) (ih q (set begins i p) ∙ other)
     go (refused c q) h ih = rw (h, noted) other
+
+-- and as many places as there were
+noted-length : (s : List ℕ) (n i p : ℕ) (begins : List ℕ) → length (noted s n i p begins) ≡ length begins
+unfolding noted
+noted-length s zero i p begins = refl
+noted-length s (suc n) i p begins = go (ruleEnds s p) refl (λ q bs. noted-length s n (i + 1) q bs)
+  where
+    go : (w : Read (Unit {0})) → ruleEnds s p ≡ w → ((q : ℕ) (bs : List ℕ) → length (noted s n (i + 1) q bs) ≡ length bs) → length (noted s (suc n) i p begins) ≡ length begins
+    go (got u q) h ih = rw (h, noted) (ih q (set begins i p) ∙ length-set begins i p)
+    go (refused c q) h ih = rw (h, noted) (length-set begins i p)
 
 module _ (s : List ℕ) (bits : Bits s) (q : ℕ) where
   -- the rule noted first, and one that is noted later
@@ -106,6 +116,13 @@ ended-got {A} s x y q e h = first (firstSet (take (8 * bytesFor q - q) (drop q s
     first (some p) f = clash badEnd p y e (rw (f, ended) at h)
     first none f = second f (ltb (8 * bytesFor q) (length s)) refl
 
+pub begun-length : (sheet begins : List ℕ) → length (begun sheet begins) ≡ length begins
+begun-length sheet begins = go ((counted (form1 .ruleCount) (limits1 .rules)) .read (sheetBits sheet) 0) refl
+  where
+    go : (w : Read ℕ) → (counted (form1 .ruleCount) (limits1 .rules)) .read (sheetBits sheet) 0 ≡ w → length (begun sheet begins) ≡ length begins
+    go (got n q) e = ap length (count-begun sheet n q e begins) ∙ noted-length (sheetBits sheet) n 0 q begins
+    go (refused c q) e = ap length (none-begun sheet c q e begins)
+
 module _ (sheet : List ℕ) (rs : List Rule) (q : ℕ) where
   -- a count of rules, and as many rules
   decode-parts : decode form1 limits1 sheet ≡ got rs q
@@ -117,6 +134,14 @@ module _ (sheet : List ℕ) (rs : List Rule) (q : ℕ) where
           → (rules form1 limits1) .read (sheetBits sheet) 0 ≡ got rs q
       go (refused c p) h g = clash c p rs q g
       go (got x j) h g = h ∙ ended-got (sheetBits sheet) x rs j q g
+
+  -- they keep the limit
+  pub rules-few : Bytes sheet → decode form1 limits1 sheet ≡ got rs q → length rs ≤ limits1 .rules
+  unfolding several
+  rules-few b e =
+      let w = decode-parts e in
+      let long = several-faithful (rule-faithful form1 limits1) (w .0) .written (sheetBits sheet) (sheet-bits sheet b) (w .1) rs q (w .3) .0 in
+      omega (arith, long, count-low sheet b (w .0) (w .1) (w .2) .0)
 
   -- WHERE RULES BEGIN
   pub rules-begin : Bytes sheet → decode form1 limits1 sheet ≡ got rs q → (begins : List ℕ) → 64 ≤ length begins
