@@ -1,0 +1,4 @@
+pub mod Writing
+pub mod Text
+pub mod Enough
+pub mod Rules

@@ -1,0 +1,75 @@
+-- FROM PAGES TO RULES: a page's items, over the day that its value numbers, are the definition's rules of the group. A row's first and last
+-- cuts are its dimension's bounds. Rests on the law from popped groups to pages.
+-- Assumes nothing.
+use mathlib.Core.Path.{_≡_, sym, ap, ap₂, _∙_}
+use mathlib.Core.List.{List, [], _∷_, map, flatMap, head-eq-of-cons-eq}
+use Prim.Native.Nat.{ℕ, zero, suc, _-_}
+use native.Mathlib.Omega.{arith}
+use lib.Dec.{eqb}
+use lib.ListN.{length, getD}
+use Rattle.laws.specs.Lists.{from}
+use Rattle.laws.proofs.Lists.{All-map}
+use Rattle.laws.proofs.Numbers.{length-from}
+use Rattle.laws.proofs.Spread.{flatMap-map}
+use Rattle.grid.specs.Group.{Set, Group}
+use Rattle.grid.specs.Cut.{joined}
+use Rattle.grid.proofs.Part.{Part, groups-part}
+use Rattle.definition.specs.Rule.{Rule}
+use Rattle.definition.specs.Point.{Dimension, yearDimension, monthDimension, weekDimension, weekdayDimension, dimensions}
+use Rattle.definition.specs.Day.{Day}
+use Rattle.definition.specs.Group.{itemsOf, laidOver, asRules, rulesOf, pages, folded}
+use Rattle.paving.specs.Grid.{axes, grid}
+use Rattle.paving.specs.Sweep.{classesFrom, groupsFrom}
+use Rattle.paving_update.specs.Update.{cutOf}
+use Rattle.paving_cuts.specs.Rules.{CutBy}
+use Rattle.paving_points.specs.Paged.{intervalAt, runsOf, pageOf}
+use Rattle.paving_points.proofs.Boxes.{Bounded, cuts-points}
+use Rattle.paving_pages.specs.Pages.{sortItems, pageItems}
+use Rattle.paving_pages.specs.Sorts.{sorts, overSorts, groupRules}
+
+-- ## A row's ends
+from-same : (a m c n : ℕ) → from a m ≡ from c (suc n) → (a ≡ c) × (m ≡ suc n)
+unfolding from
+from-same a zero c n e = let z : 0 ≡ suc n = ap length e ∙ length-from c (suc n) in absurd (omega arith)
+from-same a (suc m) c n e = (head-eq-of-cons-eq e, omega (arith, ap length e, length-from (suc a) m, length-from (suc c) n))
+
+module _ (rows sizes table : List ℕ) (rs : List Rule) where
+  row-ends : (d : Dimension) (ds : List Dimension) → CutBy rows sizes table rs (d ∷ ds) → Bounded rs (d ∷ ds)
+      → (cutOf rows table (length ds) 0 ≡ d .bounds .0) × (cutOf rows table (length ds) (getD sizes (length ds) 0) ≡ d .bounds .1)
+  row-ends d ds c b =
+      let low = d .bounds .0 in
+      let high = d .bounds .1 in
+      let q : high - low ≡ suc (high - suc low) = omega (arith, b .0 .0) in
+      let same = from-same _ _ low (high - suc low) (head-eq-of-cons-eq (cuts-points rows sizes table rs (d ∷ ds) c b) ∙ ap (from low) q) in
+      (same .0, omega (arith, same .0, same .1, b .0 .0))
+
+  -- the items of a dimension's runs
+  sort-items : (d : Dimension) (ds : List Dimension) → CutBy rows sizes table rs (d ∷ ds) → Bounded rs (d ∷ ds) → (E : List ℕ)
+      → itemsOf (d .bounds) (joined (map (intervalAt (cutOf rows table (length ds))) E)) ≡ sortItems rows table sizes (length ds) E
+  unfolding sortItems cutOf
+  sort-items d ds c b E =
+      let e = row-ends d ds c b in
+      ap₂ (λ low high. itemsOf (low, high) (joined (map (intervalAt (cutOf rows table (length ds))) E))) (sym (e .0)) (sym (e .1))
+
+  module _ (dayOf : ℕ → Day) (c : CutBy rows sizes table rs dimensions) (b : Bounded rs dimensions) where
+    set-rules : (v : ℕ) (S : Set ℕ) → Part (axes sizes 4) S → rulesOf (pageOf dayOf (cutOf rows table) 4 (v, S)) ≡ groupRules rows table sizes dayOf (v, S)
+    unfolding axes runsOf rulesOf laidOver pageItems overSorts groupRules
+    set-rules v [] p = absurd p
+    set-rules v (D ∷ []) p = absurd (p .1)
+    set-rules v (D ∷ W ∷ []) p = absurd (p .1 .1)
+    set-rules v (D ∷ W ∷ M ∷ []) p = absurd (p .1 .1 .1)
+    set-rules v (D ∷ W ∷ M ∷ Y ∷ []) p =
+        ap₂ (λ Ys Ms. map (λ r. overSorts sorts (Ys ∷ Ms ∷ itemsOf (weekDimension .bounds) (joined (map (intervalAt (cutOf rows table 2)) W)) ∷ itemsOf (weekdayDimension .bounds) (joined (map (intervalAt (cutOf rows table 3)) D)) ∷ []) r) (asRules (dayOf v)))
+        (sort-items yearDimension [] (c .1 .1 .1) (b .1 .1 .1) Y) (sort-items monthDimension (yearDimension ∷ []) (c .1 .1) (b .1 .1) M)
+        ∙ ap₂ (λ Ws Ds. map (λ r. overSorts sorts (sortItems rows table sizes 0 Y ∷ sortItems rows table sizes 1 M ∷ Ws ∷ Ds ∷ []) r) (asRules (dayOf v)))
+        (sort-items weekDimension (monthDimension ∷ yearDimension ∷ []) (c .1) (b .1) W) (sort-items weekdayDimension (weekDimension ∷ monthDimension ∷ yearDimension ∷ []) c b D)
+    set-rules v (D ∷ W ∷ M ∷ Y ∷ X ∷ S) p = absurd (p .1 .1 .1 .1)
+
+    -- THE FOLDED RULES are those of the pages' items, page after page, where the definition's pages are the popped groups
+    pub rules-paged : (cells kinds : List ℕ) → pages rs ≡ map (pageOf dayOf (cutOf rows table) 4) (groupsFrom cells kinds sizes 5 1 4)
+        → folded rs ≡ flatMap (groupRules rows table sizes dayOf) (groupsFrom cells kinds sizes 5 1 4)
+    unfolding folded groupsFrom
+    rules-paged cells kinds e =
+        ap (flatMap rulesOf) e
+        ∙ flatMap-map rulesOf (groupRules rows table sizes dayOf) (pageOf dayOf (cutOf rows table) 4) (groupsFrom cells kinds sizes 5 1 4)
+        (All-map (λ g p. set-rules (g .0) (g .1) p) (groupsFrom cells kinds sizes 5 1 4) (groups-part eqb eqb 0 (axes sizes 4) (classesFrom kinds 5 1) (grid cells sizes 4 0)))

@@ -1,0 +1,123 @@
+-- What each way out of the writing shows, in plain terms: the sorts of a page one after the other, and a page. Rests on the laws of texts
+-- laid over a buffer.
+-- Assumes nothing.
+use mathlib.Core.Path.{_≡_, refl, sym, ap, ap₂, _∙_}
+use mathlib.Core.List.{List, [], _∷_, _++_, map, flatMap, append-nil, append-assoc, map-append}
+use Prim.Native.Nat.{ℕ, zero, suc, _+_, _*_, _≤_, _<_}
+use native.Mathlib.Omega.{arith}
+use lib.ListN.{length, getD, set, length-append, length-map}
+use lib.Seq.{sets}
+use Rattle.definition.specs.Range.{Ends}
+use Rattle.words.proofs.Sets.{sets-next, sets-append, sets-set}
+use Rattle.paving.specs.Grid.{widthOf, marksFrom, chosen}
+use Rattle.runs.specs.Runs.{Cuts, numbers, itemsAt}
+use Rattle.paving_pages.specs.Pages.{CutRows, sortItems, pageItems, endNumbers, pageNumbers, laidItems, state, groupNumbers, putPage}
+
+-- ## A sort more
+numbers-length : (es : List Ends) → length (numbers es) ≡ 2 * length es
+unfolding numbers
+numbers-length [] = refl
+numbers-length (e ∷ es) = omega (arith, numbers-length es)
+
+pub spread-append : {A : Type 0} (f : A → List ℕ) (xs ys : List A) → flatMap f (xs ++ ys) ≡ flatMap f xs ++ flatMap f ys
+unfolding flatMap
+spread-append f [] ys = refl
+spread-append f (x ∷ xs) ys = ap (f x ++_) (spread-append f xs ys) ∙ sym (append-assoc (f x) (flatMap f xs) (flatMap f ys))
+
+last-numbers : (Es : List (List Ends)) (F : List Ends) → endNumbers (Es ++ (F ∷ [])) ≡ endNumbers Es ++ numbers F
+unfolding endNumbers flatMap
+last-numbers Es F = spread-append numbers Es (F ∷ []) ∙ ap (flatMap numbers Es ++_) (append-nil (numbers F))
+
+pub last-length : (Es : List (List Ends)) (F : List Ends) → length (endNumbers (Es ++ (F ∷ []))) ≡ length (endNumbers Es) + 2 * length F
+last-length Es F = ap length (last-numbers Es F) ∙ length-append (endNumbers Es) (numbers F) ∙ ap (length (endNumbers Es) +_) (numbers-length F)
+
+-- its items behind the others', then its count behind theirs
+last-laid : (text : List ℕ) (counts next : ℕ) (Es : List (List Ends)) (F : List Ends) → counts + length Es < next
+    → set (sets (laidItems text counts next Es) (next + length (endNumbers Es)) (numbers F)) (counts + length Es) (length F) ≡ laidItems text counts next (Es ++ (F ∷ []))
+unfolding laidItems
+last-laid text counts next Es F h =
+    let before : List ℕ = sets text counts (map length Es) in
+    ap (λ t. set t (counts + length Es) (length F)) (sym (sets-append before next (endNumbers Es) (numbers F)) ∙ ap (sets before next) (sym (last-numbers Es F)))
+    ∙ sym (sets-set before (counts + length Es) (length F) next (endNumbers (Es ++ (F ∷ []))) h)
+    ∙ ap (λ k. sets (set before (counts + k) (length F)) next (endNumbers (Es ++ (F ∷ [])))) (sym (length-map Es length))
+    ∙ ap (λ t. sets t next (endNumbers (Es ++ (F ∷ [])))) (sym (sets-append text counts (map length Es) (length F ∷ [])))
+    ∙ ap (λ ns. sets (sets text counts ns) next (endNumbers (Es ++ (F ∷ [])))) (sym (map-append length Es (F ∷ [])))
+
+-- ## A dimension fewer
+module _ (rows cuts sizes : List ℕ) (left i n : ℕ) (el : left ≡ suc i) (en : n ≡ getD sizes i 0) where
+  pub width-step : widthOf sizes left ≡ n + widthOf sizes i
+  unfolding widthOf
+  width-step = rw (el, en)
+
+  pub rows-fewer : CutRows rows cuts sizes left → CutRows rows cuts sizes i
+  rows-fewer r =
+      let a = r .all-rows in
+      let b = r .all-sizes in
+      record { all-rows = omega arith; all-sizes = omega arith; row = λ j h. r .row j (omega arith) }
+
+  pub row-cuts : (row : ℕ) → row ≡ getD rows i 0 → CutRows rows cuts sizes left → Cuts cuts row n
+  row-cuts row er r = rw (en, er) (r .row i (omega arith))
+
+-- ## The sorts of a set
+module _ (rows cuts sizes marks : List ℕ) where
+  -- the items of the marked intervals of l dimensions
+  abbrev items : ℕ → ℕ → List (List Ends)
+  items l base = pageItems rows cuts sizes l (chosen marks sizes l base)
+
+  pub items-length : (l base : ℕ) → length (items l base) ≡ l
+  unfolding chosen pageItems
+  items-length zero base = refl
+  items-length (suc i) base =
+      let F = sortItems rows cuts sizes i (marksFrom marks base (getD sizes i 0) 0) in
+      omega (arith, length-append (items i (base + getD sizes i 0)) (F ∷ []), items-length i (base + getD sizes i 0))
+
+  module _ (left i base n row : ℕ) (el : left ≡ suc i) (en : n ≡ getD sizes i 0) (er : row ≡ getD rows i 0) where
+    pub sorts-step : items left base ≡ items i (base + n) ++ (itemsAt marks base n cuts row ∷ [])
+    unfolding chosen pageItems sortItems
+    sorts-step = rw (el, en, er)
+
+    pub numbers-step : length (endNumbers (items left base)) ≡ length (endNumbers (items i (base + n))) + 2 * length (itemsAt marks base n cuts row)
+    numbers-step = ap (λ Es. length (endNumbers Es)) sorts-step ∙ last-length (items i (base + n)) (itemsAt marks base n cuts row)
+
+    pub sorts-more : (counts next then many : ℕ) (text text₁ text₂ : List ℕ) → counts + left ≤ next
+        → (then ≡ next + length (endNumbers (items i (base + n)))) × (text₁ ≡ laidItems text counts next (items i (base + n)))
+        → (many ≡ length (itemsAt marks base n cuts row)) × (text₂ ≡ sets text₁ then (numbers (itemsAt marks base n cuts row)))
+        → (then + 2 * many ≡ next + length (endNumbers (items left base))) × (set text₂ (counts + i) many ≡ laidItems text counts next (items left base))
+    sorts-more counts next then many text text₁ text₂ h below last =
+        let F : List Ends = itemsAt marks base n cuts row in
+        let Es : List (List Ends) = items i (base + n) in
+        let long : length Es ≡ i = items-length i (base + n) in (
+          omega (arith, below .0, last .0, numbers-step),
+          ap₂ (λ t m. set t (counts + i) m) (last .1 ∙ ap₂ (λ t k. sets t k (numbers F)) (below .1) (below .0)) (last .0)
+              ∙ ap (λ k. set (sets (laidItems text counts next Es) (next + length (endNumbers Es)) (numbers F)) (counts + k) (length F)) (sym long)
+              ∙ last-laid text counts next Es F (omega (arith, long)) ∙ ap (laidItems text counts next) (sym sorts-step),
+        )
+
+  pub sorts-none : (left base counts next : ℕ) (text : List ℕ) → left ≡ 0 → (next ≡ next + length (endNumbers (items left base))) × (text ≡ laidItems text counts next (items left base))
+  unfolding chosen pageItems endNumbers laidItems flatMap
+  sorts-none left base counts next text e = rw e (omega arith, refl)
+
+  -- ## A page
+  module _ (value at left : ℕ) where
+    page-numbers : length (groupNumbers rows cuts sizes left (value, chosen marks sizes left 0)) ≡ 1 + left + length (endNumbers (items left 0))
+    unfolding groupNumbers pageNumbers
+    page-numbers =
+        omega (arith, length-append (map length (items left 0)) (endNumbers (items left 0)), length-map (items left 0) length, items-length left 0)
+
+    pub page-room : (size : ℕ) → at + length (groupNumbers rows cuts sizes left (value, chosen marks sizes left 0)) ≤ size
+        → at + 1 + left + length (endNumbers (items left 0)) ≤ size
+    page-room size h = omega (arith, page-numbers)
+
+    page-laid : (text : List ℕ) → laidItems (set text at value) (at + 1) (at + 1 + left) (items left 0) ≡ sets text at (groupNumbers rows cuts sizes left (value, chosen marks sizes left 0))
+    unfolding laidItems groupNumbers pageNumbers
+    page-laid text =
+        let ns : List ℕ = map length (items left 0) in
+        let long : left ≡ length ns = sym (length-map (items left 0) length ∙ items-length left 0) in
+        ap (λ k. sets (sets (set text at value) (at + 1) ns) (at + 1 + k) (endNumbers (items left 0))) long
+        ∙ sym (sets-append (set text at value) (at + 1) ns (endNumbers (items left 0))) ∙ sets-next text at value (ns ++ endNumbers (items left 0))
+
+    pub put-page : (r : ℕ) (text after : List ℕ)
+        → (r ≡ at + 1 + left + length (endNumbers (items left 0))) × (after ≡ laidItems (set text at value) (at + 1) (at + 1 + left) (items left 0))
+        → state after r ≡ putPage rows cuts sizes left (state text at) (value, chosen marks sizes left 0)
+    unfolding putPage
+    put-page r text after p = ap₂ state (p .1 ∙ page-laid text) (omega (arith, p .0, page-numbers))

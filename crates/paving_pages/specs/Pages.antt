@@ -1,0 +1,63 @@
+-- Groups as pages of numbers: the value, how many items each sort has, then the items' first and last values, sort after sort. Sorts count
+-- from years; dimensions go from weekdays, so that the first dimension is the last sort.
+-- Assumes nothing.
+use mathlib.Core.List.{List, [], _∷_, _++_, map, flatMap}
+use Prim.Native.Nat.{ℕ, zero, suc, _+_, _≤_, _<_}
+use lib.ListN.{length, getD}
+use lib.Seq.{sets}
+use Rattle.grid.specs.Group.{Set, Group}
+use Rattle.grid.specs.Cut.{joined}
+use Rattle.definition.specs.Range.{Ends}
+use Rattle.definition.specs.Group.{itemsOf}
+use Rattle.runs.specs.Runs.{intervalAt, cutOf, Cuts, numbers}
+
+-- l dimensions whose rows of cuts are all there
+pub record CutRows (rows cuts sizes : List ℕ) (l : ℕ) : Type 0 where
+  pub all-rows : l ≤ length rows
+  pub all-sizes : l ≤ length sizes
+  pub row : (i : ℕ) → i < l → Cuts cuts (getD rows i 0) (getD sizes i 0)
+
+-- ## Items by sort
+module _ (rows cuts sizes : List ℕ) where
+  -- the items of some intervals of a dimension
+  unfoldable pub sortItems : ℕ → List ℕ → List Ends
+  sortItems i E =
+      itemsOf (cutOf cuts (getD rows i 0) 0, cutOf cuts (getD rows i 0) (getD sizes i 0)) (joined (map (intervalAt (cutOf cuts (getD rows i 0))) E))
+
+  -- the items of a set of l dimensions, years first
+  unfoldable pub pageItems : ℕ → Set ℕ → List (List Ends)
+  pageItems zero S = []
+  pageItems (suc i) [] = []
+  pageItems (suc i) (E ∷ S) = pageItems i S ++ (sortItems i E ∷ [])
+
+-- items as numbers, and a page's numbers
+unfoldable pub endNumbers : List (List Ends) → List ℕ
+endNumbers Es = flatMap numbers Es
+
+unfoldable pub pageNumbers : ℕ → List (List Ends) → List ℕ
+pageNumbers v Es = v ∷ map length Es ++ endNumbers Es
+
+-- the counts laid from a place on, the items from another
+unfoldable pub laidItems : List ℕ → ℕ → ℕ → List (List Ends) → List ℕ
+laidItems text counts next Es = sets (sets text counts (map length Es)) next (endNumbers Es)
+
+-- ## Pages
+-- a text and the place of the next page
+pub record State : Type 0 where
+  pub text : List ℕ
+  pub next : ℕ
+
+abbrev pub state : List ℕ → ℕ → State
+state text next = record { text = text; next = next }
+
+module _ (rows cuts sizes : List ℕ) (l : ℕ) where
+  -- the numbers of a group, and of some
+  unfoldable pub groupNumbers : Group ℕ ℕ → List ℕ
+  groupNumbers g = pageNumbers (g .0) (pageItems rows cuts sizes l (g .1))
+
+  unfoldable pub groupsNumbers : List (Group ℕ ℕ) → List ℕ
+  groupsNumbers gs = flatMap groupNumbers gs
+
+  -- a page more
+  unfoldable pub putPage : State → Group ℕ ℕ → State
+  putPage s g = state (sets (s .text) (s .next) (groupNumbers g)) (s .next + length (groupNumbers g))
