@@ -1,3 +1,0 @@
-pub mod Stepping
-pub mod Standing
-pub mod Lawful
