@@ -4,15 +4,14 @@ use mathlib.Core.Path.{_≡_, refl, sym, ap, ap₂, _∙_, subst}
 use mathlib.Core.List.{List, [], _∷_, _++_, map}
 use Prim.Native.Nat.{ℕ, zero, suc, _+_, _-_, _*_, _≤_, _<_, _^_}
 use native.Mathlib.Omega.{arith}
-use lib.ListN.{length, take, drop, getD, length-map, length-append}
+use lib.ListN.{length, take, drop, getD}
 use lib.Seq.{drop-cons}
 use Rattle.laws.specs.Lists.{All}
-use Rattle.definition.specs.Rule.{Kind, Open, Closed, Unknown, kindNumber, State, Span}
+use Rattle.definition.specs.Rule.{Kind, Open, Closed, Unknown, kindNumber, Span}
 use Rattle.definition.specs.Day.{Day}
 use Rattle.span_number.specs.Number.{stateNumber, stateAt, spanNumber, spanAt}
 use Rattle.span_number.proofs.Numbers.{state-number}
 use Rattle.words.specs.Words.{part, entryWords}
-use Rattle.words.proofs.Sets.{length-part}
 use Rattle.day_words.specs.Day.{flat, unflatFrom, unflat}
 use Rattle.rule_writer.specs.Rows.{spansAt}
 use Rattle.rule_writer.proofs.Rows.{spans-length}

@@ -7,7 +7,6 @@ use Prim.Native.Nat.{ℕ, suc, _+_, _-_}
 use native.Mathlib.Omega.{arith}
 use lib.ListN.{length, getD, length-append}
 use Rattle.grid.specs.Cut.{Range}
-use Rattle.definition.specs.Field.{Layout}
 use Rattle.definition.specs.Rule.{Normal, Additional, Rule}
 use Rattle.definition.specs.Range.{Ends}
 use Rattle.definition.specs.Point.{dimensions}

@@ -189,8 +189,3 @@ span-order s t h k =
 
 pub number-order : (m n : ℕ) → notAbove (spanKey (spanAt m)) (spanKey (spanAt n)) ≡ leb m n
 number-order m n = span-order (spanAt m) (spanAt n) (numbered-at m) (numbered-at n) ∙ ap₂ leb (span-number m) (span-number n)
-
-pub same-spans : (m n : ℕ) → sameSpan (spanAt m) (spanAt n) ≡ eqb m n
-same-spans m n = same-flag _ _
-    (λ h. eq-eqb m n (sym (span-number m) ∙ ap spanNumber (exact-span .equal (spanAt m) (spanAt n) h) ∙ span-number n))
-    (λ h. rw (eqb-true m n h) (exact-span .self (spanAt n)))
