@@ -11,7 +11,7 @@ use Rattle.laws.specs.Lists.{from}
 use Rattle.laws.proofs.Lists.{All-map}
 use Rattle.laws.proofs.Numbers.{length-from}
 use Rattle.laws.proofs.Spread.{flatMap-map}
-use Rattle.grid.specs.Group.{Set, Group}
+use Rattle.grid.specs.Group.{Set}
 use Rattle.grid.specs.Cut.{joined}
 use Rattle.grid.proofs.Part.{Part, groups-part}
 use Rattle.definition.specs.Rule.{Rule}
