@@ -3,9 +3,9 @@
 pub mod width;
 
 ghost use mathlib.Core.Path.{_≡_};
-ghost use Prim.Native.Nat.{ℕ, _+_, _*_, _≤_, _<_, _^_};
+ghost use Prim.Native.Nat.{_+_, _*_, _≤_, _<_, _^_};
 ghost use lib.ListN.{length};
-ghost use Rattle.definition.specs.Field.{Layout, sheetBits, fieldAt, plain, lawful, counted};
+ghost use Rattle.definition.specs.Field.{Layout, sheetBits, fieldAt, plain, counted};
 ghost use Rattle.definition.specs.Sheet.{form1, limits1, year, month, week, weekday, step, choice, minutes};
 ghost use Rattle.field.specs.Answer.{asRead};
 

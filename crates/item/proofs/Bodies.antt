@@ -3,7 +3,7 @@
 use mathlib.Core.Path.{_≡_, sym, ap, _∙_}
 use mathlib.Core.List.{List}
 use mathlib.Core.Bool.{true, false}
-use Prim.Native.Nat.{ℕ, _<_}
+use Prim.Native.Nat.{ℕ}
 use lib.Dec.{eqb}
 use Rattle.definition.specs.Field.{Read, Layout}
 use Rattle.definition.specs.Sheet.{monthsLayout, monthsOfLayout, datedLayout, monthdayOf, fixedDaysLayout, holidayLayout, weekdayOf, fixedLayout, variableLayout, timeOf}

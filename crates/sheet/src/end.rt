@@ -4,7 +4,7 @@ use item::day::Stepped;
 use item::day::WeekDay;
 use item::time::SpanRead;
 ghost use mathlib.Core.Path.{_≡_};
-ghost use Prim.Native.Nat.{_+_, _*_, _≤_, _<_, _^_};
+ghost use Prim.Native.Nat.{_≤_, _<_, _^_};
 ghost use Rattle.definition.specs.Field.{Layout, sheetBits};
 ghost use Rattle.definition.specs.Sheet.{yearRange, monthdayRange, weekRange, weekDayRange, span};
 ghost use Rattle.sheet.specs.End.{ends, asStep, itemEnds, skipAll};

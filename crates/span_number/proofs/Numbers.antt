@@ -9,8 +9,8 @@ use native.Mathlib.Omega.{arith}
 use lib.Dec.{eqb, leb, ltb}
 use borrow.Author.Tests.{ltb-true, ltb-false, lt-ltb, le-ltb, eqb-true, eqb-false, eq-eqb, ne-eqb}
 use Rattle.laws.proofs.Flags.{same-flag}
-use Rattle.definition.specs.Rule.{Kind, Open, Closed, Unknown, State, sameState, Time, fixed, variable, Span, bySize, timeKey, repeatsKey, spanKey, notAbove, sameSpan}
-use Rattle.definition.proofs.Same.{exact-state, exact-span}
+use Rattle.definition.specs.Rule.{Kind, Open, Closed, Unknown, State, sameState, Time, fixed, variable, Span, bySize, timeKey, repeatsKey, spanKey, notAbove}
+use Rattle.definition.proofs.Same.{exact-state}
 use Rattle.span_number.specs.Number.{stateNumber, stateAt, NumberedState, timeNumber, timeAt, NumberedTime, partsNumber, spanNumber, repeatsAt, spanAt, Numbered}
 use Rattle.span_number.proofs.Digits.{digit-step, not-above}
 

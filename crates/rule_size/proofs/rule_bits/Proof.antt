@@ -1,7 +1,6 @@
 -- `rule_size::rule_bits` meets its contract.
 -- Assumes nothing.
 use native.Mathlib.Omega.{arith}
-use borrow.Author.Needs.{needs}
 use Rattle.rule_size.proofs.Sizes.{rule-size}
 use Rattle.rule_size.proofs.rule_bits.Statement.{statement}
 use Rattle.rule_size.proofs.rule_bits.Tie as tie

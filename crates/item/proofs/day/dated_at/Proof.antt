@@ -1,8 +1,6 @@
 -- `item::day::dated_at` meets its contract: one field.
 -- Assumes nothing.
-use mathlib.Core.Path.{_≡_, sym}
-use Prim.Native.Nat.{_+_}
-use native.Mathlib.Omega.{arith}
+use mathlib.Core.Path.{sym}
 use borrow.Author.Needs.{needs}
 use Rattle.definition.proofs.Reading.{via-goes, via-stops}
 use Rattle.field.proofs.Taking.{took, stopped}
