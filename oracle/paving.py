@@ -4,7 +4,7 @@
 
 The rules are made from the same numbers as in crates/paving_replay/src/random.rt; cuts, lists and groups are the reference's. A list
 stands for its day. A line for each case: its boxes, the rule at which a list was too long (or the number of rules), how many numbers
-its groups have and their digest.
+its groups' pages have and their digest.
 """
 
 from __future__ import annotations
@@ -12,8 +12,8 @@ from __future__ import annotations
 from math import prod
 from typing import Iterator, NamedTuple
 
-from reference.groups import groups_of
-from reference.points import BOX_LIMIT, cuts_of, lists_of_boxes, shape_of
+from reference.groups import groups_of, runs
+from reference.points import BOX_LIMIT, DIMENSIONS, cuts_of, lists_of_boxes, shape_of
 from reference.sheet import ADDITIONAL, ALL_NTH, CLOSED, NORMAL, OPEN, UNKNOWN, Months, Refusal, Rule, Week, Weekdays, Year
 
 CASES = 400
@@ -84,21 +84,21 @@ def rules_of(case: int) -> list[Rule]:
     return [rule_of(case, number, parts) for number in range(count)]
 
 
-def group_numbers(rules: list[Rule], lists: list[tuple[int, ...]], shape: list[int]) -> Iterator[int]:
-    """Each group's value, one more than the first box with its list, then its intervals, each one higher, with a 0 for each dimension."""
+def group_numbers(rules: list[Rule], lists: list[tuple[int, ...]], cuts: list[list[int]]) -> Iterator[int]:
+    """Each group's value, one more than the first box with its list, then how many items each sort has, years first, and their ends."""
     days = [tuple(Entry(Kind(rules[rule].kind), rule) for rule in entries) for entries in lists]
-    for day, sets in groups_of(days, shape):
+    for day, sets in groups_of(days, shape_of(cuts)):
+        items = [runs(chosen, values, dimension) for chosen, values, dimension in zip(sets, cuts, DIMENSIONS)]
+        items.reverse()
         yield days.index(day) + 1
-        for intervals in sets:
-            yield from (interval + 1 for interval in intervals)
-            yield 0
+        yield from map(len, items)
+        yield from (value for sort in items for item in sort for value in item)
 
 
 def answer(case: int) -> str:
     rules = rules_of(case)
     cuts = cuts_of(rules)
-    shape = shape_of(cuts)
-    boxes = prod(shape)
+    boxes = prod(shape_of(cuts))
     if boxes > BOX_LIMIT:
         return f"{boxes} 0"
     try:
@@ -106,7 +106,7 @@ def answer(case: int) -> str:
     except Refusal as refusal:
         return f"{boxes} {refusal.place} 0"
     count, digest = 0, 1
-    for number in group_numbers(rules, lists, shape):
+    for number in group_numbers(rules, lists, cuts):
         count, digest = count + 1, (digest * 31 + number) % PRIME
     return f"{boxes} {len(rules)} {count} {digest}"
 

@@ -1,9 +1,9 @@
 -- FROM PAGES TO RULES: a page's items, over the day that its value numbers, are the definition's rules of the group. A row's first and last
--- cuts are its dimension's bounds. Rests on the law from popped groups to pages.
+-- cuts are its dimension's bounds; and rows that hold the rules' cuts are what popping requires. Rests on the law from popped groups to pages.
 -- Assumes nothing.
 use mathlib.Core.Path.{_≡_, sym, ap, ap₂, _∙_}
 use mathlib.Core.List.{List, [], _∷_, map, flatMap, head-eq-of-cons-eq}
-use Prim.Native.Nat.{ℕ, zero, suc, _-_}
+use Prim.Native.Nat.{ℕ, zero, suc, _+_, _-_, _≤_, _<_}
 use native.Mathlib.Omega.{arith}
 use lib.Dec.{eqb}
 use lib.ListN.{length, getD}
@@ -23,8 +23,8 @@ use Rattle.paving.specs.Sweep.{classesFrom, groupsFrom}
 use Rattle.paving_update.specs.Update.{cutOf}
 use Rattle.paving_cuts.specs.Rules.{CutBy}
 use Rattle.paving_points.specs.Paged.{intervalAt, runsOf, pageOf}
-use Rattle.paving_points.proofs.Boxes.{Bounded, cuts-points}
-use Rattle.paving_pages.specs.Pages.{sortItems, pageItems}
+use Rattle.paving_points.proofs.Boxes.{Bounded, cuts-rise, cuts-points}
+use Rattle.paving_pages.specs.Pages.{CutRows, sortItems, pageItems}
 use Rattle.paving_pages.specs.Sorts.{sorts, overSorts, groupRules}
 
 -- ## A row's ends
@@ -34,6 +34,16 @@ from-same a zero c n e = let z : 0 ≡ suc n = ap length e ∙ length-from c (su
 from-same a (suc m) c n e = (head-eq-of-cons-eq e, omega (arith, ap length e, length-from (suc a) m, length-from (suc c) n))
 
 module _ (rows sizes table : List ℕ) (rs : List Rule) where
+  -- the rows that hold the rules' cuts are those that popping asks for
+  pub cut-rows : (ds : List Dimension) → CutBy rows sizes table rs ds → Bounded rs ds → length ds ≤ length rows → length ds ≤ length sizes
+      → ((i : ℕ) → i < length ds → getD rows i 0 + getD sizes i 0 < length table) → CutRows rows table sizes (length ds)
+  unfolding cutOf
+  cut-rows ds c b allRows allSizes inside = record {
+    all-rows = allRows;
+    all-sizes = allSizes;
+    row = λ i h. record { inside = inside i h; rising = cuts-rise rows sizes table rs ds c b i h };
+  }
+
   row-ends : (d : Dimension) (ds : List Dimension) → CutBy rows sizes table rs (d ∷ ds) → Bounded rs (d ∷ ds)
       → (cutOf rows table (length ds) 0 ≡ d .bounds .0) × (cutOf rows table (length ds) (getD sizes (length ds) 0) ≡ d .bounds .1)
   row-ends d ds c b =

@@ -2,7 +2,7 @@
 -- Assumes nothing.
 use mathlib.Core.Path.{_≡_, refl}
 use mathlib.Core.Bool.{Bool, true, false, false≢true}
-use mathlib.Core.List.{List, [], _∷_}
+use mathlib.Core.List.{List}
 use Prim.Native.Nat.{ℕ, zero, suc, _*_, _≤_, _<_}
 use native.Mathlib.Omega.{arith}
 use lib.Dec.{eqb}
@@ -11,7 +11,7 @@ use borrow.Author.Tests.{eqb-true, eqb-false}
 use Rattle.paving.specs.Grid.{Node, Room, sizeOf, widthOf}
 use Rattle.paving_update.specs.Update.{Lawful, countOf}
 use Rattle.paving_cuts.specs.Cuts.{Space}
-use Rattle.paving_replay.specs.Shape.{Each}
+use Rattle.paving_replay.specs.Shape.{Each, rowPlaces}
 
 pub each-none : (numbers : List ℕ) (low high left : ℕ) → left ≡ 0 → Each numbers low high left
 each-none numbers low high left e = record { lies = λ k h. absurd (omega arith) }
@@ -27,9 +27,6 @@ each-more numbers low high left i e a b ih = record { lies = λ k h. go k h (eqb
     go k h false q = ih .lies k (omega (arith, eqb-false k i q))
 
 -- ## Rows
-abbrev pub rowPlaces : List ℕ
-rowPlaces = 0 ∷ 2112 ∷ 4224 ∷ 6336 ∷ []
-
 pub row-at : (i : ℕ) → i < 4 → getD {A = ℕ} rowPlaces i 0 ≡ i * 2112
 row-at zero h = refl
 row-at (suc zero) h = refl

@@ -6,7 +6,7 @@ ghost use lib.ListN.{length};
 ghost use Rattle.paving.specs.Grid.{sizeOf};
 ghost use Rattle.paving_replay.specs.Shape.{Each};
 
-const ROWS: [u16; 4] = [0, 2112, 4224, 6336];
+pub const ROWS: [u16; 4] = [0, 2112, 4224, 6336];
 
 fn ranges() -> [u16; 256]
     ensures { λ r. ⌜ 256 ≡ length r ⌝ }

@@ -1,5 +1,5 @@
 // Replays pavings: random rules are drawn over the boxes between their cuts, then every group is popped in order. A line for each
-// case: its boxes, the rule at which a list was too long (or the number of rules), the numbers written and their digest.
+// case: its boxes, the rule at which a list was too long (or the number of rules), how many numbers its groups' pages have and their digest.
 // oracle/paving.py writes the same lines by the reference; a list stands for its day.
 ghost use mathlib.Core.Path.{_≡_};
 ghost use Prim.Native.Nat.{_≤_};
@@ -9,19 +9,20 @@ ghost use Rattle.paving.specs.Grid.{sizeOf};
 mod boxes;
 mod number;
 mod random;
+mod rising;
 
 const CASES: u64 = 400;
 
 const BOXES: u64 = 1024;
 
 // A digest of some numbers from one on.
-fn digest(out: &[u16], at: usize, end: usize, sum: u64) -> u64
-    requires { ⌜ end ≤ length (now out) ⌝ }
+fn digest(text: &[u16], at: usize, end: usize, sum: u64) -> u64
+    requires { ⌜ end ≤ length (now text) ⌝ }
 {
     let mut i = at;
     let mut total = sum % 2147483647;
     while i < end {
-        total = (total * 31 + random::wide64(out[i])) % 2147483647;
+        total = (total * 31 + random::wide64(text[i])) % 2147483647;
         i += 1;
     }
     total
@@ -40,44 +41,45 @@ fn small(boxes: u64) -> usize
 }
 
 // Pops all groups, and ends the line.
-fn pop(cells: &mut [u16], kinds: &[u8], sizes: &[u16])
-    requires { ⌜ (1024 ≤ length (now cells)) × (1025 ≤ length (now kinds)) × (4 ≡ length (now sizes)) × (sizeOf (now sizes) 4 ≤ 1024) ⌝ }
+fn pop(cells: &mut [u16], kinds: &[u8], sizes: &[u16], cuts: &[u16])
+    requires { ⌜ (1024 ≤ length (now cells)) × (1025 ≤ length (now kinds)) × (4 ≡ length (now sizes)) × (8448 ≤ length (now cuts)) × (sizeOf (now sizes) 4 ≤ 1024) ⌝ }
 {
     if kinds[0] == 0 {
         if boxes::between(sizes, 1, 2047, 4) {
-            let mut marks = marks();
-            let mut out = out();
-            let end = paving_groups::pop_classes(
-                cells,
-                kinds,
-                sizes,
-                &mut marks,
-                &mut out,
-                5,
-                1,
-                4,
-                0,
-            );
-            finish(&out, end);
+            if rising::rows_rise(cuts, sizes, 4) {
+                let rows = boxes::ROWS;
+                let mut marks = marks();
+                let mut text = text();
+                let end = paving_pages::pop_pages(
+                    cells,
+                    kinds,
+                    sizes,
+                    &mut marks,
+                    &rows,
+                    cuts,
+                    &mut text,
+                );
+                finish(&text, end);
+            }
         }
     }
 }
 
-fn finish(out: &[u16], end: usize) {
+fn finish(text: &[u16], end: usize) {
     print(end as u64, b" ");
-    if end <= out.len() {
-        print(digest(out, 0, end, 1), b"\n");
+    if end <= text.len() {
+        print(digest(text, 0, end, 1), b"\n");
     }
 }
 
 // The groups of the boxes' lists.
-fn pop_lists(lists: &[u16], sizes: &[u16], case: u64, boxes: usize)
-    requires { ⌜ (33792 ≤ length (now lists)) × (4 ≡ length (now sizes)) × (sizeOf (now sizes) 4 ≤ 1024) × (boxes ≤ 1024) ⌝ }
+fn pop_lists(lists: &[u16], sizes: &[u16], cuts: &[u16], case: u64, boxes: usize)
+    requires { ⌜ (33792 ≤ length (now lists)) × (4 ≡ length (now sizes)) × (8448 ≤ length (now cuts)) × (sizeOf (now sizes) 4 ≤ 1024) × (boxes ≤ 1024) ⌝ }
 {
     let mut cells = cells();
     let mut kinds = kinds();
     number::number_boxes(lists, &mut cells, &mut kinds, case, 0, boxes);
-    pop(&mut cells, &kinds, sizes);
+    pop(&mut cells, &kinds, sizes, cuts);
 }
 
 // Lists, then groups, between the cuts.
@@ -91,7 +93,7 @@ fn fold_boxes(sizes: &[u16], cuts: &[u16], case: u64, rules: u16, boxes: usize)
         print(0, b"\n");
         return;
     }
-    pop_lists(&lists, sizes, case, boxes);
+    pop_lists(&lists, sizes, cuts, case, boxes);
 }
 
 // The boxes of a case, and the rest of its line.
@@ -147,10 +149,10 @@ fn marks() -> [u8; 8448]
     [0u8; 8448]
 }
 
-fn out() -> [u16; 65536]
-    ensures { λ r. ⌜ 65536 ≡ length r ⌝ }
+fn text() -> [u16; 13312]
+    ensures { λ r. ⌜ 13312 ≡ length r ⌝ }
 {
-    [0u16; 65536]
+    [0u16; 13312]
 }
 
 fn main() {
