@@ -1,7 +1,7 @@
 -- Pages in a row of numbers: a day's number, how many items each sort has (years, months, weeks, weekdays), and the items' ends; and the
 -- rules that pages are. 01, "From points to rules": "Write the list's entries as rules over these sets' maximal runs".
 -- Assumes nothing.
-use mathlib.Core.List.{List, [], _∷_, flatMap}
+use mathlib.Core.List.{List, [], _∷_, _++_, map, flatMap}
 use Prim.Native.Nat.{ℕ, zero, suc, _+_, _-_, _≤_}
 use lib.ListN.{length, take, drop, getD}
 use Rattle.laws.specs.Lists.{All}
@@ -10,6 +10,7 @@ use Rattle.definition.specs.Range.{Ends}
 use Rattle.day_words.specs.Day.{unflat}
 use Rattle.rule_writer.specs.Rows.{rowPlace, Rows}
 use Rattle.rule_writer.specs.Written.{rowsBelow}
+use Rattle.runs.specs.Runs.{numbers}
 use Rattle.day_writer.specs.Rules.{dayRules, Carried}
 use Rattle.paving_map.specs.Numbering.{wordsOf}
 use Rattle.paving_map.specs.Boxes.{boxWords, Ready}
@@ -17,6 +18,12 @@ use Rattle.paving_map.specs.Boxes.{boxWords, Ready}
 -- a day's number, and items dimension by dimension, from weekdays to years
 abbrev pub Page : Type 0
 Page = ℕ × List (List Ends)
+
+-- the numbers of a day's number and of items by sorts
+unfoldable pub pageNumbers : ℕ → List Ends → List Ends → List Ends → List Ends → List ℕ
+pageNumbers number years months weeks weekdays =
+    let E = years ∷ months ∷ weeks ∷ weekdays ∷ [] in
+    number ∷ (map length E ++ flatMap numbers E)
 
 -- ## Reading
 module _ (text : List ℕ) (at : ℕ) where
