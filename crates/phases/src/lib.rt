@@ -1,0 +1,1 @@
+// What each phase of the fold leaves for the next. It stands in specs/, its laws in proofs/; nothing runs here.
