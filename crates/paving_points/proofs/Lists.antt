@@ -1,6 +1,6 @@
 -- ALL RULES DRAWN: THE LIST AT EVERY POINT. Rests on what an update means, and on the points of a box.
 -- Assumes nothing.
-use mathlib.Core.Path.{_≡_, refl, sym, ap, ap₂, _∙_}
+use mathlib.Core.Path.{_≡_, refl, sym, ap, ap₂, _∙_, subst}
 use mathlib.Core.Bool.{Bool, true, false}
 use mathlib.Core.Option.{some, none}
 use mathlib.Core.List.{List, [], _∷_, _++_, map}
@@ -20,7 +20,7 @@ use Rattle.definition.proofs.Lawful.{Lawful}
 use Rattle.paving.specs.Grid.{Node}
 use Rattle.paving_update.specs.Update.{listPlaces, listLimit, countOf, leavesOf, Drawn, drawn, drawAll}
 use Rattle.paving_update.specs.Boxes.{listOf, afterNumber, Within, boxOf, startOf, selectorOf}
-use Rattle.paving_update.proofs.Meaning.{afterAt, update-rules, update-short, update-over, after-rules}
+use Rattle.paving_update.proofs.Meaning.{afterAt, update-rules, update-short, update-named, update-over, after-rules}
 use Rattle.paving_update.specs.Update.{cutOf}
 use Rattle.paving_cuts.specs.Rules.{CutBy}
 use Rattle.paving_points.specs.Listed.{noRule, ruleAt, Listed}
@@ -43,6 +43,7 @@ pub listed-start : (sizes rows table lists : List ℕ) (rs : List Rule) → ((no
 unfolding listOf listFrom from
 listed-start sizes rows table lists rs h = record {
   short = λ node. rw (h node) (omega arith);
+  named = λ node. subst (λ n. All (λ x. x < 0) (map (λ k. getD lists (node * listPlaces + 1 + k) 0) (from 0 n))) (sym (h node)) tt;
   quiet = λ j l. absurd (omega arith);
   list = λ p w. ap (λ n. map (ruleAt rs) (map (λ k. getD lists (boxOf sizes 4 0 p * listPlaces + 1 + k) 0) (from 0 n))) (h (boxOf sizes 4 0 p));
 }
@@ -87,6 +88,7 @@ module _ (sizes counts rows table ranges lists : List ℕ) (rs : List Rule) (k :
   pub listed-next : All Lawful rs → CutBy rows sizes table rs dimensions → result .over ≡ false → Listed sizes rows table (result .lists) rs (suc k)
   listed-next lawful cut calm = record {
     short = update-short sizes counts rows table ranges k (replaces (ruleAt rs k)) lists 4 0 below (before .short) result drew calm;
+    named = update-named sizes counts rows table ranges k (replaces (ruleAt rs k)) lists 4 0 below (before .short) result drew calm (before .named);
     quiet = λ j l. until j l (eqb j k) refl;
     list = λ p w. update-rules (ruleAt rs) sizes counts rows table ranges k lists 4 0 below (before .short) result drew calm p w ∙ made p w;
   }

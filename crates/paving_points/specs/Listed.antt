@@ -5,6 +5,7 @@ use mathlib.Core.Bool.{false}
 use mathlib.Core.List.{List, [], map}
 use Prim.Native.Nat.{ℕ, _<_}
 use lib.ListN.{getD, take}
+use Rattle.laws.specs.Lists.{All}
 use Rattle.grid.specs.Group.{somewhere}
 use Rattle.definition.specs.Rule.{Normal, closed, Rule}
 use Rattle.definition.specs.Point.{points, listAt, tooLong}
@@ -18,8 +19,9 @@ noRule = record { operator = Normal; state = closed; years = []; monthdays = [];
 abbrev pub ruleAt : List Rule → ℕ → Rule
 ruleAt rs k = getD rs k noRule
 
--- THE LISTS after the first k rules: none was too long, and each box has the list at its first point
+-- THE LISTS after the first k rules: none was too long or names another rule, and each box has the list at its first point
 pub record Listed (sizes rows table lists : List ℕ) (rs : List Rule) (k : ℕ) : Type 0 where
   pub short : Short lists
+  pub named : (node : ℕ) → All (λ x. x < k) (listOf lists node)
   pub quiet : (j : ℕ) → j < k → somewhere points (tooLong listLimit rs j) ≡ false
   pub list : (p : List ℕ) → Within sizes 4 p → map (ruleAt rs) (listOf lists (boxOf sizes 4 0 p)) ≡ listAt (take k rs) (startOf rows table 4 p)

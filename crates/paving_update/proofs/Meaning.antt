@@ -8,8 +8,9 @@ use native.Mathlib.Omega.{arith}
 use lib.Dec.{eqb, ltb}
 use lib.ListN.{length, getD, replicate}
 use borrow.Author.Tests.{lt-ltb, ltb-true, eq-eqb, eqb-true, eqb-false}
-use Rattle.laws.specs.Lists.{from, anyOf, count, Mem}
+use Rattle.laws.specs.Lists.{from, anyOf, count, All, Mem}
 use Rattle.laws.proofs.Flags.{same-flag}
+use Rattle.laws.proofs.Lists.{All-map, All-append}
 use Rattle.grid.specs.Group.{Map, at, somewhere}
 use Rattle.paving.specs.Grid.{Node, axes}
 use Rattle.paving.proofs.Room.{node-in, node-child}
@@ -67,6 +68,26 @@ box-in len sizes zero c (x ∷ p) n w = absurd w
 box-in len sizes (suc i) c [] n w = absurd w
 box-in len sizes (suc i) c (x ∷ p) n w = box-in len sizes i (c * getD sizes i 0 + x) p (node-child len sizes i c (getD sizes i 0) x refl (w .0) n) (w .1)
 
+-- the rule's own number is the last
+after-named : (rule : ℕ) (replacing : Bool) (n : ℕ) (l : List ℕ) → All (λ x. x < rule) l → All (λ x. x < suc rule) (afterNumber rule replacing n l)
+unfolding afterNumber
+after-named rule replacing n l h = go replacing
+  where
+    more : All (λ x. x < suc rule) l
+    more = All-map (λ x k. omega (arith, k)) l h
+
+    repeated : (m : ℕ) → All (λ x. x < suc rule) (replicate m rule)
+    repeated zero = tt
+    repeated (suc m) = (omega arith, repeated m)
+
+    alone : (b : Bool) → All (λ x. x < suc rule) (cond b l (rule ∷ []))
+    alone true = more
+    alone false = (omega arith, tt)
+
+    go : (b : Bool) → All (λ x. x < suc rule) (afterNumber rule b n l)
+    go true = alone (eqb n 0)
+    go false = All-append (λ x. x < suc rule) l (replicate n rule) more (repeated n)
+
 -- ## An update
 module _ (sizes counts rows cuts ranges : List ℕ) (rule : ℕ) (replacing : Bool) (lists : List ℕ) (l node : ℕ) (below : Node (length lists / listPlaces) sizes l node) (short : Short lists)
     (result : Drawn) (drawing : result ≡ drawAll rule replacing (drawn lists false) (leavesOf sizes counts rows cuts ranges l node (countOf counts l))) where
@@ -94,6 +115,12 @@ module _ (sizes counts rows cuts ranges : List ℕ) (rule : ℕ) (replacing : Bo
 
   pub update-short : result .over ≡ false → Short (result .lists)
   update-short h = quiet h .1
+
+  -- no list names a rule after this one
+  pub update-named : result .over ≡ false → ((d : ℕ) → All (λ x. x < rule) (listOf lists d)) → (d : ℕ) → All (λ x. x < suc rule) (listOf (result .lists) d)
+  update-named h named d =
+      subst (All (λ x. x < suc rule)) (sym (quiet h .0 d))
+      (after-named rule replacing (count (eqb d) (leaves sizes counts rows cuts ranges l node)) (listOf lists d) (named d))
 
   pub update-over : result .over ≡ somewhere (axes sizes l) (λ p. ltb listLimit (length (afterAt p)))
   update-over = same-flag (result .over) (somewhere (axes sizes l) (λ p. ltb listLimit (length (afterAt p)))) to (back (result .over) refl)
