@@ -31,13 +31,13 @@ row-back before after es place e =
 
 -- ## A page
 module _ (Y M K D : List Ends) where
-  abbrev ends : List ℕ
+  abbrev pub ends : List ℕ
   ends = numbers Y ++ (numbers M ++ (numbers K ++ (numbers D ++ [])))
 
-  abbrev sorts : List ℕ
+  abbrev pub sorts : List ℕ
   sorts = length Y ∷ length M ∷ length K ∷ length D ∷ []
 
-  ends-length : length ends ≡ rowPlace sorts 4
+  pub ends-length : length ends ≡ rowPlace sorts 4
   unfolding rowPlace
   ends-length =
       omega (
@@ -52,7 +52,7 @@ module _ (Y M K D : List Ends) where
         length-numbers D,
       )
 
-  rows-back : rowsBelow ends sorts 4 ≡ D ∷ K ∷ M ∷ Y ∷ []
+  pub rows-back : rowsBelow ends sorts 4 ≡ D ∷ K ∷ M ∷ Y ∷ []
   unfolding rowsBelow row rowPlace
   rows-back =
       ap₂ _∷_ weekdays (ap₂ _∷_ weeks (ap₂ _∷_ (row-back (numbers Y) (numbers K ++ (numbers D ++ [])) M (0 + 2 * length Y) (omega (arith, length-numbers Y))) (ap (_∷ []) (row-back [] (numbers M ++ (numbers K ++ (numbers D ++ []))) Y 0 refl))))
@@ -73,14 +73,14 @@ module _ (Y M K D : List Ends) where
     behind : (n : ℕ) → drop (at + n) text ≡ drop n (pageNumbers number Y M K D ++ rest)
     behind n = sym (drop-drop n at text) ∙ ap (drop n) held
 
-    counts-back : pageCounts text at ≡ sorts
+    pub counts-back : pageCounts text at ≡ sorts
     unfolding pageNumbers flatMap
     counts-back = ap (take 4) (behind 1)
 
-    place-back : rowPlace (pageCounts text at) 4 ≡ length ends
+    pub place-back : rowPlace (pageCounts text at) 4 ≡ length ends
     place-back = ap (λ l. rowPlace l 4) counts-back ∙ sym ends-length
 
-    ends-back : pageEnds text at ≡ ends
+    pub ends-back : pageEnds text at ≡ ends
     unfolding pageNumbers flatMap
     ends-back = ap₂ take place-back (behind 5) ∙ take-append-seam ends rest
 

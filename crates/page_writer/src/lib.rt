@@ -15,7 +15,7 @@ ghost use Rattle.paving_map.specs.Boxes.{boxWords, Scratch};
 ghost use Rattle.page_writer.specs.Pages.{pageSize, pageAt, pagesAt, pageRules, pagesRules, PageReady, Pages};
 
 // How many numbers a page has.
-fn page_size(text: &[u16], at: usize) -> usize
+pub fn page_size(text: &[u16], at: usize) -> usize
     requires { ⌜ at + 5 ≤ length (now text) ⌝ }
     ensures { λ r. ⌜ r ≡ pageSize (now (text .entry)) at ⌝ }
 {

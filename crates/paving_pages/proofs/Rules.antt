@@ -44,7 +44,7 @@ module _ (rows sizes table : List ℕ) (rs : List Rule) where
     row = λ i h. record { inside = inside i h; rising = cuts-rise rows sizes table rs ds c b i h };
   }
 
-  row-ends : (d : Dimension) (ds : List Dimension) → CutBy rows sizes table rs (d ∷ ds) → Bounded rs (d ∷ ds)
+  pub row-ends : (d : Dimension) (ds : List Dimension) → CutBy rows sizes table rs (d ∷ ds) → Bounded rs (d ∷ ds)
       → (cutOf rows table (length ds) 0 ≡ d .bounds .0) × (cutOf rows table (length ds) (getD sizes (length ds) 0) ≡ d .bounds .1)
   row-ends d ds c b =
       let low = d .bounds .0 in

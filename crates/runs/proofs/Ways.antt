@@ -41,7 +41,7 @@ module _ (marks : List ℕ) (base width x : ℕ) where
 
 -- ## The runs from a column on
 module _ (marks : List ℕ) (base width : ℕ) (cuts : List ℕ) (row : ℕ) where
-  pub as-runs : (x : ℕ) → runsFrom marks base width cuts row x ≡ runsOf (cutOf cuts row) (markAt marks base) x (width - x)
+  as-runs : (x : ℕ) → runsFrom marks base width cuts row x ≡ runsOf (cutOf cuts row) (markAt marks base) x (width - x)
   unfolding runsOf marksFrom
   as-runs x = refl
 

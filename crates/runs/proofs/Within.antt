@@ -3,7 +3,7 @@
 use mathlib.Core.Path.{_≡_, refl, sym, ap, subst}
 use mathlib.Core.Bool.{Bool, true, false, _&&_}
 use mathlib.Core.List.{List, [], _∷_}
-use Prim.Native.Nat.{ℕ, zero, suc, _+_, _-_, _≤_, _<_}
+use Prim.Native.Nat.{ℕ, zero, suc, _+_, _≤_, _<_}
 use native.Mathlib.Omega.{arith}
 use lib.Dec.{eqb}
 use borrow.Author.Tests.{eqb-true}
@@ -12,9 +12,8 @@ use Rattle.laws.proofs.Lists.{All-map, All-image}
 use Rattle.grid.specs.Cut.{Range, glue}
 use Rattle.definition.specs.Range.{Ends}
 use Rattle.definition.specs.Group.{itemsOf}
-use Rattle.runs.specs.Runs.{intervalAt, runsOf, markAt, cutOf, Cuts, runsFrom, asItem, itemsAt}
+use Rattle.runs.specs.Runs.{intervalAt, runsOf, cutOf, Cuts, asItem}
 use Rattle.runs.proofs.Joining.{Rises, runs-none, runs-in, runs-out}
-use Rattle.runs.proofs.Ways.{as-runs}
 
 -- ## Runs below a top
 abbrev Inside : ℕ → Range → Type 0
@@ -68,10 +67,10 @@ items-under b top (r ∷ rs) a = go (eqb (r .0) (b .0) && eqb (r .1) (b .1)) ref
     go true e = rw (e, itemsOf) tt
     go false e = rw (e, itemsOf) (All-image (Under top) asItem (r ∷ rs) (All-map lower (r ∷ rs) a))
 
-pub items-below : (marks : List ℕ) (base width : ℕ) (cuts : List ℕ) (row upper : ℕ) → Cuts cuts row width → cutOf cuts row width ≤ upper
-    → All (λ e. (e .0 < upper) × (e .1 < upper)) (itemsAt marks base width cuts row)
-items-below marks base width cuts row upper lawful h =
-    let e : 0 + (width - 0) ≡ width = omega arith in
-    items-under (cutOf cuts row 0, cutOf cuts row width) upper (runsFrom marks base width cuts row 0)
-    (subst (All (Inside upper)) (sym (as-runs marks base width cuts row 0))
-    (runs-inside (cutOf cuts row) (markAt marks base) (width - 0) 0 upper (omega (arith, h, ap (cutOf cuts row) e)) (λ y l k. lawful .rising y (omega arith))))
+-- the items of the columns that pass a test
+pub items-below : (t : ℕ → Bool) (cuts : List ℕ) (row width upper : ℕ) → Cuts cuts row width → cutOf cuts row width ≤ upper
+    → All (λ e. (e .0 < upper) × (e .1 < upper)) (itemsOf (cutOf cuts row 0, cutOf cuts row width) (runsOf (cutOf cuts row) t 0 width))
+items-below t cuts row width upper lawful h =
+    let e : 0 + width ≡ width = omega arith in
+    items-under (cutOf cuts row 0, cutOf cuts row width) upper (runsOf (cutOf cuts row) t 0 width)
+    (runs-inside (cutOf cuts row) t width 0 upper (omega (arith, h, ap (cutOf cuts row) e)) (λ y l k. lawful .rising y (omega arith)))

@@ -1,0 +1,105 @@
+-- GROUPS APPENDED AS PAGES ARE READ BACK as so many pages from the text's front on, and end where their numbers do. Rests on the law that a
+-- page is read back where its numbers stand.
+-- Assumes nothing.
+use mathlib.Core.Path.{_≡_, refl, sym, ap, ap₂, _∙_}
+use mathlib.Core.List.{List, [], _∷_, _++_, map, flatMap, append-assoc}
+use Prim.Native.Nat.{ℕ, zero, suc, _+_, _≤_}
+use native.Mathlib.Omega.{arith}
+use lib.ListN.{length, take, drop, length-append, length-drop}
+use lib.Seq.{sets, sets-eq}
+use Rattle.laws.specs.Lists.{All}
+use Rattle.grid.specs.Group.{Set, Group}
+use Rattle.grid.proofs.Part.{Part}
+use Rattle.definition.specs.Range.{Ends}
+use Rattle.paving.specs.Grid.{axes}
+use Rattle.paving_pages.specs.Pages.{sortItems, pageItems, endNumbers, groupNumbers, groupsNumbers}
+use Rattle.paving_pages.specs.Pages as written
+use Rattle.page_writer.specs.Pages.{pageNumbers, pageSize, pageAt, pagesAt}
+use Rattle.page_writer.proofs.Numbers.{place-back, page-back, page-behind}
+use Rattle.page_text.specs.Counted.{Counted}
+use Rattle.page_text.specs.Items.{dimensionItems, groupPage}
+
+page-sized : (Y M K D : List Ends) (text : List ℕ) (at number : ℕ) (rest : List ℕ) → drop at text ≡ pageNumbers number Y M K D ++ rest
+    → pageSize text at ≡ length (pageNumbers number Y M K D)
+unfolding pageSize pageNumbers flatMap
+page-sized Y M K D text at number rest held = omega (arith, place-back Y M K D text at number rest held)
+
+module _ (rows cuts sizes : List ℕ) where
+  -- ## A group's set has the four sorts
+  -- what holds of a set with any four lists holds of a part
+  pub by-sorts : (P : Set ℕ → Type 0) → ((D K M Y : List ℕ) → Part (axes sizes 4) (D ∷ K ∷ M ∷ Y ∷ []) → P (D ∷ K ∷ M ∷ Y ∷ [])) → (S : Set ℕ) → Part (axes sizes 4) S → P S
+  unfolding axes
+  by-sorts P h [] p = absurd p
+  by-sorts P h (D ∷ []) p = absurd (p .1)
+  by-sorts P h (D ∷ K ∷ []) p = absurd (p .1 .1)
+  by-sorts P h (D ∷ K ∷ M ∷ []) p = absurd (p .1 .1 .1)
+  by-sorts P h (D ∷ K ∷ M ∷ Y ∷ []) p = h D K M Y p
+  by-sorts P h (D ∷ K ∷ M ∷ Y ∷ X ∷ S) p = absurd (p .1 .1 .1 .1)
+
+  group-numbers : (v : ℕ) (D K M Y : List ℕ)
+      → groupNumbers rows cuts sizes 4 (v, D ∷ K ∷ M ∷ Y ∷ []) ≡ pageNumbers v (sortItems rows cuts sizes 0 Y) (sortItems rows cuts sizes 1 M) (sortItems rows cuts sizes 2 K) (sortItems rows cuts sizes 3 D)
+  unfolding groupNumbers written.pageNumbers pageNumbers pageItems endNumbers
+  group-numbers v D K M Y = refl
+
+  -- ## A page, and those behind it
+  -- a group's page is read at a place, as long as its numbers, with these behind it
+  pub record Read (text : List ℕ) (at : ℕ) (g : Group ℕ ℕ) (rest : List ℕ) : Type 0 where
+    pub page : pageAt text at ≡ groupPage rows cuts sizes g
+    pub sized : pageSize text at ≡ length (groupNumbers rows cuts sizes 4 g)
+    pub behind : drop (at + pageSize text at) text ≡ rest
+
+  module _ (text : List ℕ) where
+    pub group-read : (at v : ℕ) (rest : List ℕ) (S : Set ℕ) → Part (axes sizes 4) S → drop at text ≡ groupNumbers rows cuts sizes 4 (v, S) ++ rest → Read text at (v, S) rest
+    unfolding dimensionItems
+    group-read at v rest = by-sorts (λ S. drop at text ≡ groupNumbers rows cuts sizes 4 (v, S) ++ rest → Read text at (v, S) rest) four
+      where
+        four : (D K M Y : List ℕ) → Part (axes sizes 4) (D ∷ K ∷ M ∷ Y ∷ []) → drop at text ≡ groupNumbers rows cuts sizes 4 (v, D ∷ K ∷ M ∷ Y ∷ []) ++ rest
+            → Read text at (v, D ∷ K ∷ M ∷ Y ∷ []) rest
+        four D K M Y p h =
+            let years : List Ends = sortItems rows cuts sizes 0 Y in
+            let months : List Ends = sortItems rows cuts sizes 1 M in
+            let weeks : List Ends = sortItems rows cuts sizes 2 K in
+            let weekdays : List Ends = sortItems rows cuts sizes 3 D in
+            let held = h ∙ ap (_++ rest) (group-numbers v D K M Y) in
+            record {
+              page = page-back years months weeks weekdays text at v rest held;
+              sized = page-sized years months weeks weekdays text at v rest held ∙ sym (ap length (group-numbers v D K M Y));
+              behind = page-behind years months weeks weekdays text at v rest held;
+            }
+
+    pages-read : (gs : List (Group ℕ ℕ)) (at : ℕ) (rest : List ℕ) → All (λ g. Part (axes sizes 4) (g .1)) gs → drop at text ≡ groupsNumbers rows cuts sizes 4 gs ++ rest
+        → pagesAt (length gs) text at ≡ map (groupPage rows cuts sizes) gs
+    unfolding pagesAt groupsNumbers flatMap
+    pages-read [] at rest p h = refl
+    pages-read (g ∷ gs) at rest p h =
+        let more : List ℕ = groupsNumbers rows cuts sizes 4 gs in
+        let first = group-read at (g .0) (more ++ rest) (g .1) (p .0) (h ∙ append-assoc (groupNumbers rows cuts sizes 4 g) more rest) in
+        ap₂ _∷_ (first .page) (pages-read gs (at + pageSize text at) rest (p .1) (first .behind))
+
+    pages-counted : (gs : List (Group ℕ ℕ)) (at stop : ℕ) (rest : List ℕ) → All (λ g. Part (axes sizes 4) (g .1)) gs → drop at text ≡ groupsNumbers rows cuts sizes 4 gs ++ rest
+        → at + length (groupsNumbers rows cuts sizes 4 gs) ≡ stop → Counted text (length gs) at stop
+    unfolding Counted groupsNumbers flatMap
+    pages-counted [] at stop rest p h e = omega (arith, e)
+    pages-counted (g ∷ gs) at stop rest p h e =
+        let more : List ℕ = groupsNumbers rows cuts sizes 4 gs in
+        let first = group-read at (g .0) (more ++ rest) (g .1) (p .0) (h ∙ append-assoc (groupNumbers rows cuts sizes 4 g) more rest) in
+        let size = length-append (groupNumbers rows cuts sizes 4 g) more in
+        (omega (arith, size, first .sized), pages-counted gs (at + pageSize text at) stop rest (p .1) (first .behind) (omega (arith, size, first .sized)))
+
+-- ## THE TEXT'S PAGES ARE THE GROUPS, and end where the groups' numbers do
+module _ (rows cuts sizes text₀ text : List ℕ) (gs : List (Group ℕ ℕ)) (laid : text ≡ sets text₀ 0 (groupsNumbers rows cuts sizes 4 gs))
+    (room : length (groupsNumbers rows cuts sizes 4 gs) ≤ length text₀) (parts : All (λ g. Part (axes sizes 4) (g .1)) gs) where
+  abbrev numbers : List ℕ
+  numbers = groupsNumbers rows cuts sizes 4 gs
+
+  abbrev rest : List ℕ
+  rest = drop (length numbers) text₀
+
+  pub text-held : text ≡ numbers ++ rest
+  text-held = let none : 0 + length numbers ≡ length numbers = omega arith in laid ∙ sets-eq numbers text₀ 0 (omega arith) ∙ ap (λ n. numbers ++ drop n text₀) none
+
+  pub text-pages : pagesAt (length gs) text 0 ≡ map (groupPage rows cuts sizes) gs
+  text-pages = pages-read rows cuts sizes text gs 0 rest parts text-held
+
+  pub text-counted : Counted text (length gs) 0 (length numbers)
+  text-counted = pages-counted rows cuts sizes text gs 0 (length numbers) rest parts text-held (omega arith)

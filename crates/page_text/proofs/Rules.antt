@@ -1,0 +1,39 @@
+-- THE RULES OF A TEXT'S PAGES ARE THE GROUPS': items dimension by dimension and items by sort are laid over a rule alike. Rests on the law
+-- that the pages are read back.
+-- Assumes nothing.
+use mathlib.Core.Path.{_≡_, refl, ap, _∙_}
+use mathlib.Core.List.{List, [], _∷_, flatMap}
+use Prim.Native.Nat.{ℕ, _≤_}
+use lib.ListN.{length}
+use lib.Seq.{sets}
+use Rattle.laws.specs.Lists.{All}
+use Rattle.laws.proofs.Lists.{All-map}
+use Rattle.laws.proofs.Spread.{flatMap-map}
+use Rattle.grid.specs.Group.{Set, Group}
+use Rattle.grid.proofs.Part.{Part}
+use Rattle.paving.specs.Grid.{axes}
+use Rattle.paving_map.specs.Boxes.{boxWords}
+use Rattle.paving_map.proofs.InUse.{numberDay}
+use Rattle.rule_writer.specs.Written.{overItems}
+use Rattle.day_writer.specs.Rules.{dayRules}
+use Rattle.paving_pages.specs.Pages.{pageItems, groupsNumbers}
+use Rattle.paving_pages.specs.Sorts.{overSorts, groupRules}
+use Rattle.page_writer.specs.Pages.{pagesAt, pageRules, pagesRules}
+use Rattle.page_text.specs.Items.{dimensionItems, groupPage}
+use Rattle.page_text.proofs.Reading.{by-sorts, text-pages}
+
+module _ (rows cuts sizes states counts spans lists : List ℕ) where
+  page-rules : (v : ℕ) (S : Set ℕ) → Part (axes sizes 4) S
+      → pageRules (boxWords states counts spans lists) (groupPage rows cuts sizes (v, S)) ≡ groupRules rows cuts sizes (numberDay states counts spans lists) (v, S)
+  unfolding pageRules dayRules groupRules overItems overSorts pageItems dimensionItems
+  page-rules v =
+      by-sorts rows cuts sizes (λ S. pageRules (boxWords states counts spans lists) (groupPage rows cuts sizes (v, S)) ≡ groupRules rows cuts sizes (numberDay states counts spans lists) (v, S))
+      (λ D K M Y p. refl)
+
+  pub text-rules : (text₀ text : List ℕ) (gs : List (Group ℕ ℕ)) → text ≡ sets text₀ 0 (groupsNumbers rows cuts sizes 4 gs)
+      → length (groupsNumbers rows cuts sizes 4 gs) ≤ length text₀ → All (λ g. Part (axes sizes 4) (g .1)) gs
+      → pagesRules (boxWords states counts spans lists) (pagesAt (length gs) text 0) ≡ flatMap (groupRules rows cuts sizes (numberDay states counts spans lists)) gs
+  text-rules text₀ text gs laid room parts =
+      ap (pagesRules (boxWords states counts spans lists)) (text-pages rows cuts sizes text₀ text gs laid room parts)
+      ∙ flatMap-map (pageRules (boxWords states counts spans lists)) (groupRules rows cuts sizes (numberDay states counts spans lists)) (groupPage rows cuts sizes) gs
+      (All-map (λ g p. page-rules (g .0) (g .1) p) gs parts)
