@@ -1,3 +1,5 @@
 pub mod Counting
 pub mod Reading
 pub mod Rules
+pub mod Sorts
+pub mod Ready

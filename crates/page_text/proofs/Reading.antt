@@ -3,9 +3,9 @@
 -- Assumes nothing.
 use mathlib.Core.Path.{_≡_, refl, sym, ap, ap₂, _∙_}
 use mathlib.Core.List.{List, [], _∷_, _++_, map, flatMap, append-assoc}
-use Prim.Native.Nat.{ℕ, zero, suc, _+_, _≤_}
+use Prim.Native.Nat.{ℕ, _+_, _≤_}
 use native.Mathlib.Omega.{arith}
-use lib.ListN.{length, take, drop, length-append, length-drop}
+use lib.ListN.{length, drop, length-append}
 use lib.Seq.{sets, sets-eq}
 use Rattle.laws.specs.Lists.{All}
 use Rattle.grid.specs.Group.{Set, Group}
@@ -36,7 +36,7 @@ module _ (rows cuts sizes : List ℕ) where
   by-sorts P h (D ∷ K ∷ M ∷ Y ∷ []) p = h D K M Y p
   by-sorts P h (D ∷ K ∷ M ∷ Y ∷ X ∷ S) p = absurd (p .1 .1 .1 .1)
 
-  group-numbers : (v : ℕ) (D K M Y : List ℕ)
+  pub group-numbers : (v : ℕ) (D K M Y : List ℕ)
       → groupNumbers rows cuts sizes 4 (v, D ∷ K ∷ M ∷ Y ∷ []) ≡ pageNumbers v (sortItems rows cuts sizes 0 Y) (sortItems rows cuts sizes 1 M) (sortItems rows cuts sizes 2 K) (sortItems rows cuts sizes 3 D)
   unfolding groupNumbers written.pageNumbers pageNumbers pageItems endNumbers
   group-numbers v D K M Y = refl
@@ -44,12 +44,13 @@ module _ (rows cuts sizes : List ℕ) where
   -- ## A page, and those behind it
   -- a group's page is read at a place, as long as its numbers, with these behind it
   pub record Read (text : List ℕ) (at : ℕ) (g : Group ℕ ℕ) (rest : List ℕ) : Type 0 where
+    pub held : drop at text ≡ groupNumbers rows cuts sizes 4 g ++ rest
     pub page : pageAt text at ≡ groupPage rows cuts sizes g
     pub sized : pageSize text at ≡ length (groupNumbers rows cuts sizes 4 g)
     pub behind : drop (at + pageSize text at) text ≡ rest
 
   module _ (text : List ℕ) where
-    pub group-read : (at v : ℕ) (rest : List ℕ) (S : Set ℕ) → Part (axes sizes 4) S → drop at text ≡ groupNumbers rows cuts sizes 4 (v, S) ++ rest → Read text at (v, S) rest
+    group-read : (at v : ℕ) (rest : List ℕ) (S : Set ℕ) → Part (axes sizes 4) S → drop at text ≡ groupNumbers rows cuts sizes 4 (v, S) ++ rest → Read text at (v, S) rest
     unfolding dimensionItems
     group-read at v rest = by-sorts (λ S. drop at text ≡ groupNumbers rows cuts sizes 4 (v, S) ++ rest → Read text at (v, S) rest) four
       where
@@ -60,20 +61,27 @@ module _ (rows cuts sizes : List ℕ) where
             let months : List Ends = sortItems rows cuts sizes 1 M in
             let weeks : List Ends = sortItems rows cuts sizes 2 K in
             let weekdays : List Ends = sortItems rows cuts sizes 3 D in
-            let held = h ∙ ap (_++ rest) (group-numbers v D K M Y) in
+            let numbered = h ∙ ap (_++ rest) (group-numbers v D K M Y) in
             record {
-              page = page-back years months weeks weekdays text at v rest held;
-              sized = page-sized years months weeks weekdays text at v rest held ∙ sym (ap length (group-numbers v D K M Y));
-              behind = page-behind years months weeks weekdays text at v rest held;
+              held = h;
+              page = page-back years months weeks weekdays text at v rest numbered;
+              sized = page-sized years months weeks weekdays text at v rest numbered ∙ sym (ap length (group-numbers v D K M Y));
+              behind = page-behind years months weeks weekdays text at v rest numbered;
             }
+
+    pub first-read : (g : Group ℕ ℕ) (gs : List (Group ℕ ℕ)) (at : ℕ) (rest : List ℕ) → Part (axes sizes 4) (g .1) → drop at text ≡ groupsNumbers rows cuts sizes 4 (g ∷ gs) ++ rest
+        → Read text at g (groupsNumbers rows cuts sizes 4 gs ++ rest)
+    unfolding groupsNumbers flatMap
+    first-read g gs at rest p h =
+        let more : List ℕ = groupsNumbers rows cuts sizes 4 gs in
+        group-read at (g .0) (more ++ rest) (g .1) p (h ∙ append-assoc (groupNumbers rows cuts sizes 4 g) more rest)
 
     pages-read : (gs : List (Group ℕ ℕ)) (at : ℕ) (rest : List ℕ) → All (λ g. Part (axes sizes 4) (g .1)) gs → drop at text ≡ groupsNumbers rows cuts sizes 4 gs ++ rest
         → pagesAt (length gs) text at ≡ map (groupPage rows cuts sizes) gs
-    unfolding pagesAt groupsNumbers flatMap
+    unfolding pagesAt
     pages-read [] at rest p h = refl
     pages-read (g ∷ gs) at rest p h =
-        let more : List ℕ = groupsNumbers rows cuts sizes 4 gs in
-        let first = group-read at (g .0) (more ++ rest) (g .1) (p .0) (h ∙ append-assoc (groupNumbers rows cuts sizes 4 g) more rest) in
+        let first = first-read g gs at rest (p .0) h in
         ap₂ _∷_ (first .page) (pages-read gs (at + pageSize text at) rest (p .1) (first .behind))
 
     pages-counted : (gs : List (Group ℕ ℕ)) (at stop : ℕ) (rest : List ℕ) → All (λ g. Part (axes sizes 4) (g .1)) gs → drop at text ≡ groupsNumbers rows cuts sizes 4 gs ++ rest
@@ -81,25 +89,25 @@ module _ (rows cuts sizes : List ℕ) where
     unfolding Counted groupsNumbers flatMap
     pages-counted [] at stop rest p h e = omega (arith, e)
     pages-counted (g ∷ gs) at stop rest p h e =
-        let more : List ℕ = groupsNumbers rows cuts sizes 4 gs in
-        let first = group-read at (g .0) (more ++ rest) (g .1) (p .0) (h ∙ append-assoc (groupNumbers rows cuts sizes 4 g) more rest) in
-        let size = length-append (groupNumbers rows cuts sizes 4 g) more in
+        let first = first-read g gs at rest (p .0) h in
+        let size = length-append (groupNumbers rows cuts sizes 4 g) (groupsNumbers rows cuts sizes 4 gs) in
         (omega (arith, size, first .sized), pages-counted gs (at + pageSize text at) stop rest (p .1) (first .behind) (omega (arith, size, first .sized)))
 
 -- ## THE TEXT'S PAGES ARE THE GROUPS, and end where the groups' numbers do
 module _ (rows cuts sizes text₀ text : List ℕ) (gs : List (Group ℕ ℕ)) (laid : text ≡ sets text₀ 0 (groupsNumbers rows cuts sizes 4 gs))
-    (room : length (groupsNumbers rows cuts sizes 4 gs) ≤ length text₀) (parts : All (λ g. Part (axes sizes 4) (g .1)) gs) where
+    (room : length (groupsNumbers rows cuts sizes 4 gs) ≤ length text₀) where
   abbrev numbers : List ℕ
   numbers = groupsNumbers rows cuts sizes 4 gs
 
-  abbrev rest : List ℕ
-  rest = drop (length numbers) text₀
+  abbrev pub numbersBehind : List ℕ
+  numbersBehind = drop (length numbers) text₀
 
-  pub text-held : text ≡ numbers ++ rest
+  pub text-held : text ≡ numbers ++ numbersBehind
   text-held = let none : 0 + length numbers ≡ length numbers = omega arith in laid ∙ sets-eq numbers text₀ 0 (omega arith) ∙ ap (λ n. numbers ++ drop n text₀) none
 
-  pub text-pages : pagesAt (length gs) text 0 ≡ map (groupPage rows cuts sizes) gs
-  text-pages = pages-read rows cuts sizes text gs 0 rest parts text-held
+  module _ (parts : All (λ g. Part (axes sizes 4) (g .1)) gs) where
+    pub text-pages : pagesAt (length gs) text 0 ≡ map (groupPage rows cuts sizes) gs
+    text-pages = pages-read rows cuts sizes text gs 0 numbersBehind parts text-held
 
-  pub text-counted : Counted text (length gs) 0 (length numbers)
-  text-counted = pages-counted rows cuts sizes text gs 0 (length numbers) rest parts text-held (omega arith)
+    pub text-counted : Counted text (length gs) 0 (length numbers)
+    text-counted = pages-counted rows cuts sizes text gs 0 (length numbers) numbersBehind parts text-held (omega arith)
