@@ -61,7 +61,7 @@ pub record Boxed (rows sizes cuts lists : List ℕ) (rs : List Rule) : Type 0 wh
   pub cut : Cut rows sizes cuts rs
   pub few-rules : length rs ≤ limits1 .rules
   pub few-boxes : sizeOf sizes 4 ≤ limits1 .boxes
-  pub all-lists : length lists ≡ sizeOf sizes 4 * listPlaces
+  pub all-lists : sizeOf sizes 4 * listPlaces ≤ length lists
   pub listed : Listed sizes rows cuts lists rs (length rs)
 
 -- ## Pages
