@@ -27,7 +27,7 @@ use Rattle.paving_points.proofs.Lists.{listed-start}
 use Rattle.drawing.specs.Drawing.{AllDrawable}
 
 -- ## Drained rules
-drained-fewer : (rs : List Rule) → length (drained rs) ≤ length rs
+pub drained-fewer : (rs : List Rule) → length (drained rs) ≤ length rs
 unfolding drained
 drained-fewer [] = omega arith
 drained-fewer (r ∷ rs) = go (stops r) refl (drained-fewer rs)

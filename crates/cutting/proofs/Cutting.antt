@@ -1,0 +1,142 @@
+-- The steps of the cutting: the rows at their places, the bounds cut, then a rule more. Rests on the laws of cuts as rules come in, and on
+-- how few ranges a rule has that a sheet carries.
+-- Assumes nothing.
+use mathlib.Core.Path.{_≡_, refl, sym, ap, _∙_, subst}
+use mathlib.Core.Bool.{Bool, true, false}
+use mathlib.Core.List.{List, [], _∷_}
+use Prim.Native.Nat.{ℕ, zero, suc, _+_, _*_, _≤_, _<_}
+use native.Mathlib.Omega.{arith}
+use native.Mathlib.Nat.{mul-le-mul-right}
+use lib.Dec.{eqb}
+use lib.ListN.{length, getD, take, set}
+use lib.Seq.{take-all}
+use borrow.Author.Tests.{eqb-true, eqb-false}
+use Rattle.laws.specs.Lists.{from, All}
+use Rattle.laws.proofs.Lists.{All-map, All-image}
+use Rattle.laws.proofs.Numbers.{All-from}
+use Rattle.grid.specs.Cut.{cuts}
+use Rattle.grid.proofs.Count.{cuts-count}
+use Rattle.definition.specs.Field.{sheetBits}
+use Rattle.definition.specs.Rule.{Rule}
+use Rattle.definition.specs.Sheet.{form1, limits1, rule}
+use Rattle.definition.specs.Range.{ranges}
+use Rattle.definition.specs.Point.{Dimension, dimensions, selector}
+use Rattle.definition.specs.Box.{allRanges}
+use Rattle.definition.proofs.Bits.{Bytes, sheet-bits}
+use Rattle.definition.proofs.SheetRead.{rule-faithful}
+use Rattle.sheet.specs.Begin.{noRule, ruleAt}
+use Rattle.sheet.specs.Rules.{rulesAt}
+use Rattle.sheet.proofs.Begins.{rules-many, rules-each}
+use Rattle.paving_update.specs.Update.{rangePlaces}
+use Rattle.paving_update.specs.Boxes.{selectorOf}
+use Rattle.paving_cuts.specs.Cuts.{Rowed, rowed, cutRows, startRow, Space}
+use Rattle.paving_cuts.specs.Rules.{CutBy, Roomy, startRows}
+use Rattle.paving_cuts.proofs.Rows.{row-length, cut-start}
+use Rattle.paving_points.proofs.Cuts.{rule-space, rule-cut}
+use Rattle.paving_points.proofs.Few.{items-few, ranges-few, rules-roomy}
+use Rattle.drawing.specs.Drawing.{Scratch}
+use Rattle.phases.specs.Phases.{Cut}
+use Rattle.cutting.specs.Cutting.{AllPass, rowPlaces, Placed, Rows}
+
+-- ## The start
+pub rows-placed : (rows : List ℕ) (places : ℕ) → length rows ≡ 4 → Placed places (set (set (set (set rows 0 0) 1 places) 2 (2 * places)) 3 (3 * places))
+rows-placed (a ∷ b ∷ c ∷ d ∷ rows) places e zero l = omega arith
+rows-placed (a ∷ b ∷ c ∷ d ∷ rows) places e (suc zero) l = omega arith
+rows-placed (a ∷ b ∷ c ∷ d ∷ rows) places e (suc (suc zero)) l = omega arith
+rows-placed (a ∷ b ∷ c ∷ d ∷ rows) places e (suc (suc (suc zero))) l = omega arith
+rows-placed (a ∷ b ∷ c ∷ d ∷ rows) places e (suc (suc (suc (suc i)))) l = absurd (omega arith)
+rows-placed [] places e i l = absurd (omega arith)
+rows-placed (a ∷ []) places e i l = absurd (omega arith)
+rows-placed (a ∷ b ∷ []) places e i l = absurd (omega arith)
+rows-placed (a ∷ b ∷ c ∷ []) places e i l = absurd (omega arith)
+
+-- both bounds of the four dimensions, as they are written
+pub bounds-cut : (rows : List ℕ) (places : ℕ) → Placed places rows → 2 ≤ places → (cuts sizes : List ℕ) → length sizes ≡ 4 → 4 * places ≤ length cuts
+    → (t₃ t₂ t₁ t₀ : Rowed) → t₃ ≡ startRow rows 3 0 7 (rowed cuts sizes) → t₂ ≡ startRow rows 2 1 54 t₃ → t₁ ≡ startRow rows 1 1 13 t₂
+    → t₀ ≡ startRow rows 0 1900 10000 t₁ → CutBy rows (t₀ .sizes) (t₀ .cuts) [] dimensions
+unfolding startRows
+bounds-cut rows places placed two cuts sizes four room t₃ t₂ t₁ t₀ e₃ e₂ e₁ e₀ =
+    subst (λ t. CutBy rows (t .sizes) (t .cuts) [] dimensions)
+    (sym (e₀ ∙ ap (startRow rows 0 1900 10000) (e₁ ∙ ap (startRow rows 1 1 13) (e₂ ∙ ap (startRow rows 2 1 54) e₃))))
+    (cut-start rows places 4 placed two dimensions (rowed cuts sizes) (omega arith) (omega arith) room)
+
+-- rows that were there are there later
+pub rows-kept : (places : ℕ) (rows sizes sizes′ : List ℕ) (cuts cuts′ : ℕ) → length sizes′ ≡ length sizes → cuts′ ≡ cuts → Rows places rows sizes cuts
+    → Rows places rows sizes′ cuts′
+rows-kept places rows sizes sizes′ cuts cuts′ e f there = record {
+  four-rows = there .four-rows;
+  four-sizes = e ∙ there .four-sizes;
+  all-cuts = omega (arith, there .all-cuts);
+  placed = there .placed;
+}
+
+-- ## How wide a row is
+module _ (rows sizes table : List ℕ) (room : ℕ) (rs : List Rule) where
+  -- each dimension has an interval, and its row ends before the next one
+  row-wide : (ds : List Dimension) → CutBy rows sizes table rs ds → Roomy room rs ds → (i : ℕ) → i < length ds → (1 ≤ getD sizes i 0) × (getD sizes i 0 + 1 ≤ room)
+  row-wide [] c w i h = absurd (omega arith)
+  row-wide (d ∷ ds) c w i h = go (eqb i (length ds)) refl (row-wide ds (c .1) (w .1) i)
+    where
+      go : (b : Bool) → eqb i (length ds) ≡ b → (i < length ds → (1 ≤ getD sizes i 0) × (getD sizes i 0 + 1 ≤ room)) → (1 ≤ getD sizes i 0) × (getD sizes i 0 + 1 ≤ room)
+      go true e ih =
+          let many = sym (row-length rows sizes table (length ds)) ∙ ap length (c .0) in
+          let count = cuts-count (d .bounds) (allRanges rs d) in
+          rw (eqb-true i (length ds) e) (omega (arith, many, count .0), omega (arith, many, count .1, w .0))
+      go false e ih = ih (omega (arith, eqb-false i (length ds) e))
+
+-- ## The rules
+-- after the last one all are cut at
+pub all-cut : (s begins rows sizes table : List ℕ) (k n : ℕ) → k ≤ n → n ≤ k → CutBy rows sizes table (take k (rulesAt s begins n)) dimensions
+    → CutBy rows sizes table (rulesAt s begins n) dimensions
+all-cut s begins rows sizes table k n l m c =
+    subst (λ qs. CutBy rows sizes table qs dimensions) (take-all k (rulesAt s begins n) (omega (arith, rules-many s begins n))) c
+
+module _ (sheet : List ℕ) (bytes : Bytes sheet) (begins : List ℕ) (n : ℕ) (all : AllPass (sheetBits sheet) begins n) where
+  abbrev rs : List Rule
+  rs = rulesAt (sheetBits sheet) begins n
+
+  -- a rule that is read has few ranges, so all their cuts have room
+  roomy : Roomy (rowPlaces n) rs dimensions
+  unfolding rulesAt
+  roomy =
+      rules-roomy (rowPlaces n) 32 rs dimensions (All-image _ (λ k. ruleAt (sheetBits sheet) (getD begins k 0)) (from 0 n) (All-from _ 0 n (λ k l m. few k (omega arith))))
+      (omega (arith, rules-many (sheetBits sheet) begins n))
+    where
+      few : (k : ℕ) → k < n → All (λ d. length (ranges (d .bounds) (d .items (ruleAt (sheetBits sheet) (getD begins k 0)))) ≤ 32) dimensions
+      few k l =
+          let here = all .each k l .readable in
+          let fits = (rule-faithful form1 limits1) .written (sheetBits sheet) (sheet-bits sheet bytes) (getD begins k 0) _ (here .end) (here .read) .1 in
+          All-map (λ d h. ranges-few (d .bounds) (d .items (ruleAt (sheetBits sheet) (getD begins k 0))) 16 (omega arith) h) dimensions (items-few form1 limits1 _ fits)
+
+  module _ (rows sizes table : List ℕ) (there : Rows (rowPlaces n) rows sizes (length table)) where
+    -- rule k, whose ranges are loaded, after the rules before it
+    module _ (k : ℕ) (here : k < n) (before : CutBy rows sizes table (take k rs) dimensions) (counts loaded : List ℕ)
+        (selected : selectorOf counts loaded 4 ≡ selector dimensions (ruleAt (sheetBits sheet) (getD begins k 0))) where
+      many : k < length rs
+      many = omega (arith, rules-many (sheetBits sheet) begins n)
+
+      same : selectorOf counts loaded 4 ≡ selector dimensions (getD rs k noRule)
+      same = selected ∙ ap (selector dimensions) (sym (rules-each (sheetBits sheet) begins n k here))
+
+      pub next-space : Scratch (length loaded) (length counts) → ((i : ℕ) → i < 4 → getD counts i 0 * 2 ≤ rangePlaces) → Space (length table) rows sizes counts loaded 4
+      next-space scratch few =
+          rule-space rows counts loaded (rowPlaces n) rs k many dimensions same roomy (there .placed) (length table) sizes table before (there .all-cuts) (omega (arith, all .few))
+          (omega (arith, there .four-rows)) (omega (arith, there .four-sizes)) (scratch .all-counts) (scratch .all-ranges) few
+
+      pub next-cut : (t : Rowed) → t ≡ cutRows rows counts loaded 4 (rowed table sizes) → CutBy rows (t .sizes) (t .cuts) (take (k + 1) rs) dimensions
+      next-cut t e =
+          let z : suc k ≡ k + 1 = omega arith in
+          subst (λ j. CutBy rows (t .sizes) (t .cuts) (take j rs) dimensions) z
+          (subst (λ t. CutBy rows (t .sizes) (t .cuts) (take (suc k) rs) dimensions) (sym e)
+          (rule-cut rows counts loaded (rowPlaces n) rs k many dimensions same roomy (there .placed) (rowed table sizes) before (omega (arith, there .four-sizes)) (there .all-cuts)))
+
+    pub cut-there : CutBy rows sizes table rs dimensions → Cut rows sizes table rs
+    cut-there c =
+        let wide = row-wide rows sizes table (rowPlaces n) rs dimensions c roomy in
+        record {
+          four = there .four-sizes;
+          all-rows = omega (arith, there .four-rows);
+          inside = λ i l. omega (arith, wide i l, there .placed i l, there .all-cuts, mul-le-mul-right (rowPlaces n) l);
+          filled = λ i l. wide i l .0;
+          cut-by = c;
+        }
