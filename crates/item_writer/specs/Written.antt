@@ -17,7 +17,7 @@ Fits width value = (width ≤ 32) × (value < 2 ^ width)
 -- a buffer of so many bytes has room for some bits from a place on, and places fit a machine word
 pub record Room (size at : ℕ) (new : List ℕ) : Type 0 where
   pub inside : at + length new ≤ 8 * size
-  pub low : at + length new < 2 ^ 32
+  pub low : at + length new < 2 ^ 62
 
 pub record Wrote (old : List ℕ) (at : ℕ) (new : List ℕ) (out : List ℕ) (next : ℕ) : Type 0 where
   pub behind : next ≡ at + length new

@@ -20,7 +20,7 @@ pub fn put_count(out: &mut [u8], count: u64) -> usize
 
 // "then zero bits to the byte's end": behind the rules, which end at a bit; answers how many bytes the sheet has.
 pub fn put_padding(out: &mut [u8], at: usize) -> usize
-    requires { ⌜ (at ≤ 8 * length (now out)) × (at < 2 ^ 31) ⌝ }
+    requires { ⌜ (at ≤ 8 * length (now out)) × (at < 2 ^ 61) ⌝ }
     ensures { λ r. ⌜ (r ≡ bytesFor at) × (sheetBits (now (out .exit)) ≡ sets (sheetBits (now (out .entry))) at (padding at)) ⌝ }
 {
     let bytes = (at + 7) / 8;

@@ -39,7 +39,7 @@ pub fn put_bit(out: &mut [u8], at: usize, bit: u8)
 
 // A number in `width` bits, bit after bit, the most significant first.
 pub fn put_field(out: &mut [u8], at: usize, width: usize, value: u64)
-    requires { ⌜ (width ≤ 32) × (at < 2 ^ 32) × (at + width ≤ 8 * length (now out)) × (value < 2 ^ width) ⌝ }
+    requires { ⌜ (width ≤ 32) × (at < 2 ^ 62) × (at + width ≤ 8 * length (now out)) × (value < 2 ^ width) ⌝ }
     ensures { λ _. ⌜ sheetBits (now (out .exit)) ≡ sets (sheetBits (now (out .entry))) at (bits width value) ⌝ }
 {
     let mut i: usize = 0;
@@ -52,7 +52,7 @@ pub fn put_field(out: &mut [u8], at: usize, width: usize, value: u64)
 
 // Bits of a sheet, copied to any place of a buffer.
 pub fn copy_bits(sheet: &[u8], from: usize, count: usize, out: &mut [u8], at: usize)
-    requires { ⌜ (from + count ≤ 8 * length (now sheet)) × (at + count ≤ 8 * length (now out)) × (from + count < 2 ^ 32) × (at + count < 2 ^ 32) ⌝ }
+    requires { ⌜ (from + count ≤ 8 * length (now sheet)) × (at + count ≤ 8 * length (now out)) × (from + count < 2 ^ 32) × (at + count < 2 ^ 62) ⌝ }
     ensures { λ _. ⌜ sheetBits (now (out .exit)) ≡ sets (sheetBits (now (out .entry))) at (take count (drop from (sheetBits (now (sheet .entry))))) ⌝ }
 {
     let mut i: usize = 0;
