@@ -41,7 +41,7 @@ module _ (text : List ℕ) (at : ℕ) where
   ends-cut size e = let n : at + size - (at + 5) ≡ rowPlace (pageCounts text at) 4 = omega (arith, e) in ap (λ n. take n (drop (at + 5) text)) n
 
 -- ## Pages
-rules-bits : (rs qs : List Rule) → rulesBits (rs ++ qs) ≡ rulesBits rs ++ rulesBits qs
+pub rules-bits : (rs qs : List Rule) → rulesBits (rs ++ qs) ≡ rulesBits rs ++ rulesBits qs
 unfolding flatMap
 rules-bits [] qs = refl
 rules-bits (r ∷ rs) qs = ap (rule form1 limits1 .write r ++_) (rules-bits rs qs) ∙ sym (append-assoc (rule form1 limits1 .write r) (rulesBits rs) (rulesBits qs))

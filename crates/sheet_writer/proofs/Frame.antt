@@ -27,7 +27,7 @@ pub padding-bits : (n : ℕ) → bits ((n + 7) / 8 * 8 - n) 0 ≡ padding n
 unfolding padding
 padding-bits n = let e : (n + 7) / 8 * 8 - n ≡ 8 * bytesFor n - n = omega arith in zero-bits ((n + 7) / 8 * 8 - n) ∙ ap (λ w. replicate w 0) e
 
-padding-length : (n : ℕ) → n + length (padding n) ≡ 8 * bytesFor n
+pub padding-length : (n : ℕ) → n + length (padding n) ≡ 8 * bytesFor n
 unfolding padding
 padding-length n = omega (arith, length-replicate {A = ℕ} (8 * bytesFor n - n) 0)
 

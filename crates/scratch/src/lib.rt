@@ -1,0 +1,31 @@
+// Scratch that is as large as the limits ask: the words of a day, and what folding the list of a box works in. Each array is made in a
+// function of its own, so that a proof that lends it knows its length and no more.
+ghost use mathlib.Core.Path.{_≡_};
+ghost use lib.ListN.{length};
+
+// A day of 32 entries and 512 spans, groups included.
+pub fn words() -> [u64; 2049]
+    ensures { λ r. ⌜ 2049 ≡ length r ⌝ }
+{
+    [0u64; 2049]
+}
+
+// The states and the spans of a list: 32 rules of 16 spans.
+pub fn states() -> [u32; 512]
+    ensures { λ r. ⌜ 512 ≡ length r ⌝ }
+{
+    [0u32; 512]
+}
+
+pub fn spans() -> [u64; 512]
+    ensures { λ r. ⌜ 512 ≡ length r ⌝ }
+{
+    [0u64; 512]
+}
+
+// Both ends of these spans, and of the day.
+pub fn ends() -> [u64; 1026]
+    ensures { λ r. ⌜ 1026 ≡ length r ⌝ }
+{
+    [0u64; 1026]
+}
