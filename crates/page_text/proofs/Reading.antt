@@ -14,34 +14,24 @@ use Rattle.definition.specs.Range.{Ends}
 use Rattle.paving.specs.Grid.{axes}
 use Rattle.paving_pages.specs.Pages.{sortItems, pageItems, endNumbers, groupNumbers, groupsNumbers}
 use Rattle.paving_pages.specs.Pages as written
+use Rattle.paving_pages.proofs.Rules.{by-sorts}
 use Rattle.page_writer.specs.Pages.{pageNumbers, pageSize, pageAt, pagesAt}
 use Rattle.page_writer.proofs.Numbers.{place-back, page-back, page-behind}
 use Rattle.page_text.specs.Counted.{Counted}
 use Rattle.page_text.specs.Items.{dimensionItems, groupPage}
 
+-- ## A page, and those behind it
 page-sized : (Y M K D : List Ends) (text : List ℕ) (at number : ℕ) (rest : List ℕ) → drop at text ≡ pageNumbers number Y M K D ++ rest
     → pageSize text at ≡ length (pageNumbers number Y M K D)
 unfolding pageSize pageNumbers flatMap
 page-sized Y M K D text at number rest held = omega (arith, place-back Y M K D text at number rest held)
 
 module _ (rows cuts sizes : List ℕ) where
-  -- ## A group's set has the four sorts
-  -- what holds of a set with any four lists holds of a part
-  pub by-sorts : (P : Set ℕ → Type 0) → ((D K M Y : List ℕ) → Part (axes sizes 4) (D ∷ K ∷ M ∷ Y ∷ []) → P (D ∷ K ∷ M ∷ Y ∷ [])) → (S : Set ℕ) → Part (axes sizes 4) S → P S
-  unfolding axes
-  by-sorts P h [] p = absurd p
-  by-sorts P h (D ∷ []) p = absurd (p .1)
-  by-sorts P h (D ∷ K ∷ []) p = absurd (p .1 .1)
-  by-sorts P h (D ∷ K ∷ M ∷ []) p = absurd (p .1 .1 .1)
-  by-sorts P h (D ∷ K ∷ M ∷ Y ∷ []) p = h D K M Y p
-  by-sorts P h (D ∷ K ∷ M ∷ Y ∷ X ∷ S) p = absurd (p .1 .1 .1 .1)
-
   pub group-numbers : (v : ℕ) (D K M Y : List ℕ)
       → groupNumbers rows cuts sizes 4 (v, D ∷ K ∷ M ∷ Y ∷ []) ≡ pageNumbers v (sortItems rows cuts sizes 0 Y) (sortItems rows cuts sizes 1 M) (sortItems rows cuts sizes 2 K) (sortItems rows cuts sizes 3 D)
   unfolding groupNumbers written.pageNumbers pageNumbers pageItems endNumbers
   group-numbers v D K M Y = refl
 
-  -- ## A page, and those behind it
   -- a group's page is read at a place, as long as its numbers, with these behind it
   pub record Read (text : List ℕ) (at : ℕ) (g : Group ℕ ℕ) (rest : List ℕ) : Type 0 where
     pub held : drop at text ≡ groupNumbers rows cuts sizes 4 g ++ rest
@@ -52,7 +42,7 @@ module _ (rows cuts sizes : List ℕ) where
   module _ (text : List ℕ) where
     group-read : (at v : ℕ) (rest : List ℕ) (S : Set ℕ) → Part (axes sizes 4) S → drop at text ≡ groupNumbers rows cuts sizes 4 (v, S) ++ rest → Read text at (v, S) rest
     unfolding dimensionItems
-    group-read at v rest = by-sorts (λ S. drop at text ≡ groupNumbers rows cuts sizes 4 (v, S) ++ rest → Read text at (v, S) rest) four
+    group-read at v rest = by-sorts sizes (λ S. drop at text ≡ groupNumbers rows cuts sizes 4 (v, S) ++ rest → Read text at (v, S) rest) four
       where
         four : (D K M Y : List ℕ) → Part (axes sizes 4) (D ∷ K ∷ M ∷ Y ∷ []) → drop at text ≡ groupNumbers rows cuts sizes 4 (v, D ∷ K ∷ M ∷ Y ∷ []) ++ rest
             → Read text at (v, D ∷ K ∷ M ∷ Y ∷ []) rest

@@ -19,13 +19,13 @@ use Rattle.paving_points.proofs.Boxes.{Bounded, lawful-bounded}
 use Rattle.rule_writer.specs.Rows.{upperOf, Below, row, Rows}
 use Rattle.rule_writer.specs.Written.{rowsBelow}
 use Rattle.paving_pages.specs.Pages.{CutRows, sortItems, groupNumbers, groupsNumbers}
-use Rattle.paving_pages.proofs.Rules.{cut-rows}
+use Rattle.paving_pages.proofs.Rules.{by-sorts, cut-rows}
 use Rattle.page_writer.specs.Pages.{pageNumbers, pageCounts, pageEnds, pageSize, pageAt, PageReady, Pages}
 use Rattle.page_writer.proofs.Numbers.{ends, sorts, ends-length, rows-back, counts-back, ends-back}
 use Rattle.page_writer.proofs.Reading.{size-low}
 use Rattle.phases.specs.Phases.{Cut}
 use Rattle.page_text.specs.DayReady.{DayReady}
-use Rattle.page_text.proofs.Reading.{by-sorts, group-numbers, Read, first-read, numbersBehind, text-held}
+use Rattle.page_text.proofs.Reading.{group-numbers, Read, first-read, numbersBehind, text-held}
 use Rattle.page_text.proofs.Sorts.{sizes-few, Writable, sort-writable}
 
 -- ## Rows of items that can be written
@@ -63,7 +63,7 @@ module _ (rows sizes cuts : List ℕ) (rs : List Rule) (cut : Cut rows sizes cut
       → Rows (pageEnds text at) (pageCounts text at)
   unfolding axes upperOf
   group-rows text at v rest =
-      by-sorts rows cuts sizes (λ S. drop at text ≡ groupNumbers rows cuts sizes 4 (v, S) ++ rest → Rows (pageEnds text at) (pageCounts text at))
+      by-sorts sizes (λ S. drop at text ≡ groupNumbers rows cuts sizes 4 (v, S) ++ rest → Rows (pageEnds text at) (pageCounts text at))
       (λ D K M Y p h. page-rows (sortItems rows cuts sizes 0 Y) (sortItems rows cuts sizes 1 M) (sortItems rows cuts sizes 2 K) (sortItems rows cuts sizes 3 D)
       (sort-writable rows sizes cuts rs yearDimension [] (cut .cut-by .1 .1 .1) (bounded .1 .1 .1) (cut-row .row 0 (omega arith)) (size-few 0 (omega arith)) Y (p .1 .1 .1 .0))
       (sort-writable rows sizes cuts rs monthDimension (yearDimension ∷ []) (cut .cut-by .1 .1) (bounded .1 .1) (cut-row .row 1 (omega arith)) (size-few 1 (omega arith)) M (p .1 .1 .0))

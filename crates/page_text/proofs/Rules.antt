@@ -18,16 +18,17 @@ use Rattle.rule_writer.specs.Written.{overItems}
 use Rattle.day_writer.specs.Rules.{dayRules}
 use Rattle.paving_pages.specs.Pages.{pageItems, groupsNumbers}
 use Rattle.paving_pages.specs.Sorts.{overSorts, groupRules}
+use Rattle.paving_pages.proofs.Rules.{by-sorts}
 use Rattle.page_writer.specs.Pages.{pagesAt, pageRules, pagesRules}
 use Rattle.page_text.specs.Items.{dimensionItems, groupPage}
-use Rattle.page_text.proofs.Reading.{by-sorts, text-pages}
+use Rattle.page_text.proofs.Reading.{text-pages}
 
 module _ (rows cuts sizes states counts spans lists : List ℕ) where
   page-rules : (v : ℕ) (S : Set ℕ) → Part (axes sizes 4) S
       → pageRules (boxWords states counts spans lists) (groupPage rows cuts sizes (v, S)) ≡ groupRules rows cuts sizes (numberDay states counts spans lists) (v, S)
   unfolding pageRules dayRules groupRules overItems overSorts pageItems dimensionItems
   page-rules v =
-      by-sorts rows cuts sizes (λ S. pageRules (boxWords states counts spans lists) (groupPage rows cuts sizes (v, S)) ≡ groupRules rows cuts sizes (numberDay states counts spans lists) (v, S))
+      by-sorts sizes (λ S. pageRules (boxWords states counts spans lists) (groupPage rows cuts sizes (v, S)) ≡ groupRules rows cuts sizes (numberDay states counts spans lists) (v, S))
       (λ D K M Y p. refl)
 
   pub text-rules : (text₀ text : List ℕ) (gs : List (Group ℕ ℕ)) → text ≡ sets text₀ 0 (groupsNumbers rows cuts sizes 4 gs)

@@ -27,6 +27,17 @@ use Rattle.paving_points.proofs.Boxes.{Bounded, cuts-rise, cuts-points}
 use Rattle.paving_pages.specs.Pages.{CutRows, sortItems, pageItems}
 use Rattle.paving_pages.specs.Sorts.{sorts, overSorts, groupRules}
 
+-- ## A group's set has the four sorts
+-- what holds of any four lists, weekdays first, holds of a part of four dimensions
+pub by-sorts : (sizes : List ℕ) (P : Set ℕ → Type 0) → ((D K M Y : List ℕ) → Part (axes sizes 4) (D ∷ K ∷ M ∷ Y ∷ []) → P (D ∷ K ∷ M ∷ Y ∷ [])) → (S : Set ℕ) → Part (axes sizes 4) S → P S
+unfolding axes
+by-sorts sizes P h [] p = absurd p
+by-sorts sizes P h (D ∷ []) p = absurd (p .1)
+by-sorts sizes P h (D ∷ K ∷ []) p = absurd (p .1 .1)
+by-sorts sizes P h (D ∷ K ∷ M ∷ []) p = absurd (p .1 .1 .1)
+by-sorts sizes P h (D ∷ K ∷ M ∷ Y ∷ []) p = h D K M Y p
+by-sorts sizes P h (D ∷ K ∷ M ∷ Y ∷ X ∷ S) p = absurd (p .1 .1 .1 .1)
+
 -- ## A row's ends
 from-same : (a m c n : ℕ) → from a m ≡ from c (suc n) → (a ≡ c) × (m ≡ suc n)
 unfolding from
@@ -63,17 +74,13 @@ module _ (rows sizes table : List ℕ) (rs : List Rule) where
 
   module _ (dayOf : ℕ → Day) (c : CutBy rows sizes table rs dimensions) (b : Bounded rs dimensions) where
     set-rules : (v : ℕ) (S : Set ℕ) → Part (axes sizes 4) S → rulesOf (pageOf dayOf (cutOf rows table) 4 (v, S)) ≡ groupRules rows table sizes dayOf (v, S)
-    unfolding axes runsOf rulesOf laidOver pageItems overSorts groupRules
-    set-rules v [] p = absurd p
-    set-rules v (D ∷ []) p = absurd (p .1)
-    set-rules v (D ∷ W ∷ []) p = absurd (p .1 .1)
-    set-rules v (D ∷ W ∷ M ∷ []) p = absurd (p .1 .1 .1)
-    set-rules v (D ∷ W ∷ M ∷ Y ∷ []) p =
+    unfolding runsOf rulesOf laidOver pageItems overSorts groupRules
+    set-rules v = by-sorts sizes (λ S. rulesOf (pageOf dayOf (cutOf rows table) 4 (v, S)) ≡ groupRules rows table sizes dayOf (v, S))
+        (λ D W M Y p.
         ap₂ (λ Ys Ms. map (λ r. overSorts sorts (Ys ∷ Ms ∷ itemsOf (weekDimension .bounds) (joined (map (intervalAt (cutOf rows table 2)) W)) ∷ itemsOf (weekdayDimension .bounds) (joined (map (intervalAt (cutOf rows table 3)) D)) ∷ []) r) (asRules (dayOf v)))
         (sort-items yearDimension [] (c .1 .1 .1) (b .1 .1 .1) Y) (sort-items monthDimension (yearDimension ∷ []) (c .1 .1) (b .1 .1) M)
         ∙ ap₂ (λ Ws Ds. map (λ r. overSorts sorts (sortItems rows table sizes 0 Y ∷ sortItems rows table sizes 1 M ∷ Ws ∷ Ds ∷ []) r) (asRules (dayOf v)))
-        (sort-items weekDimension (monthDimension ∷ yearDimension ∷ []) (c .1) (b .1) W) (sort-items weekdayDimension (weekDimension ∷ monthDimension ∷ yearDimension ∷ []) c b D)
-    set-rules v (D ∷ W ∷ M ∷ Y ∷ X ∷ S) p = absurd (p .1 .1 .1 .1)
+        (sort-items weekDimension (monthDimension ∷ yearDimension ∷ []) (c .1) (b .1) W) (sort-items weekdayDimension (weekDimension ∷ monthDimension ∷ yearDimension ∷ []) c b D))
 
     -- THE FOLDED RULES are those of the pages' items, page after page, where the definition's pages are the popped groups
     pub rules-paged : (cells kinds : List ℕ) → pages rs ≡ map (pageOf dayOf (cutOf rows table) 4) (groupsFrom cells kinds sizes 5 1 4)
