@@ -61,7 +61,7 @@ box-somewhere sizes (suc i) t [] w h = absurd w
 box-somewhere sizes (suc i) t (x ∷ p) w h = from-any (λ x. somewhere (axes sizes i) (at t x)) 0 (getD sizes i 0) x (omega arith) (omega (arith, w .0)) (box-somewhere sizes i (at t x) p (w .1) h)
 
 -- the number of a box below a node
-box-in : (len : ℕ) (sizes : List ℕ) (l c : ℕ) (p : List ℕ) → Node len sizes l c → Within sizes l p → boxOf sizes l c p < len
+pub box-in : (len : ℕ) (sizes : List ℕ) (l c : ℕ) (p : List ℕ) → Node len sizes l c → Within sizes l p → boxOf sizes l c p < len
 unfolding boxOf
 box-in len sizes zero c [] n w = node-in len sizes 0 c n
 box-in len sizes zero c (x ∷ p) n w = absurd w

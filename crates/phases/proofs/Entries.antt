@@ -9,7 +9,6 @@ use native.Mathlib.Omega.{arith}
 use lib.ListN.{length, getD, length-map}
 use Rattle.laws.specs.Lists.{All}
 use Rattle.laws.proofs.Lists.{every-all}
-use Rattle.definition.specs.Field.{Layout}
 use Rattle.definition.specs.Rule.{Normal, Span, Rule}
 use Rattle.definition.specs.Sheet.{form1, limits1, span, rule}
 use Rattle.definition.specs.Day.{Entry, flattened, entryOf, day, dayOf}
@@ -45,10 +44,10 @@ spans-back (x ∷ xs) h = ap₂ _∷_ (number-span x (span-numbered x (span-carr
 
 module _ (states counts spans : List ℕ) where
   -- the entry that a number names
-  abbrev entryAt : ℕ → Entry
+  abbrev pub entryAt : ℕ → Entry
   entryAt k = (stateAt (getD states k 0), map spanAt (part spans (k * 16) (getD counts k 0)))
 
-  entry-back : (k : ℕ) (r : Rule) → EntryAt states counts spans k r → (rule form1 limits1) .fits r ≡ true → entryAt k ≡ entryOf r
+  pub entry-back : (k : ℕ) (r : Rule) → EntryAt states counts spans k r → (rule form1 limits1) .fits r ≡ true → entryAt k ≡ entryOf r
   entry-back k r h f =
       let numbers = map spanNumber (r .spans) in
       let long : getD counts k 0 ≡ length numbers = h .count-held ∙ sym (length-map (r .spans) spanNumber) in
