@@ -1,2 +1,3 @@
 pub mod Ready
 pub mod Numbered
+pub mod Paging

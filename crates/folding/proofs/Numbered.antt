@@ -18,15 +18,13 @@ use Rattle.grid.specs.Group.{Set, Map, Group, inside, clear, pop}
 use Rattle.grid.proofs.Part.{Part, groups-part, groups-each}
 use Rattle.grid.proofs.Value.{pop-agree, pop-inside, clear-value}
 use Rattle.definition.specs.Rule.{Rule}
-use Rattle.definition.specs.Sheet.{form1, limits1}
+use Rattle.definition.specs.Sheet.{limits1}
 use Rattle.definition.specs.Point.{dimensions, firstTooLong}
 use Rattle.definition.specs.Day.{Day, day}
 use Rattle.definition.specs.Group.{pages, rulesOf, folded}
-use Rattle.definition.proofs.Lawful.{Lawful, rule-lawful}
+use Rattle.definition.proofs.Lawful.{Lawful}
 use Rattle.definition.proofs.Groups.{group-rules}
 use Rattle.definition.proofs.Counts.{pages-count}
-use Rattle.day_words.specs.Day.{unflat}
-use Rattle.day_writer.specs.Rules.{Carried}
 use Rattle.paving.specs.Grid.{sizeOf, axes, grid, inClass}
 use Rattle.paving.specs.Sweep.{classesFrom, groupsFrom}
 use Rattle.paving.proofs.Points.{grid-values}
@@ -37,18 +35,18 @@ use Rattle.paving_update.proofs.Meaning.{box-in}
 use Rattle.paving_cuts.proofs.ByRules.{boxes-counted}
 use Rattle.paving_points.specs.Listed.{ruleAt}
 use Rattle.paving_points.specs.Paged.{pageOf}
-use Rattle.paving_points.proofs.Boxes.{Bounded, lawful-bounded}
+use Rattle.paving_points.proofs.Boxes.{lawful-bounded}
 use Rattle.paving_points.proofs.Lists.{listed-end}
 use Rattle.paving_points.proofs.Groups.{pages-popped}
-use Rattle.paving_map.specs.Boxes.{boxWords, Ready, Mapped}
+use Rattle.paving_map.specs.Boxes.{boxWords, Mapped}
 use Rattle.paving_map.proofs.Numbering.{number-low}
 use Rattle.paving_map.proofs.InUse.{InUse, none-used, numberDay, number-day-none, same-day-number, numbers-classed, cell-day, cells-used}
-use Rattle.paving_pages.specs.Pages.{CutRows}
 use Rattle.paving_pages.specs.Sorts.{groupRules}
-use Rattle.paving_pages.proofs.Rules.{cut-rows, rules-paged}
+use Rattle.paving_pages.proofs.Rules.{rules-paged}
 use Rattle.phases.specs.Phases.{Entries, Boxed, dayRoom}
 use Rattle.phases.proofs.Entries.{day-listed}
-use Rattle.folding.proofs.Ready.{box-ready, boxed-carried}
+use Rattle.page_text.specs.DayReady.{DayReady}
+use Rattle.folding.proofs.Ready.{tables-lawful, box-ready, boxed-carried}
 
 -- ## Popped values
 module _ (P : ℕ → Type 0) (cells kinds sizes : List ℕ) (last k l : ℕ) (empty : getD kinds 0 0 ≡ 0) (zero-too : P 0) (each : (j : ℕ) → P (getD cells j 0)) where
@@ -75,6 +73,11 @@ module _ (P : ℕ → Type 0) (cells kinds sizes : List ℕ) (last k l : ℕ) (e
           go true = zero-too
           go false = h p
 
+-- popped sets are parts of the dimensions
+pub found-parts : (cells kinds sizes : List ℕ) (last k l : ℕ) → All (λ g. Part (axes sizes l) (g .1)) (groupsFrom cells kinds sizes last k l)
+unfolding groupsFrom
+found-parts cells kinds sizes last k l = groups-part eqb eqb 0 (axes sizes l) (classesFrom kinds last k) (grid cells sizes l 0)
+
 -- a page has at most 33 rules
 pages-brief : (rs : List Rule) → firstTooLong 32 rs ≡ none → length (folded rs) ≤ length (pages rs) * 33
 unfolding folded
@@ -94,14 +97,8 @@ module _ (states counts spans rows sizes cuts lists cells classes : List ℕ) (r
   cells-in-use : (j : ℕ) → used (getD cells j 0)
   cells-in-use = cells-used states counts spans lists (sizeOf sizes 4) cells classes mapped (omega arith)
 
-  pub lawful : All Lawful rs
-  lawful = All-map (λ r f. rule-lawful form1 limits1 r f) rs (tables .fits)
-
-  bounded : Bounded rs dimensions
-  bounded = lawful-bounded rs lawful
-
-  pub rows-cut : CutRows rows cuts sizes 4
-  rows-cut = cut-rows rows sizes cuts rs dimensions (boxed .cut .cut-by) bounded (boxed .cut .all-rows) (omega (arith, boxed .cut .four)) (boxed .cut .inside)
+  lawful : All Lawful rs
+  lawful = tables-lawful states counts spans rs tables
 
   -- ## The definition's pages
   box-day : (p : List ℕ) → Within sizes 4 p → dayOf (getD cells (boxOf sizes 4 0 p) 0) ≡ day (map (ruleAt rs) (listOf lists (boxOf sizes 4 0 p)))
@@ -120,7 +117,7 @@ module _ (states counts spans rows sizes cuts lists cells classes : List ℕ) (r
 
   -- THE FOLDED RULES
   pub folded-found : folded rs ≡ flatMap (groupRules rows cuts sizes dayOf) found
-  folded-found = rules-paged rows sizes cuts rs dayOf (boxed .cut .cut-by) bounded cells classes pages-found
+  folded-found = rules-paged rows sizes cuts rs dayOf (boxed .cut .cut-by) (lawful-bounded rs lawful) cells classes pages-found
 
   pub found-few : length found ≤ limits1 .boxes
   found-few = omega (arith, pages-many, pages-count rs lawful, boxes-counted rows sizes cuts rs dimensions (boxed .cut .cut-by), boxed .few-boxes)
@@ -129,12 +126,8 @@ module _ (states counts spans rows sizes cuts lists cells classes : List ℕ) (r
   found-brief = omega (arith, pages-many, pages-brief rs (listed-end sizes rows cuts lists rs (boxed .listed)))
 
   -- ## The groups
-  pub found-parts : All (λ g. Part (axes sizes 4) (g .1)) found
-  unfolding groupsFrom
-  found-parts = groups-part eqb eqb 0 (axes sizes 4) (classesFrom classes 5 1) (grid cells sizes 4 0)
-
   -- a group's number is that of a box's day
-  pub found-ready : All (λ g. (1 ≤ g .0) × Ready states counts spans lists dayRoom (g .0 - 1) × All Carried (unflat (boxWords states counts spans lists (g .0 - 1)))) found
+  pub found-ready : All (λ g. DayReady states counts spans lists dayRoom (g .0)) found
   found-ready = All-map (λ g q. (q .1, box-ready states counts spans rs tables rows sizes cuts lists boxed (g .0 - 1) (below (g .0) (q .0) (q .1)), boxed-carried states counts spans rs tables rows sizes cuts lists boxed (g .0 - 1))) found
       (popped-values used cells classes sizes 5 1 4 (mapped .none) (none-used (boxWords states counts spans lists) (sizeOf sizes 4)) cells-in-use)
     where

@@ -11,11 +11,12 @@ use lib.Dec.{ltb}
 use lib.ListN.{length, getD, List·getD-eq-default}
 use borrow.Author.Tests.{ltb-true, ltb-false}
 use Rattle.laws.specs.Lists.{All}
-use Rattle.laws.proofs.Lists.{every-all}
+use Rattle.laws.proofs.Lists.{All-map, every-all}
 use Rattle.definition.specs.Rule.{Rule}
 use Rattle.definition.specs.Sheet.{form1, limits1, span}
+use Rattle.definition.specs.Point.{dimensions}
 use Rattle.definition.specs.Day.{Entry}
-use Rattle.definition.proofs.Lawful.{items-fit}
+use Rattle.definition.proofs.Lawful.{Lawful, items-fit, rule-lawful}
 use Rattle.sheet.specs.Begin.{noRule}
 use Rattle.span_number.specs.Number.{stateAt, NumberedState, spanAt}
 use Rattle.span_number.proofs.Carried.{state-numbered}
@@ -27,13 +28,19 @@ use Rattle.day_writer.specs.Rules.{Carried}
 use Rattle.paving.specs.Grid.{sizeOf, widthOf, Room}
 use Rattle.paving_update.specs.Boxes.{listOf}
 use Rattle.paving_update.proofs.Drawing.{list-length}
+use Rattle.paving_points.proofs.Boxes.{lawful-bounded}
 use Rattle.paving_map.specs.Boxes.{boxWords, Ready}
+use Rattle.paving_pages.specs.Pages.{CutRows}
+use Rattle.paving_pages.proofs.Rules.{cut-rows}
 use Rattle.page_writer.proofs.Carrying.{box-carried}
 use Rattle.phases.specs.Phases.{Entries, Boxed, dayRoom}
 use Rattle.phases.proofs.Entries.{all-at, entry-back}
 
 -- ## Tables
 module _ (states counts spans : List ℕ) (rs : List Rule) (tables : Entries states counts spans rs) where
+  pub tables-lawful : All Lawful rs
+  tables-lawful = All-map (λ r f. rule-lawful form1 limits1 r f) rs (tables .fits)
+
   -- past the last rule there are no spans
   counts-past : (r : ℕ) → length rs ≤ r → getD counts r 0 ≡ 0
   counts-past r l = List·getD-eq-default counts 0 (omega (arith, tables .all-counts))
@@ -63,6 +70,11 @@ module _ (states counts spans : List ℕ) (rs : List Rule) (tables : Entries sta
 
   -- ## Boxes
   module _ (rows sizes cuts lists : List ℕ) (boxed : Boxed rows sizes cuts lists rs) where
+    -- the rows are those that popping asks for
+    pub rows-cut : CutRows rows cuts sizes 4
+    rows-cut =
+        cut-rows rows sizes cuts rs dimensions (boxed .cut .cut-by) (lawful-bounded rs tables-lawful) (boxed .cut .all-rows) (omega (arith, boxed .cut .four)) (boxed .cut .inside)
+
     short : (i : ℕ) → length (listOf lists i) ≤ 32
     short i = omega (arith, list-length lists i, boxed .listed .short i)
 

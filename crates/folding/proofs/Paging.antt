@@ -1,0 +1,63 @@
+-- THE TEXT'S PAGES ARE THOSE OF THE FOLDED RULES, where the groups were appended to it. Rests on the laws that the folded rules are the groups'
+-- and that a text's pages are read back.
+-- Assumes nothing.
+use mathlib.Core.Path.{_≡_, sym, _∙_, subst}
+use mathlib.Core.List.{List}
+use Prim.Native.Nat.{ℕ, _*_, _≤_}
+use native.Mathlib.Omega.{arith}
+use lib.ListN.{length}
+use lib.Seq.{sets}
+use Rattle.laws.specs.Lists.{All}
+use Rattle.grid.specs.Group.{Group}
+use Rattle.grid.proofs.Part.{Part}
+use Rattle.definition.specs.Rule.{Rule}
+use Rattle.paving.specs.Grid.{sizeOf, axes}
+use Rattle.paving.specs.Sweep.{groupsFrom}
+use Rattle.paving_map.specs.Boxes.{boxWords, Mapped}
+use Rattle.paving_pages.specs.Pages.{groupsNumbers}
+use Rattle.paving_pages.proofs.Enough.{pages-few}
+use Rattle.phases.specs.Phases.{Entries, Boxed, dayRoom, Paged}
+use Rattle.page_text.specs.Counted.{Counted}
+use Rattle.page_text.proofs.Reading.{text-counted}
+use Rattle.page_text.proofs.Rules.{text-rules}
+use Rattle.page_text.proofs.Ready.{text-ready}
+use Rattle.folding.proofs.Ready.{tables-lawful}
+use Rattle.folding.proofs.Numbered.{folded-found, found-few, found-brief, found-parts, found-ready}
+
+module _ (states counts spans rows sizes cuts lists cells classes : List ℕ) (rs : List Rule) (tables : Entries states counts spans rs) (boxed : Boxed rows sizes cuts lists rs)
+    (boxes : ℕ) (all : boxes ≡ sizeOf sizes 4) (numbered : Mapped (boxWords states counts spans lists) cells classes boxes) (each : length cells ≡ boxes) (text₀ text : List ℕ)
+    (roomy : 13 * 1024 ≤ length text₀) (laid : text ≡ sets text₀ 0 (groupsNumbers rows cuts sizes 4 (groupsFrom cells classes sizes 5 1 4)))
+    (stop : ℕ) (ends : stop ≡ length (groupsNumbers rows cuts sizes 4 (groupsFrom cells classes sizes 5 1 4))) where
+  abbrev gs : List (Group ℕ ℕ)
+  gs = groupsFrom cells classes sizes 5 1 4
+
+  mapped : Mapped (boxWords states counts spans lists) cells classes (sizeOf sizes 4)
+  mapped = subst (Mapped (boxWords states counts spans lists) cells classes) all numbered
+
+  exact : length cells ≡ sizeOf sizes 4
+  exact = each ∙ all
+
+  inside : length (groupsNumbers rows cuts sizes 4 gs) ≤ length text₀
+  inside = omega (arith, pages-few rows cuts cells classes sizes 5 1 (mapped .none), boxed .few-boxes)
+
+  parts : All (λ g. Part (axes sizes 4) (g .1)) gs
+  parts = found-parts cells classes sizes 5 1 4
+
+  -- the pages end where the groups' numbers do
+  ended : Counted text (length gs) 0 stop
+  ended = subst (Counted text (length gs) 0) (sym ends) (text-counted rows cuts sizes text₀ text gs laid inside parts)
+
+  pub pages-end : ((n : ℕ) × Counted text n 0 stop) × (stop ≤ length text₀)
+  pages-end = ((length gs, ended), omega (arith, inside))
+
+  -- SO MANY PAGES as were counted
+  pub pages-folded : (n : ℕ) → ((m : ℕ) → Counted text m 0 stop → n ≡ m) → Paged states counts spans lists text n rs
+  pages-folded n counted = subst (λ m. Paged states counts spans lists text m rs) (sym (counted (length gs) ended)) (record {
+    few = found-few states counts spans rows sizes cuts lists cells classes rs tables boxed mapped exact;
+    pages = text-ready rows sizes cuts rs (boxed .cut) (tables-lawful states counts spans rs tables) (boxed .few-boxes)
+        states counts spans lists text₀ text dayRoom gs laid inside parts
+        (found-ready states counts spans rows sizes cuts lists cells classes rs tables boxed mapped exact);
+    brief = found-brief states counts spans rows sizes cuts lists cells classes rs tables boxed mapped exact;
+    rules = text-rules rows cuts sizes states counts spans lists text₀ text gs laid inside parts
+        ∙ sym (folded-found states counts spans rows sizes cuts lists cells classes rs tables boxed mapped exact);
+  })
