@@ -1,7 +1,5 @@
 // From boxes with lists to pages of the folded rules: the boxes' days are numbered, groups of boxes that have one day popped as pages, and
 // the pages counted.
-pub mod scratch;
-
 ghost use mathlib.Core.Path.{_≡_};
 ghost use mathlib.Core.List.{List};
 ghost use Prim.Native.Nat.{_*_, _≤_, _<_};
@@ -28,11 +26,11 @@ fn number_days(
 {
     let mut words = scratch::words();
     let mut other = scratch::words();
-    let mut stated = scratch::list_states();
-    let mut spanned = scratch::list_spans();
-    let mut strokes = scratch::list_ends();
-    let mut times = scratch::list_ends();
-    let mut painted = scratch::list_ends();
+    let mut stated = scratch::states();
+    let mut spanned = scratch::spans();
+    let mut strokes = scratch::ends();
+    let mut times = scratch::ends();
+    let mut painted = scratch::ends();
     let mut known = scratch::box_numbers();
     let mut hints = scratch::box_prints();
     let mut prints = scratch::box_prints();

@@ -1,7 +1,7 @@
 // Scratch that is as large as the limits ask: the words of a day, and what folding the list of a box works in. Each array is made in a
 // function of its own, so that a proof that lends it knows its length and no more.
 ghost use mathlib.Core.Path.{_≡_};
-ghost use lib.ListN.{length};
+ghost use lib.ListN.{length, getD};
 
 // A day of 32 entries and 512 spans, groups included.
 pub fn words() -> [u64; 2049]
@@ -28,4 +28,31 @@ pub fn ends() -> [u64; 1026]
     ensures { λ r. ⌜ 1026 ≡ length r ⌝ }
 {
     [0u64; 1026]
+}
+
+// A box's number, and a print, for each box.
+pub fn box_numbers() -> [u16; 1024]
+    ensures { λ r. ⌜ 1024 ≡ length r ⌝ }
+{
+    [0u16; 1024]
+}
+
+pub fn box_prints() -> [u64; 1024]
+    ensures { λ r. ⌜ 1024 ≡ length r ⌝ }
+{
+    [0u64; 1024]
+}
+
+// A class for each box's day and one for the empty day, which has none.
+pub fn day_classes() -> [u8; 1025]
+    ensures { λ r. ⌜ (1025 ≡ length r) × (getD r 0 0 ≡ 0) ⌝ }
+{
+    [0u8; 1025]
+}
+
+// A mark for each interval of four dimensions.
+pub fn marks() -> [u8; 1027]
+    ensures { λ r. ⌜ 1027 ≡ length r ⌝ }
+{
+    [0u8; 1027]
 }

@@ -19,8 +19,8 @@ map-requires c κs =
       (ready-kept (now (a .states)) (now (a .span-counts)) (now (a .spans)) (now (a .lists)) (λ i. i) (a .boxes) _ _ (sym words) (pre .0), omega (arith, words, c .before .before .before .before .before .before .before .before .before .before .before .before .before .before .before .before .before .before .before .before .words2 .ensures)),
       (
         record {
-          spans = (omega (arith, c .before .before .before .before .before .before .before .before .before .before .before .before .before .before .before .before .before .before .before .list-states .ensures), omega (arith, c .before .before .before .before .before .before .before .before .before .before .before .before .before .before .before .before .before .before .list-spans .ensures));
-          ends = (omega (arith, c .before .before .before .before .before .before .before .before .before .before .before .before .before .before .before .before .before .list-ends .ensures), omega (arith, c .before .before .before .before .before .before .before .before .before .before .before .before .before .before .before .before .list-ends2 .ensures), omega (arith, c .before .before .before .before .before .before .before .before .before .before .before .before .before .before .before .list-ends3 .ensures));
+          spans = (omega (arith, c .before .before .before .before .before .before .before .before .before .before .before .before .before .before .before .before .before .before .before .states .ensures), omega (arith, c .before .before .before .before .before .before .before .before .before .before .before .before .before .before .before .before .before .before .spans .ensures));
+          ends = (omega (arith, c .before .before .before .before .before .before .before .before .before .before .before .before .before .before .before .before .before .ends .ensures), omega (arith, c .before .before .before .before .before .before .before .before .before .before .before .before .before .before .before .before .ends2 .ensures), omega (arith, c .before .before .before .before .before .before .before .before .before .before .before .before .before .before .before .ends3 .ensures));
         },
         (
           record {
