@@ -3,7 +3,7 @@
 ghost use mathlib.Core.Path.{_≡_};
 ghost use lib.ListN.{length, getD};
 
-// A day of 32 entries and 512 spans, groups included.
+// A day of a list of 32 rules: 64 words for each rule, and one.
 pub fn words() -> [u64; 2049]
     ensures { λ r. ⌜ 2049 ≡ length r ⌝ }
 {
