@@ -7,31 +7,7 @@ ghost use Prim.Native.Nat.{_≤_};
 ghost use lib.ListN.{length};
 ghost use Rattle.day_replay.specs.Lent.{Lent};
 
-// Room for a day, for a list's states and spans, and for cuts; tables of 32 rules, and their numbers.
-fn words() -> [u64; 2049]
-    ensures { λ r. ⌜ 2049 ≡ length r ⌝ }
-{
-    [0u64; 2049]
-}
-
-fn list_states() -> [u32; 512]
-    ensures { λ r. ⌜ 512 ≡ length r ⌝ }
-{
-    [0u32; 512]
-}
-
-fn list_spans() -> [u64; 512]
-    ensures { λ r. ⌜ 512 ≡ length r ⌝ }
-{
-    [0u64; 512]
-}
-
-fn list_cuts() -> [u64; 1026]
-    ensures { λ r. ⌜ 1026 ≡ length r ⌝ }
-{
-    [0u64; 1026]
-}
-
+// Tables of 32 rules, and their numbers.
 fn rule_states() -> [u32; 32]
     ensures { λ r. ⌜ 32 ≡ length r ⌝ }
 {
@@ -135,15 +111,15 @@ fn agrees_in(
 }
 
 pub fn agrees(body: &[u8], rules: usize, digest: usize) -> bool {
-    let mut out = words();
-    let mut stated = list_states();
-    let mut spanned = list_spans();
-    let mut strokes = list_cuts();
-    let mut cuts = list_cuts();
-    let mut cells = list_cuts();
+    let mut out = scratch::words();
+    let mut stated = scratch::states();
+    let mut spanned = scratch::spans();
+    let mut strokes = scratch::ends();
+    let mut cuts = scratch::ends();
+    let mut cells = scratch::ends();
     let mut states = rule_states();
     let mut counts = rule_counts();
-    let mut spans = list_spans();
+    let mut spans = scratch::spans();
     let list = rule_numbers();
     agrees_in(
         body,

@@ -9,16 +9,16 @@ agrees-in-requires : tie.Need-agrees-in-requires
 agrees-in-requires c κs = (
   (
     omega (arith, c .before .before .before .before .before .before .before .before .before .before .before .before .before .before .before .before .before .before .before .words .ensures),
-    omega (arith, c .before .before .before .before .before .before .before .before .before .before .before .before .before .before .before .before .before .before .list-states .ensures),
-    omega (arith, c .before .before .before .before .before .before .before .before .before .before .before .before .before .before .before .before .before .list-spans .ensures),
-    omega (arith, c .before .before .before .before .before .before .before .before .before .before .before .before .before .before .before .before .list-cuts .ensures),
-    omega (arith, c .before .before .before .before .before .before .before .before .before .before .before .before .before .before .before .list-cuts2 .ensures),
-    omega (arith, c .before .before .before .before .before .before .before .before .before .before .before .before .before .before .list-cuts3 .ensures),
+    omega (arith, c .before .before .before .before .before .before .before .before .before .before .before .before .before .before .before .before .before .before .states .ensures),
+    omega (arith, c .before .before .before .before .before .before .before .before .before .before .before .before .before .before .before .before .before .spans .ensures),
+    omega (arith, c .before .before .before .before .before .before .before .before .before .before .before .before .before .before .before .before .ends .ensures),
+    omega (arith, c .before .before .before .before .before .before .before .before .before .before .before .before .before .before .before .ends2 .ensures),
+    omega (arith, c .before .before .before .before .before .before .before .before .before .before .before .before .before .before .ends3 .ensures),
   ),
   (
     omega (arith, c .before .before .before .before .before .before .before .before .before .before .before .before .before .rule-states .ensures),
     omega (arith, c .before .before .before .before .before .before .before .before .before .before .before .before .rule-counts .ensures),
-    omega (arith, c .before .before .before .before .before .before .before .before .before .before .before .list-spans2 .ensures),
+    omega (arith, c .before .before .before .before .before .before .before .before .before .before .before .spans2 .ensures),
     omega (arith, c .before .before .before .before .before .before .before .before .before .before .rule-numbers .ensures),
   ),
 )
