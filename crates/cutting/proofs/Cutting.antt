@@ -21,17 +21,19 @@ use Rattle.definition.specs.Rule.{Rule}
 use Rattle.definition.specs.Sheet.{form1, limits1, rule}
 use Rattle.definition.specs.Range.{ranges}
 use Rattle.definition.specs.Point.{Dimension, dimensions, selector}
-use Rattle.definition.specs.Box.{allRanges}
+use Rattle.definition.specs.Box.{allRanges, boxCount}
 use Rattle.definition.proofs.Bits.{Bytes, sheet-bits}
 use Rattle.definition.proofs.SheetRead.{rule-faithful}
 use Rattle.sheet.specs.Begin.{noRule, ruleAt}
 use Rattle.sheet.specs.Rules.{rulesAt}
 use Rattle.sheet.proofs.Begins.{rules-many, rules-each}
+use Rattle.paving.specs.Grid.{sizeOf}
 use Rattle.paving_update.specs.Update.{rangePlaces}
 use Rattle.paving_update.specs.Boxes.{selectorOf}
 use Rattle.paving_cuts.specs.Cuts.{Rowed, rowed, cutRows, startRow, Space}
 use Rattle.paving_cuts.specs.Rules.{CutBy, Roomy, startRows}
 use Rattle.paving_cuts.proofs.Rows.{row-length, cut-start}
+use Rattle.paving_cuts.proofs.ByRules.{boxes-counted}
 use Rattle.paving_points.proofs.Cuts.{rule-space, rule-cut}
 use Rattle.paving_points.proofs.Few.{items-few, ranges-few, rules-roomy}
 use Rattle.drawing.specs.Drawing.{Scratch}
@@ -130,13 +132,16 @@ module _ (sheet : List ℕ) (bytes : Bytes sheet) (begins : List ℕ) (n : ℕ) 
           (subst (λ t. CutBy rows (t .sizes) (t .cuts) (take (suc k) rs) dimensions) (sym e)
           (rule-cut rows counts loaded (rowPlaces n) rs k many dimensions same roomy (there .placed) (rowed table sizes) before (omega (arith, there .four-sizes)) (there .all-cuts)))
 
-    pub cut-there : CutBy rows sizes table rs dimensions → Cut rows sizes table rs
-    cut-there c =
-        let wide = row-wide rows sizes table (rowPlaces n) rs dimensions c roomy in
-        record {
-          four = there .four-sizes;
-          all-rows = omega (arith, there .four-rows);
-          inside = λ i l. omega (arith, wide i l, there .placed i l, there .all-cuts, mul-le-mul-right (rowPlaces n) l);
-          filled = λ i l. wide i l .0;
-          cut-by = c;
-        }
+    -- THE ROWS OF ALL RULES, and the boxes between their cuts
+    pub cut-there : (boxes : ℕ) → boxes ≡ sizeOf sizes 4 → CutBy rows sizes table rs dimensions → (boxes ≡ boxCount dimensions rs) × Cut rows sizes table rs
+    cut-there boxes e c =
+        let wide = row-wide rows sizes table (rowPlaces n) rs dimensions c roomy in (
+          e ∙ boxes-counted rows sizes table rs dimensions c,
+          record {
+            four = there .four-sizes;
+            all-rows = omega (arith, there .four-rows);
+            inside = λ i l. omega (arith, wide i l, there .placed i l, there .all-cuts, mul-le-mul-right (rowPlaces n) l);
+            filled = λ i l. wide i l .0;
+            cut-by = c;
+          },
+        )

@@ -3,9 +3,7 @@
 use mathlib.Core.Path.{_∙_}
 use native.Mathlib.Omega.{arith}
 use borrow.Author.Needs.{needs}
-use Rattle.definition.specs.Point.{dimensions}
 use Rattle.field.proofs.FieldAt.{known-bytes}
-use Rattle.paving_cuts.proofs.ByRules.{boxes-counted}
 use Rattle.cutting.proofs.Cutting.{cut-there}
 use Rattle.cutting.proofs.cut_all.Statement.{statement}
 use Rattle.cutting.proofs.cut_all.Tie as tie
@@ -38,15 +36,13 @@ returns c =
     let pre = c .before .before .before .before .before .before .before .before .before .before .before .before .before .before .before .before .before .before .before .before .before .before .before .before .before .before .before .before .before .before .before .before .before .pre in
     let start = c .before .before .before .before .before .before .before .before .before .before .before .before .before .before .before .before .before .before .before .before .before .before .start-rows in
     let cut = c .before .before .before .before .before .before .before .before .before .before .cut-rules in
-    let bytes = known-bytes (args .sheet .now) (λ j. omega (arith, c .before .before .before .before .before .before .before .before .before .before .before .before .before .before .before .before .before .before .before .before .before .before .before .before .before .before .before .before .before .before .before .before .shared-slice-known .given j)) in (
-      c .box-count .ensures .0 ∙ boxes-counted _ _ _ _ dimensions (cut .ensures),
-      cut-there (args .sheet .now) bytes _ _ (pre .0) _ _ _ (record {
-        four-rows = start .kept .1 .1 .0 ∙ pre .1 .0 .0;
-        four-sizes = cut .kept .1 .1 .1 .1 .0 ∙ start .kept .1 .0 ∙ pre .1 .0 .1;
-        all-cuts = omega (arith, cut .kept .1 .1 .1 .0, start .kept .0, pre .1 .0 .2);
-        placed = start .ensures .0;
-      }) (cut .ensures),
-    )
+    let bytes = known-bytes (args .sheet .now) (λ j. omega (arith, c .before .before .before .before .before .before .before .before .before .before .before .before .before .before .before .before .before .before .before .before .before .before .before .before .before .before .before .before .before .before .before .before .shared-slice-known .given j)) in
+    cut-there (args .sheet .now) bytes _ _ (pre .0) _ _ _ (record {
+      four-rows = start .kept .1 .1 .0 ∙ pre .1 .0 .0;
+      four-sizes = cut .kept .1 .1 .1 .1 .0 ∙ start .kept .1 .0 ∙ pre .1 .0 .1;
+      all-cuts = omega (arith, cut .kept .1 .1 .1 .0, start .kept .0, pre .1 .0 .2);
+      placed = start .ensures .0;
+    }) _ (c .box-count .ensures .0) (cut .ensures)
 
 pub cut-all-spec : {M : Type 1} → statement M
 cut-all-spec =
