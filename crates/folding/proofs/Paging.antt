@@ -28,8 +28,8 @@ module _ (states counts spans rows sizes cuts lists cells classes : List ℕ) (r
     (boxes : ℕ) (all : boxes ≡ sizeOf sizes 4) (numbered : Mapped (boxWords states counts spans lists) cells classes boxes) (each : length cells ≡ boxes) (text₀ text : List ℕ)
     (roomy : 13 * 1024 ≤ length text₀) (laid : text ≡ sets text₀ 0 (groupsNumbers rows cuts sizes 4 (groupsFrom cells classes sizes 5 1 4)))
     (stop : ℕ) (ends : stop ≡ length (groupsNumbers rows cuts sizes 4 (groupsFrom cells classes sizes 5 1 4))) where
-  abbrev gs : List (Group ℕ ℕ)
-  gs = groupsFrom cells classes sizes 5 1 4
+  abbrev found : List (Group ℕ ℕ)
+  found = groupsFrom cells classes sizes 5 1 4
 
   mapped : Mapped (boxWords states counts spans lists) cells classes (sizeOf sizes 4)
   mapped = subst (Mapped (boxWords states counts spans lists) cells classes) all numbered
@@ -37,27 +37,27 @@ module _ (states counts spans rows sizes cuts lists cells classes : List ℕ) (r
   exact : length cells ≡ sizeOf sizes 4
   exact = each ∙ all
 
-  inside : length (groupsNumbers rows cuts sizes 4 gs) ≤ length text₀
+  inside : length (groupsNumbers rows cuts sizes 4 found) ≤ length text₀
   inside = omega (arith, pages-few rows cuts cells classes sizes 5 1 (mapped .none), boxed .few-boxes)
 
-  parts : All (λ g. Part (axes sizes 4) (g .1)) gs
+  parts : All (λ g. Part (axes sizes 4) (g .1)) found
   parts = found-parts cells classes sizes 5 1 4
 
   -- the pages end where the groups' numbers do
-  ended : Counted text (length gs) 0 stop
-  ended = subst (Counted text (length gs) 0) (sym ends) (text-counted rows cuts sizes text₀ text gs laid inside parts)
+  ended : Counted text (length found) 0 stop
+  ended = subst (Counted text (length found) 0) (sym ends) (text-counted rows cuts sizes text₀ text found laid inside parts)
 
   pub pages-end : ((n : ℕ) × Counted text n 0 stop) × (stop ≤ length text₀)
-  pages-end = ((length gs, ended), omega (arith, inside))
+  pages-end = ((length found, ended), omega (arith, inside))
 
   -- SO MANY PAGES as were counted
   pub pages-folded : (n : ℕ) → ((m : ℕ) → Counted text m 0 stop → n ≡ m) → Paged states counts spans lists text n rs
-  pages-folded n counted = subst (λ m. Paged states counts spans lists text m rs) (sym (counted (length gs) ended)) (record {
+  pages-folded n counted = subst (λ m. Paged states counts spans lists text m rs) (sym (counted (length found) ended)) (record {
     few = found-few states counts spans rows sizes cuts lists cells classes rs tables boxed mapped exact;
     pages = text-ready rows sizes cuts rs (boxed .cut) (tables-lawful states counts spans rs tables) (boxed .few-boxes)
-        states counts spans lists text₀ text dayRoom gs laid inside parts
+        states counts spans lists text₀ text dayRoom found laid inside parts
         (found-ready states counts spans rows sizes cuts lists cells classes rs tables boxed mapped exact);
     brief = found-brief states counts spans rows sizes cuts lists cells classes rs tables boxed mapped exact;
-    rules = text-rules rows cuts sizes states counts spans lists text₀ text gs laid inside parts
+    rules = text-rules rows cuts sizes states counts spans lists text₀ text found laid inside parts
         ∙ sym (folded-found states counts spans rows sizes cuts lists cells classes rs tables boxed mapped exact);
   })
