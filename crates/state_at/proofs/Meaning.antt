@@ -1,0 +1,109 @@
+-- THE WALK'S ANSWER IS 01's: the walk over a list of rule numbers finds the state that the definition does at a minute, by the rules that the
+-- tables hold. Rests on the law that a rule is read back from the tables.
+-- Assumes nothing.
+use mathlib.Core.Path.{_≡_, refl, sym, ap, ap₂, _∙_, subst}
+use mathlib.Core.Bool.{Bool, true, false, not, cond}
+use mathlib.Core.List.{List, [], _∷_, _++_, map, flatMap}
+use Prim.Native.Nat.{ℕ, _+_, _*_, _-_, _≤_, _<_}
+use native.Mathlib.Omega.{arith}
+use lib.ListN.{length, getD}
+use Rattle.laws.specs.Lists.{from, anyOf, All}
+use Rattle.laws.proofs.Lists.{All-map}
+use Rattle.definition.specs.Field.{unsettled}
+use Rattle.definition.specs.Rule as rule
+use Rattle.definition.specs.Sheet.{form1, limits1}
+use Rattle.definition.specs.Day.{Stated, simple, within, stated, flattened, lastOver, entryOf}
+use Rattle.definition.specs.Lookup.{Looked, refusal, found, stateAt}
+use Rattle.definition.proofs.Lawful.{Lawful, rule-lawful}
+use Rattle.span_number.specs.Number as number
+use Rattle.words.specs.Words.{part}
+use Rattle.paving_update.specs.Update.{listPlaces, listLimit}
+use Rattle.paving_update.specs.Boxes.{listOf}
+use Rattle.paving_points.specs.Listed.{noRule, ruleAt}
+use Rattle.phases.specs.Phases.{Entries}
+use Rattle.phases.proofs.Entries.{all-at, entryAt, entry-back}
+use Rattle.state_at.specs.Found.{looked, overSpans, onward, InTables, overRule, overList, numbersFrom}
+use Rattle.state_at.specs.declared.StateFound.{StateFound}
+
+-- ## Spans
+-- what the definition answers for some spans, where a state is shown before them
+abbrev settled : rule.State → List Stated → ℕ → Looked
+settled S xs m = elim (anyOf (λ x. not (simple (x .1))) xs) [ true ↦ refusal unsettled 0 | false ↦ found (lastOver within S xs m) ]
+
+module _ (S T : rule.State) (x : rule.Span) (xs : List Stated) (m : ℕ) where
+  settled-simple : simple x ≡ true → settled T ((S, x) ∷ xs) m ≡ settled (cond (within x m) S T) xs m
+  unfolding anyOf lastOver
+  settled-simple e = rw (e, settled) refl
+
+  settled-other : simple x ≡ false → settled T ((S, x) ∷ xs) m ≡ refusal unsettled 0
+  unfolding anyOf
+  settled-other e = rw (e, settled) refl
+
+cond-state : (b : Bool) (m n : ℕ) → cond b (number.stateAt m) (number.stateAt n) ≡ number.stateAt (cond b m n)
+cond-state true m n = refl
+cond-state false m n = refl
+
+-- a rule's spans, before whatever comes next
+spans-looked : (m S shown : ℕ) (ws : List ℕ) (next : ℕ → StateFound) (rest : List Stated) → ((n : ℕ) → looked (next n) ≡ settled (number.stateAt n) rest m)
+    → looked (onward (overSpans m S shown ws) next) ≡ settled (number.stateAt shown) (stated (number.stateAt S, map number.spanAt ws) ++ rest) m
+unfolding overSpans
+spans-looked m S shown [] next rest h = h shown
+spans-looked m S shown (w ∷ ws) next rest h = go (simple (number.spanAt w)) refl (spans-looked m S (cond (within (number.spanAt w) m) S shown) ws next rest h)
+  where
+    others : List Stated
+    others = stated (number.stateAt S, map number.spanAt ws) ++ rest
+
+    go : (b : Bool) → simple (number.spanAt w) ≡ b
+        → looked (onward (overSpans m S (cond (within (number.spanAt w) m) S shown) ws) next) ≡ settled (number.stateAt (cond (within (number.spanAt w) m) S shown)) others m
+        → looked (onward (overSpans m S shown (w ∷ ws)) next) ≡ settled (number.stateAt shown) ((number.stateAt S, number.spanAt w) ∷ others) m
+    go true e ih =
+        rw (e, overSpans) ih ∙ ap (λ T. settled T others m) (sym (cond-state (within (number.spanAt w) m) S shown))
+        ∙ sym (settled-simple (number.stateAt S) (number.stateAt shown) (number.spanAt w) others m e)
+    go false e ih = rw (e, overSpans) (sym (settled-other (number.stateAt S) (number.stateAt shown) (number.spanAt w) others m e))
+
+-- ## Rules
+module _ (states counts spans : List ℕ) where
+  list-looked : (m shown : ℕ) (ks : List ℕ) → looked (overList states counts spans m shown ks) ≡ settled (number.stateAt shown) (flattened (map (entryAt states counts spans) ks)) m
+  unfolding overList overRule flattened flatMap anyOf lastOver
+  list-looked m shown [] = refl
+  list-looked m shown (k ∷ ks) =
+      spans-looked m (getD states k 0) shown (part spans (k * 16) (getD counts k 0)) (λ n. overList states counts spans m n ks) (flattened (map (entryAt states counts spans) ks)) (λ n. list-looked m n ks)
+
+  module _ (rs : List rule.Rule) (tables : Entries states counts spans rs) where
+    -- the rules of tables are lawful
+    pub entries-lawful : All Lawful rs
+    entries-lawful = All-map (λ r f. rule-lawful form1 limits1 r f) rs (tables .fits)
+
+    entries-there : (ks : List ℕ) → All (λ k. k < length rs) ks → All (InTables states counts spans) ks
+    entries-there ks h = All-map each ks h
+      where
+        each : (k : ℕ) → k < length rs → InTables states counts spans k
+        each k l =
+            let r = ruleAt rs k in
+            let few : length (r .spans) ≤ 16 = tables .each k l .few-held in
+            let many : getD counts k 0 ≡ length (r .spans) = tables .each k l .count-held in
+            (omega (arith, tables .all-states), omega (arith, tables .all-counts), omega (arith, tables .all-spans))
+
+    entries-named : (ks : List ℕ) → All (λ k. k < length rs) ks → map (entryAt states counts spans) ks ≡ map entryOf (map (ruleAt rs) ks)
+    entries-named [] h = refl
+    entries-named (k ∷ ks) h =
+        ap₂ _∷_ (entry-back states counts spans k (ruleAt rs k) (tables .each k (h .0)) (all-at _ rs noRule (tables .fits) k (h .0))) (entries-named ks (h .1))
+
+    -- ## A box's list
+    module _ (lists : List ℕ) (node many : ℕ) (named : All (λ k. k < length rs) (listOf lists node)) (counted : many ≡ getD lists (node * listPlaces) 0) where
+      list-numbers : numbersFrom lists (node * listPlaces + 1) 0 many ≡ listOf lists node
+      unfolding listOf
+      list-numbers = let z : many - 0 ≡ many = omega arith in ap (λ n. map (λ k. getD lists (node * listPlaces + 1 + k) 0) (from 0 n)) (z ∙ counted)
+
+      -- it can be walked
+      pub list-ready : node * listPlaces + listPlaces ≤ length lists → getD lists (node * listPlaces) 0 ≤ listLimit
+          → (node * listPlaces + 1 + many ≤ length lists) × All (InTables states counts spans) (numbersFrom lists (node * listPlaces + 1) 0 many)
+      list-ready there short = (omega arith, subst (All (InTables states counts spans)) (sym list-numbers) (entries-there (listOf lists node) named))
+
+      -- THE STATE AT A MINUTE
+      pub list-answered : (m : ℕ) (r : StateFound) → r ≡ overList states counts spans m 65536 (numbersFrom lists (node * listPlaces + 1) 0 many)
+          → looked r ≡ stateAt [] (map (ruleAt rs) (listOf lists node)) m
+      unfolding stateAt number.stateAt
+      list-answered m r h =
+          ap looked (h ∙ ap (overList states counts spans m 65536) list-numbers) ∙ list-looked m 65536 (listOf lists node)
+          ∙ ap (λ es. settled rule.closed (flattened es) m) (entries-named (listOf lists node) named)

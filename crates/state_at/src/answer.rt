@@ -1,0 +1,50 @@
+// What is found, in the numbers of the answer: code, kind, comment and the table's place.
+use super::StateFound;
+use span_number::kind_of;
+use words::wide;
+ghost use mathlib.Core.Path.{_≡_};
+ghost use Rattle.span_number.specs.Number.{stateAt};
+ghost use Rattle.state_at.specs.Found.{looked, answered};
+
+const UNSETTLED: u64 = 9;
+
+pub struct Answer {
+    pub code: u64,
+    pub kind: u64,
+    pub comment: u64,
+    pub place: u64,
+}
+
+// The comment of a state.
+fn comment_of(state: u64) -> u64
+    ensures { λ r. ⌜ r ≡ stateAt state .comment ⌝ }
+{
+    match state {
+        0..=65535 => state,
+        65536..=131071 => state - 65536,
+        _ => state - 131072,
+    }
+}
+
+// The numbers of what is found.
+pub fn numbers_of(found: StateFound) -> Answer
+    ensures { λ r. ⌜ answered r ≡ looked found ⌝ }
+{
+    match found {
+        StateFound::State(state) => {
+            let number = wide(state);
+            Answer {
+                code: 0,
+                kind: kind_of(number) as u64,
+                comment: comment_of(number),
+                place: 0,
+            }
+        }
+        StateFound::Unsettled => Answer {
+            code: UNSETTLED,
+            kind: 0,
+            comment: 0,
+            place: 0,
+        },
+    }
+}

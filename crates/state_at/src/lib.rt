@@ -1,0 +1,46 @@
+// The state at a point and minute: the box that holds the point, and the last span of the box's list that covers the minute.
+pub mod answer;
+pub mod boxes;
+pub mod list;
+
+use boxes::box_at;
+use list::list_state;
+ghost use mathlib.Core.Path.{_≡_};
+ghost use mathlib.Core.List.{List, [], _∷_};
+ghost use Rattle.definition.specs.Rule.{Rule};
+ghost use Rattle.definition.specs.Point.{allBounds, listAt};
+ghost use Rattle.definition.specs.Lookup.{stateAt};
+ghost use Rattle.phases.specs.Phases.{Entries, Boxed};
+ghost use Rattle.state_at.specs.Found.{looked};
+ghost use Rattle.state_at.specs.Boxes.{InBounds};
+
+// A state by its number, or that a span which is not simple leaves it unsettled.
+pub enum StateFound {
+    State(u32),
+    Unsettled,
+}
+
+// The state at a point and minute, by drained rules in tables and the lists of their boxes.
+pub fn look(
+    states: &[u32],
+    span_counts: &[u8],
+    spans: &[u64],
+    lists: &[u16],
+    rows: &[u16],
+    sizes: &[u16],
+    cuts: &[u16],
+    weekday: u8,
+    week: u8,
+    month: u8,
+    year: u16,
+    minute: u16,
+) -> StateFound
+    requires { ⌜ ((rs : List Rule) × Entries (now states) (now «span_counts») (now spans) rs × Boxed (now rows) (now sizes) (now cuts) (now lists) rs) ⌝ }
+    requires { ⌜ InBounds allBounds (weekday ∷ week ∷ month ∷ year ∷ []) ⌝ }
+    ensures { λ r. ⌜ ((rs : List Rule) → Entries (now (states .entry)) (now («span_counts» .entry)) (now (spans .entry)) rs
+        → Boxed (now (rows .entry)) (now (sizes .entry)) (now (cuts .entry)) (now (lists .entry)) rs
+        → looked r ≡ stateAt [] (listAt rs (weekday ∷ week ∷ month ∷ year ∷ [])) minute) ⌝ }
+{
+    let node = box_at(rows, sizes, cuts, weekday, week, month, year);
+    list_state(states, span_counts, spans, lists, node, minute)
+}

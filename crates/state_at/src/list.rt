@@ -1,0 +1,146 @@
+// The state at a minute by the list of a box: rule after rule, and each rule's spans in order.
+use super::StateFound;
+use paving::wide;
+use span_number::end_of;
+use span_number::fixed_time;
+use span_number::is_simple;
+use span_number::start_of;
+ghost use mathlib.Core.Path.{_≡_};
+ghost use mathlib.Core.Bool.{true, cond};
+ghost use mathlib.Core.List.{List, [], map};
+ghost use Prim.Native.Nat.{_+_, _*_, _-_, _≤_, _<_};
+ghost use lib.ListN.{length, getD};
+ghost use Rattle.laws.specs.Lists.{All};
+ghost use Rattle.definition.specs.Rule.{Rule};
+ghost use Rattle.definition.specs.Day.{simple, within};
+ghost use Rattle.definition.specs.Lookup.{stateAt};
+ghost use Rattle.span_number.specs.Number.{spanAt};
+ghost use Rattle.words.specs.Words.{part};
+ghost use Rattle.paving_update.specs.Update.{listPlaces, listLimit};
+ghost use Rattle.paving_update.specs.Boxes.{listOf};
+ghost use Rattle.paving_points.specs.Listed.{ruleAt};
+ghost use Rattle.phases.specs.Phases.{Entries};
+ghost use Rattle.state_at.specs.Found.{overSpans, overRule, overList, InTables, numbersFrom, looked};
+
+const LIST_PLACES: usize = 33;
+
+// Plain Closed.
+const CLOSED: u32 = 65536;
+
+fn count(x: u8) -> usize
+    ensures { λ r. ⌜ (r ≡ x) × (r < 256) ⌝ }
+{
+    x as usize
+}
+
+// The state that a simple span leaves at a minute: its own where it covers the minute, else the one before.
+fn after_span(span: u64, minute: u16, state: u32, before: u32) -> u32
+    requires { ⌜ simple (spanAt span) ≡ true ⌝ }
+    ensures { λ r. ⌜ r ≡ cond (within (spanAt span) minute) state before ⌝ }
+{
+    let time = fixed_time(minute);
+    if start_of(span) <= time {
+        if time < end_of(span) { state } else { before }
+    } else {
+        before
+    }
+}
+
+// The state after spans from one up to another, all of one state.
+fn over_spans(
+    spans: &[u64],
+    first: usize,
+    end: usize,
+    minute: u16,
+    state: u32,
+    before: u32,
+) -> StateFound
+    requires { ⌜ end ≤ length (now spans) ⌝ }
+    ensures { λ r. ⌜ r ≡ overSpans minute state before (part (now (spans .entry)) first (end - first)) ⌝ }
+{
+    let mut shown = before;
+    let mut at = first;
+    while at < end {
+        let span = spans[at];
+        if is_simple(span) {
+            shown = after_span(span, minute, state, shown);
+            at += 1;
+        } else {
+            return StateFound::Unsettled;
+        }
+    }
+    StateFound::State(shown)
+}
+
+// The state after a rule's spans.
+fn over_rule(
+    states: &[u32],
+    span_counts: &[u8],
+    spans: &[u64],
+    rule: u16,
+    minute: u16,
+    before: u32,
+) -> StateFound
+    requires { ⌜ InTables (now states) (now «span_counts») (now spans) rule ⌝ }
+    ensures { λ r. ⌜ r ≡ overRule (now (states .entry)) (now («span_counts» .entry)) (now (spans .entry)) minute before rule ⌝ }
+{
+    let row = wide(rule);
+    let first = row * 16;
+    let end = first + count(span_counts[row]);
+    over_spans(spans, first, end, minute, states[row], before)
+}
+
+// The state after the rules that so many numbers from a place on name.
+fn over_list(
+    states: &[u32],
+    span_counts: &[u8],
+    spans: &[u64],
+    lists: &[u16],
+    first: usize,
+    many: usize,
+    minute: u16,
+) -> StateFound
+    requires { ⌜ first + many ≤ length (now lists) ⌝ }
+    requires { ⌜ All (InTables (now states) (now «span_counts») (now spans)) (numbersFrom (now lists) first 0 many) ⌝ }
+    ensures { λ r. ⌜ r ≡ overList (now (states .entry)) (now («span_counts» .entry)) (now (spans .entry)) minute 65536 (numbersFrom (now (lists .entry)) first 0 many) ⌝ }
+{
+    let mut shown = CLOSED;
+    let mut next: usize = 0;
+    while next < many {
+        let found = over_rule(
+            states,
+            span_counts,
+            spans,
+            lists[first + next],
+            minute,
+            shown,
+        );
+        match found {
+            StateFound::State(after) => {
+                shown = after;
+                next += 1;
+            }
+            StateFound::Unsettled => return StateFound::Unsettled,
+        }
+    }
+    StateFound::State(shown)
+}
+
+// The state at a minute by the list of a box.
+pub fn list_state(
+    states: &[u32],
+    span_counts: &[u8],
+    spans: &[u64],
+    lists: &[u16],
+    node: usize,
+    minute: u16,
+) -> StateFound
+    requires { ⌜ ((rs : List Rule) × Entries (now states) (now «span_counts») (now spans) rs × All (λ k. k < length rs) (listOf (now lists) node)) ⌝ }
+    requires { ⌜ (node * listPlaces + listPlaces ≤ length (now lists)) × (getD (now lists) (node * listPlaces) 0 ≤ listLimit) ⌝ }
+    ensures { λ r. ⌜ ((rs : List Rule) → Entries (now (states .entry)) (now («span_counts» .entry)) (now (spans .entry)) rs → All (λ k. k < length rs) (listOf (now (lists .entry)) node)
+        → looked r ≡ stateAt [] (map (ruleAt rs) (listOf (now (lists .entry)) node)) minute) ⌝ }
+{
+    let at = node * LIST_PLACES;
+    let many = wide(lists[at]);
+    over_list(states, span_counts, spans, lists, at + 1, many, minute)
+}
