@@ -3,3 +3,7 @@ pub mod Again
 pub mod Laid
 pub mod Group
 pub mod Meaning
+pub mod Refusals
+pub mod Ends
+pub mod TooLong
+pub mod Codes

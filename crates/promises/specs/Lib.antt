@@ -1,1 +1,3 @@
 pub mod Meaning
+pub mod Fields
+pub mod Codes
