@@ -7,10 +7,12 @@ use mathlib.Core.Bool.{Bool, true, false, _&&_, not, cond, false≢true}
 use Prim.Native.Nat.{ℕ}
 use lib.Dec.{eqb}
 use Rattle.laws.specs.Lists.{anyOf, All, Filled}
+use Rattle.laws.proofs.Lists.{All-each}
 use Rattle.grid.specs.Group.{Group, inside}
 use Rattle.grid.specs.Cut.{runs, asRuns}
 use Rattle.grid.proofs.Part.{Part}
 use Rattle.definition.specs.Rule.{Operator, Normal, Additional, Rule}
+use Rattle.definition.specs.Stop.{isFallback, spanStops, stops}
 use Rattle.definition.specs.Point.{dimensions, allBounds, points, isNormal, isClosed, combinations, replaces, listFrom, listAt}
 use Rattle.definition.specs.Day.{Entry, Day, entryOf}
 use Rattle.definition.specs.Group.{nonEmpty, laidOver, asRule, asRules, rulesOf}
@@ -36,18 +38,22 @@ module _ (g : Group ℕ Day) (sound : Sound g) where
   lays : Lays (g .1) lay
   lays = laid (g .1) (sound .0)
 
-  -- what holds of each entry's rule holds of all the group's rules
-  rules-all : (P : Rule → Type 0) → ((o : Operator) (e : Entry) → P (lay (asRule o e))) → All P (rulesOf (asRuns g))
+  -- what holds of the rule of each entry holds of all the group's rules; they are Normal and Additional
+  rules-all : (R : Entry → Type 0) (P : Rule → Type 0) → ((o : Operator) (e : Entry) → isFallback o ≡ false → R e → P (lay (asRule o e))) → All R (g .0) → All P (rulesOf (asRuns g))
   unfolding rulesOf
-  rules-all P h = go (g .0)
+  rules-all R P h = go (g .0)
     where
-      others : (d : Day) → All P (map lay (map (asRule Additional) d))
-      others [] = tt
-      others (e ∷ d) = (h Additional e, others d)
+      others : (d : Day) → All R d → All P (map lay (map (asRule Additional) d))
+      others [] k = tt
+      others (e ∷ d) k = (h Additional e refl (k .0), others d (k .1))
 
-      go : (d : Day) → All P (map lay (asRules d))
-      go [] = tt
-      go (e ∷ d) = (h Normal e, others d)
+      go : (d : Day) → All R d → All P (map lay (asRules d))
+      go [] k = tt
+      go (e ∷ d) k = (h Normal e refl (k .0), others d (k .1))
+
+  -- none of them stops, if no span of the day does
+  pub rules-go : All (λ e. anyOf spanStops (e .1) ≡ false) (g .0) → All (λ r. stops r ≡ false) (rulesOf (asRuns g))
+  rules-go = rules-all (λ e. anyOf spanStops (e .1) ≡ false) (λ r. stops r ≡ false) (lays .laid-goes)
 
   -- they have the day's entries
   pub rules-entries : map entryOf (rulesOf (asRuns g)) ≡ g .0
@@ -69,7 +75,7 @@ module _ (g : Group ℕ Day) (sound : Sound g) where
 
     -- outside the set they don't cover the point
     pub rules-out : inside eqb (g .1) p ≡ false → All (λ r. times r p ≡ 0) (rulesOf (asRuns g))
-    rules-out h = rules-all (λ r. times r p ≡ 0) (rule-times false h)
+    rules-out h = rules-all (λ e. Unit {0}) (λ r. times r p ≡ 0) (λ o e f u. rule-times false h o e) (All-each (λ e. Unit {0}) (λ e. tt) (g .0))
 
     -- inside they are the list
     pub rules-in : inside eqb (g .1) p ≡ true → listAt (rulesOf (asRuns g)) p ≡ rulesOf (asRuns g)

@@ -1,9 +1,9 @@
--- A RULE LAID OVER A SET'S RUNS covers the set's points once, and no others; it keeps its operator, state and spans; and all rules laid
--- over one set have the same days. Rests on the law of items.
+-- A RULE LAID OVER A SET'S RUNS covers the set's points once, and no others; it keeps its operator, state and spans, and its days don't stop
+-- it; all rules laid over one set have the same days. Rests on the law of items.
 -- Assumes nothing.
 use mathlib.Core.Path.{_≡_, refl, ap, ap₂, _∙_}
 use mathlib.Core.List.{List, [], _∷_, _++_, map, flatMap}
-use mathlib.Core.Bool.{Bool, true, false, _&&_, cond, false≢true}
+use mathlib.Core.Bool.{Bool, true, false, _&&_, _||_, not, cond, false≢true}
 use Prim.Native.Nat.{ℕ, _*_, _-_, _≤_, _<_}
 use native.Mathlib.Omega.{arith}
 use lib.Dec.{eqb, leb, ltb}
@@ -18,6 +18,7 @@ use Rattle.grid.proofs.Box.{Proper}
 use Rattle.grid.proofs.Cut.{in-holds}
 use Rattle.definition.specs.Rule.{Operator, YearRange, WeekRange, Rule}
 use Rattle.definition.specs.Range.{Ends, ranges}
+use Rattle.definition.specs.Stop.{isFallback, monthdayStops, weekdayStops, spanStops, stops}
 use Rattle.definition.specs.Point.{dimensions, allBounds, points, weekdayEnds, monthEnds, selector, combinations}
 use Rattle.definition.specs.Day.{Entry, entryOf}
 use Rattle.definition.specs.Group.{itemsOf, laidOver, asRule}
@@ -78,15 +79,24 @@ module _ {A : Type 0} (make : Ends → A) where
   pairs-back f h [] = refl
   pairs-back f h (e ∷ es) = ap₂ _∷_ (h e) (pairs-back f h es)
 
--- what is known of a way to lay rules
+  none-made : (t : A → Bool) → ((e : Ends) → t (make e) ≡ false) → (es : List Ends) → anyOf t (map make es) ≡ false
+  unfolding anyOf
+  none-made t h [] = refl
+  none-made t h (e ∷ es) = rw (h e) (none-made t h es)
+
+neither : (a b : Bool) → a ≡ false → b ≡ false → a || b ≡ false
+neither a b f g = rw (f, g)
+
+-- what is known of a way to lay rules; none of them stops, if its spans don't
 pub record Lays (S : Set ℕ) (lay : Rule → Rule) : Type 0 where
   pub laid-ranges : (o : Operator) (e : Entry) → selector dimensions (lay (asRule o e)) ≡ setRanges allBounds S
   pub laid-entry : (o : Operator) (e : Entry) → entryOf (lay (asRule o e)) ≡ e
   pub laid-operator : (o : Operator) (e : Entry) → (lay (asRule o e)) .operator ≡ o
+  pub laid-goes : (o : Operator) (e : Entry) → isFallback o ≡ false → anyOf spanStops (e .1) ≡ false → stops (lay (asRule o e)) ≡ false
   pub laid-days : (o n : Operator) (e f : Entry) → SameDays (lay (asRule o e)) (lay (asRule n f))
 
 pub laid : (S : Set ℕ) → Part points S → Lays S (laidOver dimensions (map runs S))
-unfolding laidOver selector setRanges
+unfolding laidOver selector setRanges stops
 laid [] k = absurd k
 laid (D ∷ []) k = absurd (k .1)
 laid (D ∷ W ∷ []) k = absurd (k .1 .1)
@@ -99,5 +109,9 @@ laid (D ∷ W ∷ M ∷ Y ∷ []) k = record {
       (ap₂ _∷_ (ap (ranges _) (pairs-back _ (λ (y : YearRange). (y .start, y .end)) (λ e. refl) (itemsOf _ (runs Y)))) refl)));
   laid-entry = λ o e. refl;
   laid-operator = λ o e. refl;
+  laid-goes = λ o e f h. neither _ _ f (neither _ _ (none-made _ (λ (y : YearRange). not (eqb (y .step) 1)) (λ e. refl) (itemsOf _ (runs Y)))
+      (neither _ _ (none-made _ monthdayStops (λ e. refl) (itemsOf _ (runs M)))
+      (neither _ _ (none-made _ (λ (w : WeekRange). not (eqb (w .step) 1)) (λ e. refl) (itemsOf _ (runs W)))
+      (neither _ _ (none-made _ weekdayStops (λ e. refl) (itemsOf _ (runs D))) h))));
   laid-days = λ o n e f. record { same-years = refl; same-monthdays = refl; same-weeks = refl; same-weekdays = refl };
 }

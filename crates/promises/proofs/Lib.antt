@@ -3,7 +3,9 @@ pub mod Again
 pub mod Laid
 pub mod Group
 pub mod Meaning
+pub mod Going
 pub mod Refusals
 pub mod Ends
 pub mod TooLong
 pub mod Codes
+pub mod Counts

@@ -61,7 +61,7 @@ module _ (p : List ℕ) (i : isPoint p ≡ true) where
       go false h ih = ap (λ l. map entryOf (listFrom l (allRules gs) p)) (list-out p [] own (rules-out g (s .0) p i h)) ∙ ih
 
 module _ (rs : List Rule) where
-  sound : All Sound (pointGroups rs)
+  pub sound : All Sound (pointGroups rs)
   sound = All-map₂ (λ g. λ a b. (a, b)) (pointGroups rs) (groups-part sameDay eqb [] points dayClasses (dayAt rs)) (groups-filled exact-day eqb [] points dayClasses (dayAt rs))
 
   -- THE FOLDED RULES, DRAINED AGAIN, HAVE AT EACH POINT ITS DAY

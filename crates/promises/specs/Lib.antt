@@ -1,3 +1,4 @@
 pub mod Meaning
 pub mod Fields
 pub mod Codes
+pub mod Counts

@@ -1,6 +1,6 @@
--- Demand 3: at every point and minute the folded rules say the kind and comment that the drained rules said, for every choice, point by
--- point, of the minutes that non-simple spans cover. No two groups of folded rules share a point; each group opens with a Normal rule,
--- its others are Additional, over the same days.
+-- Demand 3: what the fold wrote, drained by 01's rule, says at every point and minute the kind and comment that the drained rules of the
+-- sheet said, for every choice, point by point, of the minutes that non-simple spans cover. Its drained rules form groups that share no
+-- point; each opens with a Normal rule, its others are Additional, over the same days. The rules left are the sheet's.
 -- Assumes nothing.
 use mathlib.Core.Path.{_≡_}
 use mathlib.Core.List.{List, [], _∷_, flatMap}
@@ -10,6 +10,7 @@ use lib.Dec.{eqb}
 use Rattle.laws.specs.Lists.{anyOf, All}
 use Rattle.grid.specs.Group.{inside}
 use Rattle.definition.specs.Rule.{midnight24, Normal, Additional, Rule}
+use Rattle.definition.specs.Stop.{drained, left}
 use Rattle.definition.specs.Point.{dimensions, points, selector, combinations}
 use Rattle.definition.specs.Saying.{Cover, says}
 
@@ -52,3 +53,9 @@ pub record InGroups (rs : List Rule) : Type 0 where
   pub all-rules : flatMap (λ g. g) groups ≡ rs
   pub are-groups : All IsGroup groups
   pub are-apart : Apart groups
+
+-- ## THE STATEMENT, of the rules of a sheet and those that its fold wrote
+pub record SameMeaning (rs ws : List Rule) : Type 0 where
+  pub says-same : SaySame (drained ws) (drained rs)
+  pub in-groups : InGroups (drained ws)
+  pub left-same : left ws ≡ left rs

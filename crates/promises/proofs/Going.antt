@@ -1,0 +1,150 @@
+-- DEMAND 3, of all that the fold wrote: the folded rules don't stop, so whoever drains it drains just them, and the rules left are left again.
+-- Rests on what the folded rules mean, and on the law that what holds of a list's spans holds of its day's.
+-- Assumes nothing.
+use mathlib.Core.Path.{_≡_, refl, sym, ap, _∙_, subst}
+use mathlib.Core.List.{List, [], _∷_, _++_, map, flatMap, append-nil}
+use mathlib.Core.Bool.{Bool, true, false, _||_, not, cond, true≢false}
+use Prim.Native.Nat.{ℕ, zero, suc}
+use lib.Dec.{eqb}
+use lib.ListN.{replicate}
+use borrow.Author.Tests.{lt-ltb, le-leb}
+use Rattle.laws.specs.Lists.{anyOf, All}
+use Rattle.laws.proofs.Lists.{All-map, All-append, image-All}
+use Rattle.laws.proofs.Spread.{flatMap-all}
+use Rattle.grid.specs.Group.{Group}
+use Rattle.grid.specs.Cut.{Range, asRuns}
+use Rattle.definition.specs.Rule.{Span, Rule}
+use Rattle.definition.specs.Stop.{isFallback, monthdayStops, weekdayStops, spanStops, stops, drained, left}
+use Rattle.definition.specs.Point.{dimensions, selector, combinations, replaces, after, listFrom, listAt}
+use Rattle.definition.specs.Day.{Day, stated, flattened, plainSpan, entryOf, day}
+use Rattle.definition.specs.Group.{dayAt, pages, rulesOf, folded}
+use Rattle.definition.proofs.PaintedShows.{ProperRun}
+use Rattle.definition.proofs.DayHolds.{InList, day-holds}
+use Rattle.definition.proofs.Groups.{pointGroups, pages-each}
+use Rattle.promises.specs.Meaning.{SaySame, InGroups, SameMeaning}
+use Rattle.promises.proofs.Group.{Sound, rules-go}
+use Rattle.promises.proofs.Meaning.{sound, folded-says, folded-groups}
+
+-- a rule that doesn't stop
+abbrev pub Goes : Rule → Type 0
+Goes r = stops r ≡ false
+
+-- ## Drained and left
+pub drained-go : (rs : List Rule) → All Goes (drained rs)
+unfolding drained
+drained-go [] = tt
+drained-go (r ∷ rs) = go (stops r) refl (drained-go rs)
+  where
+    go : (b : Bool) → stops r ≡ b → All Goes (drained rs) → All Goes (drained (r ∷ rs))
+    go true e ih = rw (e, drained) tt
+    go false e ih = rw (e, drained) (e, ih)
+
+-- rules that don't stop, before others
+go-before : (qs rs : List Rule) → All Goes qs → (drained (qs ++ rs) ≡ qs ++ drained rs) × (left (qs ++ rs) ≡ left rs)
+unfolding drained left
+go-before [] rs h = (refl, refl)
+go-before (q ∷ qs) rs h = let k = go-before qs rs (h .1) in rw (h .0, drained, left) (ap (q ∷_) (k .0), k .1)
+
+-- of the rules left none is drained
+left-again : (rs : List Rule) → (drained (left rs) ≡ []) × (left (left rs) ≡ left rs)
+unfolding drained left
+left-again [] = (refl, refl)
+left-again (r ∷ rs) = go (stops r) refl (left-again rs)
+  where
+    go : (b : Bool) → stops r ≡ b → (drained (left rs) ≡ []) × (left (left rs) ≡ left rs) → (drained (left (r ∷ rs)) ≡ []) × (left (left (r ∷ rs)) ≡ left (r ∷ rs))
+    go true e ih = rw (e, left, e, drained, left) (refl, refl)
+    go false e ih = rw (e, left) ih
+
+-- ## Spans that don't stop
+abbrev Stays : Span → Type 0
+Stays s = spanStops s ≡ false
+
+none-stops : (ss : List Span) → All Stays ss → anyOf spanStops ss ≡ false
+unfolding anyOf
+none-stops [] h = refl
+none-stops (s ∷ ss) h = rw (h .0) (none-stops ss (h .1))
+
+all-stay : (ss : List Span) → anyOf spanStops ss ≡ false → All Stays ss
+unfolding anyOf
+all-stay [] h = tt
+all-stay (s ∷ ss) h = go (spanStops s) refl (all-stay ss)
+  where
+    go : (b : Bool) → spanStops s ≡ b → (anyOf spanStops ss ≡ false → All Stays ss) → All Stays (s ∷ ss)
+    go true e ih = absurd (true≢false (rw e at h))
+    go false e ih = (e, ih (rw e at h))
+
+plain-stays : (r : Range) → ProperRun r → Stays (plainSpan r)
+plain-stays r h = rw (lt-ltb (r .0) (r .1) (h .0), le-leb (r .1) 1440 (h .1))
+
+-- the spans of a rule that doesn't stop
+second : (a b : Bool) → a || b ≡ false → b ≡ false
+second false b h = h
+second true b h = absurd (true≢false h)
+
+spans-stay : (r : Rule) → Goes r → All Stays (r .spans)
+unfolding stops
+spans-stay r h = all-stay (r .spans) (second (anyOf weekdayStops (r .weekdays)) _ (second (anyOf (λ w. not (eqb (w .step) 1)) (r .weeks)) _
+    (second (anyOf monthdayStops (r .monthdays)) _ (second (anyOf (λ y. not (eqb (y .step) 1)) (r .years)) _ (second (isFallback (r .operator)) _ h)))))
+
+-- ## The list at a point has rules of all the rules
+list-from : (P : Rule → Type 0) (l rs : List Rule) (p : List ℕ) → All P l → All P rs → All P (listFrom l rs p)
+unfolding listFrom
+list-from P l [] p k h = k
+list-from P l (r ∷ rs) p k h = list-from P (after r (combinations (selector dimensions r) p) l) rs p (next (replaces r) refl) (h .1)
+  where
+    n : ℕ
+    n = combinations (selector dimensions r) p
+
+    copies : (n : ℕ) → All P (replicate n r)
+    copies zero = tt
+    copies (suc n) = (h .0, copies n)
+
+    either : (c : Bool) → All P (cond c l (r ∷ []))
+    either true = k
+    either false = (h .0, tt)
+
+    next : (b : Bool) → replaces r ≡ b → All P (after r n l)
+    next true e = unfold after in rw (e, after) (either (eqb n 0))
+    next false e = unfold after in rw (e, after) (All-append P l (replicate n r) k (copies n))
+
+flat-stay : (l : List Rule) → All Goes l → InList (λ S. Unit {0}) Stays (flattened (map entryOf l))
+unfolding flattened flatMap
+flat-stay [] h = tt
+flat-stay (r ∷ l) h = All-append _ (stated (entryOf r)) (flattened (map entryOf l)) (own (r .spans) (spans-stay r (h .0))) (flat-stay l (h .1))
+  where
+    own : (ss : List Span) → All Stays ss → InList (λ S. Unit {0}) Stays (stated (r .state, ss))
+    own [] k = tt
+    own (s ∷ ss) k = ((tt, k .0), own ss (k .1))
+
+-- ## The folded rules
+module _ (ds : List Rule) (h : All Goes ds) where
+  days-stay : All (λ g. All (λ e. anyOf spanStops (e .1) ≡ false) (g .0)) (pages ds)
+  unfolding dayAt
+  days-stay = pages-each ds (λ d. All (λ e. anyOf spanStops (e .1) ≡ false) d) tt
+      (λ p i. All-map (λ e k. none-stops (e .1) (k .1)) (day (listAt ds p))
+      (day-holds (λ S. Unit {0}) Stays plain-stays (listAt ds p) (flat-stay (listAt ds p) (list-from Goes [] ds p tt h))))
+
+  pub folded-go : All Goes (folded ds)
+  unfolding folded pages
+  folded-go = flatMap-all Goes rulesOf (pages ds) (each (pointGroups ds) (sound ds) (image-All _ asRuns (pointGroups ds) days-stay))
+    where
+      each : (gs : List (Group ℕ Day)) → All Sound gs → All (λ g. All (λ e. anyOf spanStops (e .1) ≡ false) (g .0)) gs → All (λ g. All Goes (rulesOf g)) (map asRuns gs)
+      each [] s k = tt
+      each (g ∷ gs) s k = (rules-go g (s .0) (k .0), each gs (s .1) (k .1))
+
+-- ## What the fold wrote
+module _ (rs : List Rule) where
+  abbrev written : List Rule
+  written = folded (drained rs) ++ left rs
+
+  -- its drained rules are the folded ones
+  folded-drained : drained written ≡ folded (drained rs)
+  folded-drained = go-before (folded (drained rs)) (left rs) (folded-go (drained rs) (drained-go rs)) .0 ∙ ap (folded (drained rs) ++_) (left-again rs .0) ∙ append-nil (folded (drained rs))
+
+  -- DEMAND 3
+  pub written-means : SameMeaning rs written
+  written-means = record {
+    says-same = subst (λ ws. SaySame ws (drained rs)) (sym folded-drained) (folded-says (drained rs));
+    in-groups = subst InGroups (sym folded-drained) (folded-groups (drained rs));
+    left-same = go-before (folded (drained rs)) (left rs) (folded-go (drained rs) (drained-go rs)) .1 ∙ left-again rs .1;
+  }
