@@ -5,18 +5,17 @@ use mathlib.Core.List.{List, [], _∷_, _++_}
 use mathlib.Core.Bool.{Bool, true, false}
 use Prim.Native.Nat.{ℕ, suc, _+_, _≤_}
 use native.Mathlib.Omega.{arith}
-use lib.Dec.{ltb}
 use lib.ListN.{length}
-use borrow.Author.Tests.{le-ltb}
-use Rattle.definition.specs.Field.{Read, got, refused, noRoom}
 use Rattle.definition.specs.Rule.{Rule}
-use Rattle.definition.specs.Sheet.{Form, Limits, decode, encode}
+use Rattle.definition.specs.Sheet.{Form, Limits, encode}
 use Rattle.definition.specs.Stop.{stops, drained, left}
 use Rattle.definition.specs.Group.{folded}
-use Rattle.definition.specs.Fold.{Folded, refusal, Drained, fine, over, drain, fitted, foldRules, fold}
-use Rattle.promises.specs.Codes.{Accepted, result, Done}
+use Rattle.definition.specs.Fold.{Folded, fold}
+use Rattle.promises.specs.Conditions.{Accepted}
+use Rattle.promises.specs.Codes.{Done}
 use Rattle.promises.specs.Counts.{Counted, Nothing, AcceptedCounts, RefusedNothing, SameFolded}
-use Rattle.promises.proofs.Codes.{fitted-answer, fold-codes}
+use Rattle.promises.proofs.Reading.{accepted-once}
+use Rattle.promises.proofs.FoldCodes.{done-answer, refused-whole, fold-codes}
 
 -- every rule is drained or left
 parts-count : (rs : List Rule) → length (drained rs) + length (left rs) ≡ length rs
@@ -28,48 +27,20 @@ parts-count (r ∷ rs) = go (stops r) refl (parts-count rs)
     go true e ih = rw (e, drained, left) (omega arith)
     go false e ih = rw (e, drained, left) (omega (arith, ih))
 
--- a refusal is nothing but its code and place
-refusal-nothing : (c p : ℕ) → Nothing (refusal c p)
-refusal-nothing c p = record { none-drained = refl; none-emitted = refl; none-left = refl; no-bytes = refl; none-written = refl }
-
--- a sheet's rules are its only ones
-accepted-once : (form : Form) (limits : Limits) (sheet : List ℕ) (rs qs : List Rule) → Accepted form limits sheet rs → Accepted form limits sheet qs → rs ≡ qs
-accepted-once form limits sheet rs qs a b =
-    let e : got rs (a .0) ≡ got qs (b .0) = sym (a .1) ∙ b .1 in
-    let z : rs ≡ qs = cc in z
-
 module _ (form : Form) (limits : Limits) (room : ℕ) (sheet : List ℕ) where
   abbrev answer : Folded
   answer = fold form limits room sheet
 
   -- what an accepted fold answers
-  done-counted : (p : ℕ) → (d : Done form limits sheet room p) → Counted form limits (d .0) answer
-  unfolding fitted
-  done-counted p d = subst (Counted form limits rs) (sym (fitted-answer form limits room sheet rs (d .1) ∙ whole)) (record {
+  done-counted : (p : ℕ) (d : Done form limits sheet room p) → Counted form limits (d .0) answer
+  done-counted p d = subst (Counted form limits (d .0)) (sym (done-answer form limits room sheet p d)) (record {
     drained-counted = refl;
     left-counted = refl;
-    all-counted = parts-count rs;
+    all-counted = parts-count (d .0);
     emitted-counted = refl;
     written = refl;
     bytes-counted = refl;
   })
-    where
-      rs : List Rule
-      rs = d .0
-
-      done : Folded
-      done = record {
-        code = 0;
-        drained = length (drained rs);
-        emitted = length (folded (drained rs));
-        left = length (left rs);
-        bytes = length (result form limits rs);
-        place = 0;
-        result = result form limits rs;
-      }
-
-      whole : fitted form limits room rs (folded (drained rs)) (result form limits rs) ≡ done
-      whole = rw (le-ltb room (length (result form limits rs)) (d .2), fitted)
 
   accepted-done : answer .code ≡ 0 → Done form limits sheet room (answer .place)
   accepted-done e = (fold-codes form limits room sheet 0 (answer .place)) .only (e, refl)
@@ -83,24 +54,8 @@ module _ (form : Form) (limits : Limits) (room : ℕ) (sheet : List ℕ) where
 
   -- A REFUSED FOLD DOES NOTHING
   pub refused-nothing : RefusedNothing form limits room sheet
-  unfolding fold foldRules fitted
-  refused-nothing h = read (decode form limits sheet) refl
-    where
-      refused-so : (c p : ℕ) → answer ≡ refusal c p → Nothing answer
-      refused-so c p e = subst Nothing (sym e) (refusal-nothing c p)
-
-      fits : (rs : List Rule) (q : ℕ) → decode form limits sheet ≡ got rs q → drain limits (drained rs) ≡ fine → (b : Bool)
-          → ltb room (length (result form limits rs)) ≡ b → Nothing answer
-      fits rs q e f true t = refused-so noRoom (length (result form limits rs)) (rw (e, fold, f, foldRules, t, fitted))
-      fits rs q e f false t = absurd (h (rw (e, fold, f, foldRules, t, fitted)))
-
-      judge : (rs : List Rule) (q : ℕ) → decode form limits sheet ≡ got rs q → (j : Drained) → drain limits (drained rs) ≡ j → Nothing answer
-      judge rs q e (over c p) f = refused-so c p (rw (e, fold, f, foldRules))
-      judge rs q e fine f = fits rs q e f (ltb room (length (result form limits rs))) refl
-
-      read : (r : Read (List Rule)) → decode form limits sheet ≡ r → Nothing answer
-      read (refused c p) e = refused-so c p (rw (e, fold))
-      read (got rs q) e = judge rs q e (drain limits (drained rs)) refl
+  refused-nothing h = subst Nothing (sym (refused-whole form limits room sheet h))
+      (record { none-drained = refl; none-emitted = refl; none-left = refl; no-bytes = refl; none-written = refl })
 
 -- THE SAME DRAINED RULES, THE SAME FOLDED RULES
 pub same-folded : (form : Form) (limits : Limits) (room : ℕ) (sheet : List ℕ) (place : ℕ) (other : List ℕ) → SameFolded form limits room sheet place other

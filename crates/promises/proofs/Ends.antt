@@ -15,7 +15,7 @@ use borrow.Author.Tests.{eqb-true, eqb-false, ltb-true, ltb-false}
 use Rattle.laws.proofs.Numbers.{order}
 use Rattle.definition.specs.Field.{got, refused, bytesFor, badEnd}
 use Rattle.definition.specs.Sheet.{firstSet, ended}
-use Rattle.promises.specs.Codes.{Zeros, PaddingSet, BytesFollow}
+use Rattle.promises.specs.Conditions.{Zeros, PaddingSet, BytesFollow}
 
 -- ## The first bit that is set
 -- it is set and none before it is

@@ -7,5 +7,10 @@ pub mod Going
 pub mod Refusals
 pub mod Ends
 pub mod TooLong
-pub mod Codes
+pub mod Reading
+pub mod Draining
+pub mod FoldCodes
+pub mod BackCodes
+pub mod LookupCodes
 pub mod Counts
+pub mod Looking

@@ -21,7 +21,7 @@ use Rattle.grid.specs.Group.{Set, Map, at, somewhere, inside}
 use Rattle.grid.proofs.Value.{somewhere-none}
 use Rattle.definition.specs.Rule.{Rule}
 use Rattle.definition.specs.Point.{points, listAt, tooLong, firstTooLong}
-use Rattle.promises.specs.Codes.{ShortAfter, LongAfter, FirstLong, AllShort}
+use Rattle.promises.specs.Conditions.{ShortAfter, LongAfter, FirstLong, AllShort}
 
 -- ## What passes somewhere
 any-some : {A : Type 0} (t : A → Bool) (D : List A) → anyOf t D ≡ true → (x : A) × Mem x D × (t x ≡ true)

@@ -11,7 +11,7 @@ use Rattle.definition.specs.Sheet.{Form, Limits, encode}
 use Rattle.definition.specs.Stop.{drained, left}
 use Rattle.definition.specs.Group.{folded}
 use Rattle.definition.specs.Fold.{Folded, fold}
-use Rattle.promises.specs.Codes.{Accepted}
+use Rattle.promises.specs.Conditions.{Accepted}
 
 -- the rules of the sheet are rs
 pub record Counted (form : Form) (limits : Limits) (rs : List Rule) (f : Folded) : Type 0 where

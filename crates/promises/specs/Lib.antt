@@ -1,4 +1,6 @@
 pub mod Meaning
 pub mod Fields
+pub mod Conditions
 pub mod Codes
 pub mod Counts
+pub mod Looking

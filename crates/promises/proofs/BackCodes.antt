@@ -1,0 +1,71 @@
+-- DEMAND 1, WRITING BACK: each code comes exactly when its row of the table holds, with its place. Rests on how a sheet is read.
+-- Assumes nothing.
+use mathlib.Core.Path.{_≡_, refl, sym, ap, _∙_, subst}
+use mathlib.Core.List.{List, []}
+use mathlib.Core.Bool.{Bool, true, false}
+use Prim.Native.Nat.{ℕ, _≤_, _<_}
+use lib.Dec.{eqb, ltb}
+use lib.ListN.{length}
+use borrow.Author.Tests.{eqb-true, ltb-true, ltb-false, lt-ltb, le-ltb}
+use Rattle.definition.specs.Field.{Read, got, refused, noRoom}
+use Rattle.definition.specs.Rule.{Rule}
+use Rattle.definition.specs.Sheet.{Form, Limits, decode, encode}
+use Rattle.definition.specs.Fold.{WrittenBack, writeBack}
+use Rattle.promises.specs.Conditions.{Accepted}
+use Rattle.promises.specs.Codes.{BackRows, BackAnswers, BackCodes}
+use Rattle.promises.proofs.Reading.{row, reading-rows, reading-told}
+
+module _ (form : Form) (limits : Limits) (room : ℕ) (sheet : List ℕ) where
+  abbrev answer : WrittenBack
+  answer = writeBack form limits room sheet
+
+  abbrev refusal : ℕ → ℕ → WrittenBack
+  refusal c p = record { code = c; bytes = 0; place = p; result = [] }
+
+  abbrev accepted : List Rule → WrittenBack
+  accepted rs = record { code = 0; bytes = length (encode form limits rs); place = 0; result = encode form limits rs }
+
+  -- ## Each row settles the answer
+  refused-answer : (c p : ℕ) → decode form limits sheet ≡ refused c p → answer ≡ refusal c p
+  unfolding writeBack
+  refused-answer c p e = rw (e, writeBack)
+
+  room-answer : (rs : List Rule) → Accepted form limits sheet rs → room < length (encode form limits rs) → answer ≡ refusal noRoom (length (encode form limits rs))
+  unfolding writeBack
+  room-answer rs a l = rw (a .1, lt-ltb room (length (encode form limits rs)) l, writeBack)
+
+  done-answer : (rs : List Rule) → Accepted form limits sheet rs → length (encode form limits rs) ≤ room → answer ≡ accepted rs
+  unfolding writeBack
+  done-answer rs a l = rw (a .1, le-ltb room (length (encode form limits rs)) l, writeBack)
+
+  always : (c p : ℕ) → BackRows form limits sheet room c p → BackAnswers form limits sheet room c p
+  always c p =
+      reading-rows form limits sheet c p (λ e. at (refusal c p) (refused-answer c p e) refl refl)
+      (row (eqb c noRoom) (λ t k. at (refusal noRoom (length (encode form limits (k .0)))) (room-answer (k .0) (k .1) (k .2)) (eqb-true c noRoom t) (k .3))
+      (row (eqb c 0) (λ t k. at (accepted (k .0)) (done-answer (k .0) (k .1) (k .2)) (eqb-true c 0 t) (k .3)) (λ k. absurd k)))
+    where
+      at : (f : WrittenBack) → answer ≡ f → c ≡ f .code → p ≡ f .place → BackAnswers form limits sheet room c p
+      at f e q r = (ap (λ g. g .code) e ∙ sym q, ap (λ g. g .place) e ∙ sym r)
+
+  -- ## Some row holds
+  told : BackRows form limits sheet room (answer .code) (answer .place)
+  told = go (decode form limits sheet) refl
+    where
+      tell : (f : WrittenBack) → answer ≡ f → BackRows form limits sheet room (f .code) (f .place) → BackRows form limits sheet room (answer .code) (answer .place)
+      tell f e h = subst (λ f. BackRows form limits sheet room (f .code) (f .place)) (sym e) h
+
+      fits : (rs : List Rule) → Accepted form limits sheet rs → (b : Bool) → ltb room (length (encode form limits rs)) ≡ b → BackRows form limits sheet room (answer .code) (answer .place)
+      fits rs a true t =
+          let l = ltb-true room (length (encode form limits rs)) t in tell (refusal noRoom (length (encode form limits rs))) (room-answer rs a l) (rs, a, l, refl)
+      fits rs a false t = let l = ltb-false room (length (encode form limits rs)) t in tell (accepted rs) (done-answer rs a l) (rs, a, l, refl)
+
+      go : (r : Read (List Rule)) → decode form limits sheet ≡ r → BackRows form limits sheet room (answer .code) (answer .place)
+      go (refused c p) e = tell (refusal c p) (refused-answer c p e) (reading-told form limits sheet _ c p e)
+      go (got rs q) e = fits rs (q, e) (ltb room (length (encode form limits rs))) refl
+
+  -- THE TABLE
+  pub back-codes : BackCodes form limits sheet room
+  back-codes c p = record {
+    only = λ h. subst (λ d. BackRows form limits sheet room d p) (h .0) (subst (BackRows form limits sheet room (answer .code)) (h .1) told);
+    always = always c p;
+  }

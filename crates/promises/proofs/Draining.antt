@@ -1,0 +1,48 @@
+-- HOW DRAINED RULES ARE JUDGED: 5 where there are too many boxes, 6 where some list is too long, else fine. Rests on which list is too long.
+-- Assumes nothing.
+use mathlib.Core.Path.{_≡_, refl, sym, ap}
+use mathlib.Core.List.{List}
+use mathlib.Core.Logic.{_⊎_, inl, inr}
+use mathlib.Core.Bool.{Bool, true, false}
+use Prim.Native.Nat.{ℕ, _≤_, _<_}
+use lib.Dec.{ltb}
+use borrow.Author.Tests.{ltb-true, ltb-false, lt-ltb, le-ltb}
+use Rattle.definition.specs.Field.{manyBoxes, longList}
+use Rattle.definition.specs.Rule.{Rule}
+use Rattle.definition.specs.Sheet.{Limits}
+use Rattle.definition.specs.Point.{dimensions}
+use Rattle.definition.specs.Box.{boxCount}
+use Rattle.definition.specs.Fold.{fine, over, judged, drain}
+use Rattle.promises.specs.Conditions.{FirstLong, AllShort}
+use Rattle.promises.proofs.TooLong.{LongCases, long-cases, first-long, none-long}
+
+module _ (limits : Limits) (ds : List Rule) where
+  abbrev n : ℕ
+  n = boxCount dimensions ds
+
+  pub drain-many : (p : ℕ) → limits .boxes < n → p ≡ n → drain limits ds ≡ over manyBoxes p
+  unfolding drain judged
+  drain-many p l e = rw (lt-ltb (limits .boxes) n l, judged) (ap (over manyBoxes) (sym e))
+
+  pub drain-long : (k : ℕ) → n ≤ limits .boxes → FirstLong (limits .entries) ds k → drain limits ds ≡ over longList k
+  unfolding drain judged
+  drain-long k l h = rw (le-ltb (limits .boxes) n l, first-long (limits .entries) ds k h, judged)
+
+  pub drain-fine : n ≤ limits .boxes → AllShort (limits .entries) ds → drain limits ds ≡ fine
+  unfolding drain judged
+  drain-fine l h = rw (le-ltb (limits .boxes) n l, none-long (limits .entries) ds h, judged)
+
+  -- one of the three
+  abbrev pub DrainCases : Type 0
+  DrainCases = (limits .boxes < n) ⊎ ((n ≤ limits .boxes) × (((k : ℕ) × FirstLong (limits .entries) ds k) ⊎ AllShort (limits .entries) ds))
+
+  pub drain-cases : DrainCases
+  drain-cases = boxes (ltb (limits .boxes) n) refl
+    where
+      lists : LongCases (limits .entries) ds → ((k : ℕ) × FirstLong (limits .entries) ds k) ⊎ AllShort (limits .entries) ds
+      lists (inl k) = inl (k .0, k .1)
+      lists (inr s) = inr (s .0)
+
+      boxes : (b : Bool) → ltb (limits .boxes) n ≡ b → DrainCases
+      boxes true t = inl (ltb-true (limits .boxes) n t)
+      boxes false t = inr (ltb-false (limits .boxes) n t, lists (long-cases (limits .entries) ds))

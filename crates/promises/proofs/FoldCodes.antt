@@ -1,0 +1,129 @@
+-- DEMAND 1, THE FOLD: each code comes exactly when its row of the table holds, with its place. The rows are all there are, so a code tells
+-- its row; and each row settles the fold. Rests on how a sheet is read and how drained rules are judged.
+-- Assumes nothing.
+use mathlib.Core.Path.{_≡_, refl, sym, ap, _∙_, subst}
+use mathlib.Core.List.{List}
+use mathlib.Core.Logic.{_⊎_, inl, inr}
+use mathlib.Core.Bool.{Bool, true, false}
+use Prim.Native.Nat.{ℕ}
+use lib.Dec.{eqb, ltb}
+use lib.ListN.{length}
+use borrow.Author.Tests.{eqb-true, ltb-true, ltb-false, lt-ltb, le-ltb}
+use Rattle.definition.specs.Field.{Read, got, refused, manyBoxes, longList, noRoom}
+use Rattle.definition.specs.Rule.{Rule}
+use Rattle.definition.specs.Sheet.{Form, Limits, decode}
+use Rattle.definition.specs.Stop.{drained, left}
+use Rattle.definition.specs.Point.{dimensions}
+use Rattle.definition.specs.Box.{boxCount}
+use Rattle.definition.specs.Group.{folded}
+use Rattle.definition.specs.Fold.{Folded, refusal, Drained, fine, over, drain, fitted, foldRules, fold}
+use Rattle.promises.specs.Conditions.{Accepted, ManyBoxes, LongList, Foldable}
+use Rattle.promises.specs.Codes.{result, NoRoom, Done, FoldRows, FoldAnswers, FoldCodes}
+use Rattle.promises.proofs.Reading.{row, reading-rows, reading-told}
+use Rattle.promises.proofs.Draining.{drain-many, drain-long, drain-fine, DrainCases, drain-cases}
+
+module _ (form : Form) (limits : Limits) (room : ℕ) (sheet : List ℕ) where
+  abbrev answer : Folded
+  answer = fold form limits room sheet
+
+  -- ## Each row settles the fold
+  refused-answer : (c p : ℕ) → decode form limits sheet ≡ refused c p → answer ≡ refusal c p
+  unfolding fold
+  refused-answer c p e = rw (e, fold)
+
+  -- an accepted sheet, once its drained rules were judged
+  judged-answer : (rs : List Rule) (j : Drained) → Accepted form limits sheet rs → drain limits (drained rs) ≡ j
+      → answer ≡ foldRules form limits room rs j (folded (drained rs))
+  unfolding fold
+  judged-answer rs j a e = rw (a .1, fold) (ap (λ d. foldRules form limits room rs d (folded (drained rs))) e)
+
+  boxes-answer : (p : ℕ) → ManyBoxes form limits sheet p → answer ≡ refusal manyBoxes p
+  unfolding foldRules
+  boxes-answer p h = judged-answer (h .0) (over manyBoxes p) (h .1) (drain-many limits (drained (h .0)) p (h .2) (h .3))
+
+  long-answer : (p : ℕ) → LongList form limits sheet p → answer ≡ refusal longList p
+  unfolding foldRules
+  long-answer p h = judged-answer (h .0) (over longList p) (h .1 .0) (drain-long limits (drained (h .0)) p (h .1 .1) (h .2))
+
+  -- what can be folded, with room for it or without
+  fitted-answer : (rs : List Rule) → Foldable form limits sheet rs → answer ≡ fitted form limits room rs (folded (drained rs)) (result form limits rs)
+  unfolding foldRules
+  fitted-answer rs h = judged-answer rs fine (h .0 .0) (drain-fine limits (drained rs) (h .0 .1) (h .1))
+
+  room-answer : (p : ℕ) → NoRoom form limits sheet room p → answer ≡ refusal noRoom p
+  unfolding fitted
+  room-answer p h = fitted-answer (h .0) (h .1) ∙ rw (lt-ltb room (length (result form limits (h .0))) (h .2), fitted) (ap (refusal noRoom) (sym (h .3)))
+
+  -- the answer of an accepted fold
+  abbrev pub accepted : List Rule → Folded
+  accepted rs = record {
+    code = 0;
+    drained = length (drained rs);
+    emitted = length (folded (drained rs));
+    left = length (left rs);
+    bytes = length (result form limits rs);
+    place = 0;
+    result = result form limits rs;
+  }
+
+  pub done-answer : (p : ℕ) (h : Done form limits sheet room p) → answer ≡ accepted (h .0)
+  unfolding fitted
+  done-answer p h = fitted-answer (h .0) (h .1) ∙ rw (le-ltb room (length (result form limits (h .0))) (h .2), fitted)
+
+  -- a refusal, or done
+  outcome : (c p : ℕ) → FoldRows form limits sheet room c p → (answer ≡ refusal c p) ⊎ ((c ≡ 0) × Done form limits sheet room p)
+  outcome c p =
+      reading-rows form limits sheet c p (λ e. inl (refused-answer c p e)) (row (eqb c manyBoxes) (λ t k. at manyBoxes t (boxes-answer p k))
+      (row (eqb c longList) (λ t k. at longList t (long-answer p k)) (row (eqb c noRoom) (λ t k. at noRoom t (room-answer p k))
+      (row (eqb c 0) (λ t k. inr (eqb-true c 0 t, k)) (λ k. absurd k)))))
+    where
+      at : (d : ℕ) → eqb c d ≡ true → answer ≡ refusal d p → (answer ≡ refusal c p) ⊎ ((c ≡ 0) × Done form limits sheet room p)
+      at d t e = inl (e ∙ ap (λ i. refusal i p) (sym (eqb-true c d t)))
+
+  always : (c p : ℕ) → FoldRows form limits sheet room c p → FoldAnswers form limits sheet room c p
+  always c p h = go (outcome c p h)
+    where
+      go : (answer ≡ refusal c p) ⊎ ((c ≡ 0) × Done form limits sheet room p) → FoldAnswers form limits sheet room c p
+      go (inl e) = (ap (λ f. f .code) e, ap (λ f. f .place) e)
+      go (inr (z, k)) = let e = done-answer p k in (ap (λ f. f .code) e ∙ sym z, ap (λ f. f .place) e ∙ sym (k .3))
+
+  -- ## Some row holds
+  tell : (f : Folded) → answer ≡ f → FoldRows form limits sheet room (f .code) (f .place) → FoldRows form limits sheet room (answer .code) (answer .place)
+  tell f e h = subst (λ f. FoldRows form limits sheet room (f .code) (f .place)) (sym e) h
+
+  told : FoldRows form limits sheet room (answer .code) (answer .place)
+  told = go (decode form limits sheet) refl
+    where
+      fits : (rs : List Rule) → Foldable form limits sheet rs → (b : Bool) → ltb room (length (result form limits rs)) ≡ b → FoldRows form limits sheet room (answer .code) (answer .place)
+      fits rs h true t =
+          let p = length (result form limits rs) in
+          let k : NoRoom form limits sheet room p = (rs, h, ltb-true room p t, refl) in
+          tell (refusal noRoom p) (room-answer p k) k
+      fits rs h false t = let k : Done form limits sheet room 0 = (rs, h, ltb-false room (length (result form limits rs)) t, refl) in tell (accepted rs) (done-answer 0 k) k
+
+      judge : (rs : List Rule) → Accepted form limits sheet rs → DrainCases limits (drained rs) → FoldRows form limits sheet room (answer .code) (answer .place)
+      judge rs a (inl l) =
+          let p = boxCount dimensions (drained rs) in
+          let k : ManyBoxes form limits sheet p = (rs, a, l, refl) in
+          tell (refusal manyBoxes p) (boxes-answer p k) k
+      judge rs a (inr (l, inl h)) = let k : LongList form limits sheet (h .0) = (rs, (a, l), h .1) in tell (refusal longList (h .0)) (long-answer (h .0) k) k
+      judge rs a (inr (l, inr h)) = fits rs ((a, l), h) (ltb room (length (result form limits rs))) refl
+
+      go : (r : Read (List Rule)) → decode form limits sheet ≡ r → FoldRows form limits sheet room (answer .code) (answer .place)
+      go (refused c p) e = tell (refusal c p) (refused-answer c p e) (reading-told form limits sheet _ c p e)
+      go (got rs q) e = judge rs (q, e) (drain-cases limits (drained rs))
+
+  -- with any code but 0 the answer is nothing but its code and place
+  pub refused-whole : (answer .code ≡ 0 → ⊥) → answer ≡ refusal (answer .code) (answer .place)
+  refused-whole h = go (outcome (answer .code) (answer .place) told)
+    where
+      go : (answer ≡ refusal (answer .code) (answer .place)) ⊎ ((answer .code ≡ 0) × Done form limits sheet room (answer .place)) → answer ≡ refusal (answer .code) (answer .place)
+      go (inl e) = e
+      go (inr k) = absurd (h (k .0))
+
+  -- THE TABLE
+  pub fold-codes : FoldCodes form limits sheet room
+  fold-codes c p = record {
+    only = λ h. subst (λ d. FoldRows form limits sheet room d p) (h .0) (subst (FoldRows form limits sheet room (answer .code)) (h .1) told);
+    always = always c p;
+  }

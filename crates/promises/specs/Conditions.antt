@@ -1,0 +1,89 @@
+-- 01, "Numbers of the answer": the conditions that the table of codes speaks of, each without those before it in the order "1, 2 and 4 as
+-- met from the first bit on; then 3, 8, 5, 6, 9, 7".
+-- Assumes nothing.
+use mathlib.Core.Path.{_≡_}
+use mathlib.Core.List.{List}
+use mathlib.Core.Logic.{_⊎_}
+use mathlib.Core.Bool.{Bool, true, false}
+use Prim.Native.Nat.{ℕ, suc, _*_, _≤_, _<_}
+use lib.Dec.{eqb}
+use lib.ListN.{length, take, getD}
+use Rattle.definition.specs.Field.{got, refused, bytesFor, sheetBits, pastEnd, unlawful, badEnd, overLimit}
+use Rattle.definition.specs.Rule.{Rule}
+use Rattle.definition.specs.Sheet.{Form, Limits, rules, decode}
+use Rattle.definition.specs.Stop.{drained}
+use Rattle.definition.specs.Point.{dimensions, listAt}
+use Rattle.definition.specs.Box.{boxCount}
+use Rattle.promises.specs.Meaning.{isPoint}
+
+-- ## How bits end, q being the bit after the last field
+-- no bit is set from q up to p
+abbrev pub Zeros : List ℕ → ℕ → ℕ → Type 0
+Zeros s q p = (j : ℕ) → q ≤ j → j < p → getD s j 0 ≡ 0
+
+-- the first padding bit that is set is p
+abbrev pub PaddingSet : List ℕ → ℕ → ℕ → Type 0
+PaddingSet s q p = (q ≤ p) × (p < 8 * bytesFor q) × (getD s p 0 ≡ 0 → ⊥) × Zeros s q p
+
+-- no padding bit is set, but bytes follow, and p is the first bit after the padding
+abbrev pub BytesFollow : List ℕ → ℕ → ℕ → Type 0
+BytesFollow s q p = Zeros s q (8 * bytesFor q) × (8 * bytesFor q < length s) × (p ≡ 8 * bytesFor q)
+
+-- ## Lists that are too long, ds being the drained rules
+-- after the rule of index k no point's list passes the limit; and after it some point's list does
+abbrev pub ShortAfter : ℕ → List Rule → ℕ → Type 0
+ShortAfter limit ds k = (p : List ℕ) → isPoint p ≡ true → length (listAt (take (suc k) ds) p) ≤ limit
+
+abbrev pub LongAfter : ℕ → List Rule → ℕ → Type 0
+LongAfter limit ds k = (p : List ℕ) × (isPoint p ≡ true) × (limit < length (listAt (take (suc k) ds) p))
+
+-- the first rule after which some point's list passes the limit has the index k
+abbrev pub FirstLong : ℕ → List Rule → ℕ → Type 0
+FirstLong limit ds k = (k < length ds) × LongAfter limit ds k × ((j : ℕ) → j < k → ShortAfter limit ds j)
+
+-- no point's list ever passes the limit
+abbrev pub AllShort : ℕ → List Rule → Type 0
+AllShort limit ds = (j : ℕ) → j < length ds → ShortAfter limit ds j
+
+-- ## A sheet
+module _ (form : Form) (limits : Limits) (sheet : List ℕ) where
+  -- 1, 2 and 4: the fields, read one behind the other from the first bit on, meet one that is refused with this code, which begins at p
+  abbrev pub Met : ℕ → ℕ → Type 0
+  Met c p = (rules form limits) .read (sheetBits sheet) 0 ≡ refused c p
+
+  -- 3: all fields are read, and q is the bit after them
+  abbrev pub BadEnd : ℕ → Type 0
+  BadEnd p =
+      (rs : List Rule) × (q : ℕ) × ((rules form limits) .read (sheetBits sheet) 0 ≡ got rs q) × (PaddingSet (sheetBits sheet) q p ⊎ BytesFollow (sheetBits sheet) q p)
+
+  -- "An accepted sheet is one that none of 1 to 4 refuses"
+  abbrev pub Accepted : List Rule → Type 0
+  Accepted rs = (q : ℕ) × (decode form limits sheet ≡ got rs q)
+
+  -- 5
+  abbrev pub ManyBoxes : ℕ → Type 0
+  ManyBoxes p = (rs : List Rule) × Accepted rs × (limits .boxes < boxCount dimensions (drained rs)) × (p ≡ boxCount dimensions (drained rs))
+
+  -- neither 1 to 4 nor 5
+  abbrev pub FewBoxes : List Rule → Type 0
+  FewBoxes rs = Accepted rs × (boxCount dimensions (drained rs) ≤ limits .boxes)
+
+  -- 6
+  abbrev pub LongList : ℕ → Type 0
+  LongList p = (rs : List Rule) × FewBoxes rs × FirstLong (limits .entries) (drained rs) p
+
+  -- neither 1 to 4 nor 5 nor 6
+  abbrev pub Foldable : List Rule → Type 0
+  Foldable rs = FewBoxes rs × AllShort (limits .entries) (drained rs)
+
+-- ## Tables
+-- the first where the test passes, else the second
+abbrev pub given : Bool → Type 0 → Type 0 → Type 0
+given true A B = A
+given false A B = B
+
+-- the rows of every table, the codes of reading; and then the others
+abbrev pub ReadingRows : Form → Limits → List ℕ → ℕ → ℕ → Type 0 → Type 0
+ReadingRows form limits sheet c p others =
+    given (eqb c pastEnd) (Met form limits sheet pastEnd p) (given (eqb c unlawful) (Met form limits sheet unlawful p)
+    (given (eqb c overLimit) (Met form limits sheet overLimit p) (given (eqb c badEnd) (BadEnd form limits sheet p) others)))
