@@ -2,27 +2,25 @@
 -- Rests on what the folded rules mean, and on the law that what holds of a list's spans holds of its day's.
 -- Assumes nothing.
 use mathlib.Core.Path.{_≡_, refl, sym, ap, _∙_, subst}
-use mathlib.Core.List.{List, [], _∷_, _++_, map, flatMap, append-nil}
-use mathlib.Core.Bool.{Bool, true, false, _||_, not, cond, true≢false}
-use Prim.Native.Nat.{ℕ, zero, suc}
+use mathlib.Core.List.{List, [], _∷_, _++_, map, append-nil}
+use mathlib.Core.Bool.{Bool, true, false, _||_, not, true≢false}
+use Prim.Native.Nat.{ℕ}
 use lib.Dec.{eqb}
-use lib.ListN.{replicate}
 use borrow.Author.Tests.{lt-ltb, le-leb}
 use Rattle.laws.specs.Lists.{anyOf, All}
-use Rattle.laws.proofs.Lists.{All-map, All-append, image-All}
+use Rattle.laws.proofs.Lists.{All-map, image-All}
 use Rattle.laws.proofs.Spread.{flatMap-all}
 use Rattle.grid.specs.Group.{Group}
 use Rattle.grid.specs.Cut.{Range, asRuns}
 use Rattle.definition.specs.Rule.{Span, Rule}
 use Rattle.definition.specs.Stop.{isFallback, monthdayStops, weekdayStops, spanStops, stops, drained, left}
-use Rattle.definition.specs.Point.{dimensions, selector, combinations, replaces, after, listFrom, listAt}
-use Rattle.definition.specs.Day.{Day, stated, flattened, plainSpan, entryOf, day}
-use Rattle.definition.specs.Group.{dayAt, pages, rulesOf, folded}
+use Rattle.definition.specs.Day.{Day, plainSpan}
+use Rattle.definition.specs.Group.{pages, rulesOf, folded}
 use Rattle.definition.proofs.PaintedShows.{ProperRun}
-use Rattle.definition.proofs.DayHolds.{InList, day-holds}
-use Rattle.definition.proofs.Groups.{pointGroups, pages-each}
+use Rattle.definition.proofs.Groups.{pointGroups}
 use Rattle.promises.specs.Meaning.{SaySame, InGroups, SameMeaning}
 use Rattle.promises.proofs.Group.{Sound, rules-go}
+use Rattle.promises.proofs.Pages.{pages-hold}
 use Rattle.promises.proofs.Meaning.{sound, folded-says, folded-groups}
 
 -- a rule that doesn't stop
@@ -86,43 +84,11 @@ unfolding stops
 spans-stay r h = all-stay (r .spans) (second (anyOf weekdayStops (r .weekdays)) _ (second (anyOf (λ w. not (eqb (w .step) 1)) (r .weeks)) _
     (second (anyOf monthdayStops (r .monthdays)) _ (second (anyOf (λ y. not (eqb (y .step) 1)) (r .years)) _ (second (isFallback (r .operator)) _ h)))))
 
--- ## The list at a point has rules of all the rules
-list-from : (P : Rule → Type 0) (l rs : List Rule) (p : List ℕ) → All P l → All P rs → All P (listFrom l rs p)
-unfolding listFrom
-list-from P l [] p k h = k
-list-from P l (r ∷ rs) p k h = list-from P (after r (combinations (selector dimensions r) p) l) rs p (next (replaces r) refl) (h .1)
-  where
-    n : ℕ
-    n = combinations (selector dimensions r) p
-
-    copies : (n : ℕ) → All P (replicate n r)
-    copies zero = tt
-    copies (suc n) = (h .0, copies n)
-
-    either : (c : Bool) → All P (cond c l (r ∷ []))
-    either true = k
-    either false = (h .0, tt)
-
-    next : (b : Bool) → replaces r ≡ b → All P (after r n l)
-    next true e = unfold after in rw (e, after) (either (eqb n 0))
-    next false e = unfold after in rw (e, after) (All-append P l (replicate n r) k (copies n))
-
-flat-stay : (l : List Rule) → All Goes l → InList (λ S. Unit {0}) Stays (flattened (map entryOf l))
-unfolding flattened flatMap
-flat-stay [] h = tt
-flat-stay (r ∷ l) h = All-append _ (stated (entryOf r)) (flattened (map entryOf l)) (own (r .spans) (spans-stay r (h .0))) (flat-stay l (h .1))
-  where
-    own : (ss : List Span) → All Stays ss → InList (λ S. Unit {0}) Stays (stated (r .state, ss))
-    own [] k = tt
-    own (s ∷ ss) k = ((tt, k .0), own ss (k .1))
-
 -- ## The folded rules
 module _ (ds : List Rule) (h : All Goes ds) where
   days-stay : All (λ g. All (λ e. anyOf spanStops (e .1) ≡ false) (g .0)) (pages ds)
-  unfolding dayAt
-  days-stay = pages-each ds (λ d. All (λ e. anyOf spanStops (e .1) ≡ false) d) tt
-      (λ p i. All-map (λ e k. none-stops (e .1) (k .1)) (day (listAt ds p))
-      (day-holds (λ S. Unit {0}) Stays plain-stays (listAt ds p) (flat-stay (listAt ds p) (list-from Goes [] ds p tt h))))
+  days-stay = All-map (λ g k. All-map (λ e n. none-stops (e .1) (n .1)) (g .0) k) (pages ds)
+      (pages-hold (λ S. Unit {0}) Stays plain-stays ds (All-map (λ r k. (tt {0}, spans-stay r k)) ds h))
 
   pub folded-go : All Goes (folded ds)
   unfolding folded pages

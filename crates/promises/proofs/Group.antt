@@ -32,14 +32,14 @@ uncovered p [] h = refl
 uncovered p (r ∷ rs) h = rw (h .0) (uncovered p rs (h .1))
 
 module _ (g : Group ℕ Day) (sound : Sound g) where
-  abbrev lay : Rule → Rule
+  abbrev pub lay : Rule → Rule
   lay = laidOver dimensions (map runs (g .1))
 
   lays : Lays (g .1) lay
   lays = laid (g .1) (sound .0)
 
   -- what holds of the rule of each entry holds of all the group's rules; they are Normal and Additional
-  rules-all : (R : Entry → Type 0) (P : Rule → Type 0) → ((o : Operator) (e : Entry) → isFallback o ≡ false → R e → P (lay (asRule o e))) → All R (g .0) → All P (rulesOf (asRuns g))
+  pub rules-all : (R : Entry → Type 0) (P : Rule → Type 0) → ((o : Operator) (e : Entry) → isFallback o ≡ false → R e → P (lay (asRule o e))) → All R (g .0) → All P (rulesOf (asRuns g))
   unfolding rulesOf
   rules-all R P h = go (g .0)
     where

@@ -26,7 +26,7 @@ glue-rising lo x (j ∷ rs) l r = go (eqb (suc x) (j .0)) refl
     go true e = rw (e, glue) (l, omega (arith, eqb-true (suc x) (j .0) e, r .1), r .2)
     go false e = rw (e, glue) (l, omega arith, r)
 
-runs-rising : (lo : ℕ) (E : List ℕ) → Climb lo E → Rising lo (runs E)
+pub runs-rising : (lo : ℕ) (E : List ℕ) → Climb lo E → Rising lo (runs E)
 unfolding runs
 runs-rising lo [] c = tt
 runs-rising lo (x ∷ E) c = glue-rising lo x (runs E) (c .0) (runs-rising (suc x) E (c .1))
@@ -98,7 +98,7 @@ runs-split b lo [] r = refl
 runs-split b lo (q ∷ rs) r = ap₂ _++_ (run-split b q (r .1)) (runs-split b (q .1) rs (r .2))
 
 -- the coordinates of a dimension that pass a test rise
-kept-climb : (t : ℕ → Bool) (s n : ℕ) → Climb s (keep t (from s n))
+pub kept-climb : (t : ℕ → Bool) (s n : ℕ) → Climb s (keep t (from s n))
 unfolding keep from
 kept-climb t s zero = tt
 kept-climb t s (suc n) = go (t s) refl (kept-climb t (suc s) n)

@@ -3,6 +3,7 @@ pub mod Again
 pub mod Laid
 pub mod Group
 pub mod Meaning
+pub mod Pages
 pub mod Going
 pub mod Refusals
 pub mod Ends
@@ -14,3 +15,5 @@ pub mod BackCodes
 pub mod LookupCodes
 pub mod Counts
 pub mod Looking
+pub mod Fitting
+pub mod ReadBack

@@ -4,3 +4,4 @@ pub mod Conditions
 pub mod Codes
 pub mod Counts
 pub mod Looking
+pub mod ReadBack

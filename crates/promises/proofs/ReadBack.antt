@@ -1,0 +1,137 @@
+-- DEMAND 3, FROM BYTES TO BYTES: what an accepted fold wrote is read again as its folded rules and the rules left. Rests on the law that it
+-- fits the layout, and on the round trip of sheets.
+-- Assumes nothing.
+use mathlib.Core.Path.{_≡_, refl, sym, ap, _∙_, subst}
+use mathlib.Core.List.{List, [], _∷_, _++_, map}
+use mathlib.Core.Bool.{Bool, true, false, _&&_}
+use Prim.Native.Nat.{ℕ, _-_, _^_, _<_}
+use native.Mathlib.Omega.{arith}
+use lib.Dec.{ltb}
+use lib.ListN.{length}
+use borrow.Author.Tests.{ltb-true, lt-ltb, le-leb, eq-eqb}
+use Rattle.laws.specs.Lists.{All}
+use Rattle.laws.proofs.Flags.{split-and, both-and}
+use Rattle.laws.proofs.Lists.{All-map, All-map₂, All-append, every-all, image-All}
+use Rattle.laws.proofs.Spread.{flatMap-all}
+use Rattle.grid.specs.Group.{Group}
+use Rattle.grid.specs.Cut.{asRuns}
+use Rattle.definition.specs.Field.{got, field, _then_, via, tagged, several}
+use Rattle.definition.specs.Rule.{operatorNumber, kindNumber, State, Span, Rule}
+use Rattle.definition.specs.Sheet.{Form, Limits, form1, limits1, choice, span, headOf, title, counts, head, body, rule, rules, decode, encode}
+use Rattle.definition.specs.Stop.{stops, drained, left}
+use Rattle.definition.specs.Day.{Day}
+use Rattle.definition.specs.Group.{pages, rulesOf, folded}
+use Rattle.definition.specs.Fold.{fine, drain, fold}
+use Rattle.definition.proofs.Bits.{Bytes}
+use Rattle.definition.proofs.SheetRead.{encode-decoded, decode-encoded}
+use Rattle.definition.proofs.Lawful.{ItemsFit, items-fit, rules-each}
+use Rattle.definition.proofs.FoldBox.{drained-all}
+use Rattle.definition.proofs.DayHolds.{InDay}
+use Rattle.definition.proofs.Groups.{pointGroups}
+use Rattle.definition.proofs.RuleCounts.{Roomy, roomy1, counts-fit}
+use Rattle.promises.specs.Conditions.{Accepted}
+use Rattle.promises.specs.Codes.{result}
+use Rattle.promises.specs.ReadBack.{widest, FoldReads}
+use Rattle.promises.proofs.Laid.{laid}
+use Rattle.promises.proofs.Group.{Sound, rules-all}
+use Rattle.promises.proofs.Meaning.{sound}
+use Rattle.promises.proofs.Going.{written-means}
+use Rattle.promises.proofs.Pages.{pages-hold}
+use Rattle.promises.proofs.Fitting.{all-every, plain-fits, laid-items, rule-fits}
+use Rattle.promises.proofs.Draining.{drain-fine}
+use Rattle.promises.proofs.FoldCodes.{done-answer, fold-codes}
+
+left-all : (P : Rule → Type 0) (rs : List Rule) → All P rs → All P (left rs)
+unfolding left
+left-all P [] h = tt
+left-all P (r ∷ rs) h = go (stops r) refl (left-all P rs (h .1))
+  where
+    go : (b : Bool) → stops r ≡ b → All P (left rs) → All P (left (r ∷ rs))
+    go true e ih = rw (e, left) h
+    go false e ih = rw (e, left) ih
+
+module _ (form : Form) (limits : Limits) where
+  -- what of a rule fits whatever the limits are
+  abbrev Lawful : Rule → Type 0
+  Lawful r = (r .state .comment < 2 ^ form .comment) × ItemsFit form limits r
+
+  rule-lawful : (r : Rule) → (rule form limits) .fits r ≡ true → Lawful r
+  unfolding rule tagged head title via _then_ field
+  rule-lawful r f =
+      let operator = choice .fits (operatorNumber (r .operator)) in
+      let kind = choice .fits (kindNumber (r .state .kind)) in
+      let comment = ltb (r .state .comment) (2 ^ form .comment) in
+      let h = split-and ((title form limits) .fits (headOf r .0)) ((counts form limits) .fits (headOf r .1)) (split-and ((head form limits) .fits (headOf r)) _ f .0) .0 in
+      let k = split-and kind (comment && true) (split-and operator (kind && (comment && true)) h .1) .1 in
+      (ltb-true (r .state .comment) (2 ^ form .comment) (split-and comment true k .0), items-fit form limits r f)
+
+  -- ## The folded rules
+  abbrev Fine : State → Type 0
+  Fine S = S .comment < 2 ^ form .comment
+
+  abbrev Fits : Span → Type 0
+  Fits s = span .fits s ≡ true
+
+  group-lawful : (g : Group ℕ Day) → Sound g → InDay Fine Fits (g .0) → All Lawful (rulesOf (asRuns g))
+  group-lawful g s = rules-all g s (λ e. Fine (e .0) × All Fits (e .1)) Lawful (λ o e f k. (
+    subst (λ x. x .0 .comment < 2 ^ form .comment) (sym ((laid (g .1) (s .0)) .laid-entry o e)) (k .0),
+    laid-items form limits (g .1) (s .0) o e (all-every (span .fits) (e .1) (k .1)),
+  ))
+
+  folded-lawful : (ds : List Rule) → All Lawful ds → All Lawful (folded ds)
+  unfolding folded pages
+  folded-lawful ds h = flatMap-all Lawful rulesOf (pages ds) (each (pointGroups ds) (sound ds) (image-All _ asRuns (pointGroups ds) days))
+    where
+      days : All (λ g. InDay Fine Fits (g .0)) (pages ds)
+      days = pages-hold Fine Fits plain-fits ds (All-map (λ r k. (k .0, every-all Fits (span .fits) (λ s e. e) (r .spans) (k .1 .spans-fit))) ds h)
+
+      each : (gs : List (Group ℕ Day)) → All Sound gs → All (λ g. InDay Fine Fits (g .0)) gs → All (λ g. All Lawful (rulesOf g)) (map asRuns gs)
+      each [] s k = tt
+      each (g ∷ gs) s k = (group-lawful g (s .0) (k .0), each gs (s .1) (k .1))
+
+  -- ## All that is written
+  -- the bits don't depend on the limits
+  same-bits : (ws : List Rule) → encode form (widest form limits) ws ≡ encode form limits ws
+  unfolding encode rules rule head title counts body tagged via _then_ several field
+  same-bits ws = refl
+
+  module _ (roomy : Roomy form limits) (sheet : List ℕ) (whole : Bytes sheet) (rs : List Rule) (q : ℕ) (e : decode form limits sheet ≡ got rs q) (f : drain limits (drained rs) ≡ fine) where
+    abbrev ws : List Rule
+    ws = folded (drained rs) ++ left rs
+
+    written-lawful : All Lawful ws
+    written-lawful =
+        let h = every-all Lawful ((rule form limits) .fits) rule-lawful rs (rules-each form limits rs (encode-decoded form limits sheet whole rs q e .0)) in
+        All-append Lawful (folded (drained rs)) (left rs) (folded-lawful (drained rs) (drained-all Lawful rs h)) (left-all Lawful rs h)
+
+    written-fits : (rules form (widest form limits)) .fits ws ≡ true
+    unfolding rules tagged several field
+    written-fits =
+        let k = counts-fit form limits roomy sheet whole rs q e f in
+        let n = length ws in
+        both-and _ _ (both-and _ _ (lt-ltb n (2 ^ form .ruleCount) (k .rule-count)) (le-leb n (2 ^ form .ruleCount - 1) (omega (arith, k .rule-count))))
+        (both-and _ _ (eq-eqb n n refl) (all-every ((rule form (widest form limits)) .fits) ws
+        (All-map₂ (λ r s l. rule-fits form limits r (l .0) s (l .1)) ws (k .item-counts) written-lawful)))
+
+    -- WHAT WAS WRITTEN IS READ AGAIN
+    pub written-read : Accepted form (widest form limits) (result form limits rs) ws
+    written-read = (
+      length ((rules form (widest form limits)) .write ws),
+      ap (decode form (widest form limits)) (sym (same-bits ws)) ∙ decode-encoded form (widest form limits) ws written-fits,
+    )
+
+-- DEMAND 3
+pub fold-reads : (room : ℕ) (sheet : List ℕ) → FoldReads room sheet
+fold-reads room sheet whole e =
+    let d = (fold-codes form1 limits1 room sheet 0 ((fold form1 limits1 room sheet) .place)) .only (e, refl) in
+    let rs = d .0 in
+    let a = d .1 .0 .0 in
+    let f = drain-fine limits1 (drained rs) (d .1 .0 .1) (d .1 .1) in
+    let r = done-answer form1 limits1 room sheet ((fold form1 limits1 room sheet) .place) d in (
+      rs,
+      folded (drained rs) ++ left rs,
+      a,
+      subst (λ bytes. Accepted form1 (widest form1 limits1) bytes (folded (drained rs) ++ left rs)) (sym (ap (λ g. g .result) r))
+          (written-read form1 limits1 roomy1 sheet whole rs (a .0) (a .1) f),
+      written-means rs,
+    )

@@ -1,0 +1,28 @@
+-- Demand 3, from bytes to bytes: what an accepted fold wrote can be read again, and its rules mean what the sheet's mean. 01 sets limits to
+-- what a sheet is read from and none to what is written, so it is read with the limits of the counts' own widths: a folded rule may
+-- have more than 16 items, and a fold more than 64 rules.
+-- Assumes nothing.
+use mathlib.Core.Path.{_≡_}
+use mathlib.Core.List.{List}
+use Prim.Native.Nat.{ℕ, _-_, _^_, _<_}
+use Rattle.laws.specs.Lists.{All}
+use Rattle.definition.specs.Rule.{Rule}
+use Rattle.definition.specs.Sheet.{Form, Limits, form1, limits1}
+use Rattle.definition.specs.Fold.{fold}
+use Rattle.promises.specs.Meaning.{SameMeaning}
+use Rattle.promises.specs.Conditions.{Accepted}
+
+-- as many rules, items and spans as the counts of the form can carry
+abbrev pub widest : Form → Limits → Limits
+widest form limits = record {
+  rules = 2 ^ form .ruleCount - 1;
+  items = 2 ^ form .itemCount - 1;
+  spans = 2 ^ form .itemCount - 1;
+  boxes = limits .boxes;
+  entries = limits .entries;
+}
+
+-- THE STATEMENT: rs are the rules of the sheet, ws those that were written
+abbrev pub FoldReads : ℕ → List ℕ → Type 0
+FoldReads room sheet = All (λ b. b < 256) sheet → (fold form1 limits1 room sheet) .code ≡ 0
+    → (rs : List Rule) × (ws : List Rule) × Accepted form1 limits1 sheet rs × Accepted form1 (widest form1 limits1) ((fold form1 limits1 room sheet) .result) ws × SameMeaning rs ws
