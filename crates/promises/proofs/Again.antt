@@ -1,5 +1,4 @@
--- RULES DRAINED AGAIN: what a list of rules is at a point that all of them cover once, or none of them covers; and so what groups of rules
--- are there, of which at most one covers the point.
+-- RULES DRAINED AGAIN: what becomes of the list at a point after rules that don't cover it, and after rules that all cover it once.
 -- Assumes nothing.
 use mathlib.Core.Path.{_≡_, refl, sym, ap, _∙_}
 use mathlib.Core.List.{List, [], _∷_, _++_, append-assoc, append-nil}

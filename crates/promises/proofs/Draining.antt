@@ -17,32 +17,32 @@ use Rattle.promises.specs.Conditions.{FirstLong, AllShort}
 use Rattle.promises.proofs.TooLong.{LongCases, long-cases, first-long, none-long}
 
 module _ (limits : Limits) (ds : List Rule) where
-  abbrev n : ℕ
-  n = boxCount dimensions ds
+  abbrev boxes : ℕ
+  boxes = boxCount dimensions ds
 
-  pub drain-many : (p : ℕ) → limits .boxes < n → p ≡ n → drain limits ds ≡ over manyBoxes p
+  pub drain-many : (p : ℕ) → limits .boxes < boxes → p ≡ boxes → drain limits ds ≡ over manyBoxes p
   unfolding drain judged
-  drain-many p l e = rw (lt-ltb (limits .boxes) n l, judged) (ap (over manyBoxes) (sym e))
+  drain-many p l e = rw (lt-ltb (limits .boxes) boxes l, judged) (ap (over manyBoxes) (sym e))
 
-  pub drain-long : (k : ℕ) → n ≤ limits .boxes → FirstLong (limits .entries) ds k → drain limits ds ≡ over longList k
+  pub drain-long : (k : ℕ) → boxes ≤ limits .boxes → FirstLong (limits .entries) ds k → drain limits ds ≡ over longList k
   unfolding drain judged
-  drain-long k l h = rw (le-ltb (limits .boxes) n l, first-long (limits .entries) ds k h, judged)
+  drain-long k l h = rw (le-ltb (limits .boxes) boxes l, first-long (limits .entries) ds k h, judged)
 
-  pub drain-fine : n ≤ limits .boxes → AllShort (limits .entries) ds → drain limits ds ≡ fine
+  pub drain-fine : boxes ≤ limits .boxes → AllShort (limits .entries) ds → drain limits ds ≡ fine
   unfolding drain judged
-  drain-fine l h = rw (le-ltb (limits .boxes) n l, none-long (limits .entries) ds h, judged)
+  drain-fine l h = rw (le-ltb (limits .boxes) boxes l, none-long (limits .entries) ds h, judged)
 
   -- one of the three
   abbrev pub DrainCases : Type 0
-  DrainCases = (limits .boxes < n) ⊎ ((n ≤ limits .boxes) × (((k : ℕ) × FirstLong (limits .entries) ds k) ⊎ AllShort (limits .entries) ds))
+  DrainCases = (limits .boxes < boxes) ⊎ ((boxes ≤ limits .boxes) × (((k : ℕ) × FirstLong (limits .entries) ds k) ⊎ AllShort (limits .entries) ds))
 
   pub drain-cases : DrainCases
-  drain-cases = boxes (ltb (limits .boxes) n) refl
+  drain-cases = by-boxes (ltb (limits .boxes) boxes) refl
     where
       lists : LongCases (limits .entries) ds → ((k : ℕ) × FirstLong (limits .entries) ds k) ⊎ AllShort (limits .entries) ds
       lists (inl k) = inl (k .0, k .1)
       lists (inr s) = inr (s .0)
 
-      boxes : (b : Bool) → ltb (limits .boxes) n ≡ b → DrainCases
-      boxes true t = inl (ltb-true (limits .boxes) n t)
-      boxes false t = inr (ltb-false (limits .boxes) n t, lists (long-cases (limits .entries) ds))
+      by-boxes : (b : Bool) → ltb (limits .boxes) boxes ≡ b → DrainCases
+      by-boxes true t = inl (ltb-true (limits .boxes) boxes t)
+      by-boxes false t = inr (ltb-false (limits .boxes) boxes t, lists (long-cases (limits .entries) ds))

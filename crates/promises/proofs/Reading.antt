@@ -14,6 +14,7 @@ use Rattle.definition.specs.Rule.{Rule}
 use Rattle.definition.specs.Sheet.{Form, Limits, rules, decode}
 use Rattle.promises.specs.Fields.{FieldKind, isCount, Refused}
 use Rattle.promises.specs.Conditions.{PaddingSet, BytesFollow, Met, BadEnd, Accepted, given, ReadingRows}
+use Rattle.promises.specs.Codes.{FieldNamed}
 use Rattle.promises.proofs.Refusals.{field-named}
 use Rattle.promises.proofs.Ends.{EndCases, ended-cases, ended-badly}
 
@@ -47,6 +48,10 @@ module _ (form : Form) (limits : Limits) (sheet : List ℕ) where
       at : (d : ℕ) → eqb c d ≡ true → decode form limits sheet ≡ refused d p → T
       at d t e = f (e ∙ ap (λ i. refused i p) (sym (eqb-true c d t)))
 
+  -- 1, 2 OR 4 NAME A FIELD
+  pub met-named : FieldNamed form limits sheet
+  met-named c p e = field-named form limits (sheetBits sheet) c p e
+
   -- ## A REFUSAL TELLS ITS ROW, in any table
   pub reading-told : (B : Type 0) (c p : ℕ) → decode form limits sheet ≡ refused c p → ReadingRows form limits sheet c p B
   reading-told B c p e = go ((rules form limits) .read (sheetBits sheet) 0) refl
@@ -63,7 +68,7 @@ module _ (form : Form) (limits : Limits) (sheet : List ℕ) where
           subst (λ j. ReadingRows form limits sheet c j B) l (subst (λ j. ReadingRows form limits sheet j i B) k r)
 
       met : (d i : ℕ) → Met form limits sheet d i → ReadingRows form limits sheet c p B
-      met d i h = named (field-named form limits s d i h)
+      met d i h = named (met-named d i h)
         where
           at : (k : ℕ) → d ≡ k → (Met form limits sheet k i → ReadingRows form limits sheet k i B) → ReadingRows form limits sheet c p B
           at k q f = let m = subst (λ j. Met form limits sheet j i) q h in same k i (met-read k i m) (f m)

@@ -8,7 +8,7 @@ use Prim.Native.Nat.{ℕ, _≤_, _<_}
 use lib.Dec.{eqb, ltb}
 use lib.ListN.{length}
 use Rattle.laws.specs.Lists.{All}
-use Rattle.definition.specs.Field.{manyBoxes, longList, noRoom, noDate, unsettled}
+use Rattle.definition.specs.Field.{sheetBits, manyBoxes, longList, noRoom, noDate, unsettled}
 use Rattle.definition.specs.Rule.{midnight24, Rule}
 use Rattle.definition.specs.Sheet.{Form, Limits, encode}
 use Rattle.definition.specs.Stop.{drained, left}
@@ -18,7 +18,8 @@ use Rattle.definition.specs.Group.{folded}
 use Rattle.definition.specs.Date.{isDate, pointOf}
 use Rattle.definition.specs.Fold.{fold, writeBack}
 use Rattle.definition.specs.Lookup.{lookup}
-use Rattle.promises.specs.Conditions.{Accepted, ManyBoxes, LongList, Foldable, given, ReadingRows}
+use Rattle.promises.specs.Fields.{FieldKind, Refused}
+use Rattle.promises.specs.Conditions.{Met, Accepted, ManyBoxes, LongList, Foldable, given, ReadingRows}
 
 -- the one exactly when the other
 pub record Exactly (A B : Type 0) : Type 0 where
@@ -38,6 +39,10 @@ abbrev pub Settled : ℕ → ℕ → ℕ → List Rule → Type 0
 Settled y mo d rs = (left rs ≡ []) × All (λ x. simple (x .1) ≡ true) (flattened (map entryOf (listAt (drained rs) (pointOf y mo d))))
 
 module _ (form : Form) (limits : Limits) (sheet : List ℕ) where
+  -- ## 1, 2 and 4: the field that begins at the place runs past the end, or holds a value that isn't lawful in it
+  abbrev pub FieldNamed : Type 0
+  FieldNamed = (c p : ℕ) → Met form limits sheet c p → (k : FieldKind) × Refused form limits (sheetBits sheet) k c p
+
   -- ## The fold, into a buffer of `room` bytes
   module _ (room : ℕ) where
     abbrev pub NoRoom : ℕ → Type 0
@@ -47,8 +52,11 @@ module _ (form : Form) (limits : Limits) (sheet : List ℕ) where
     Done p = (rs : List Rule) × Foldable form limits sheet rs × (length (result form limits rs) ≤ room) × (p ≡ 0)
 
     abbrev pub FoldRows : ℕ → ℕ → Type 0
-    FoldRows c p = ReadingRows form limits sheet c p (given (eqb c manyBoxes) (ManyBoxes form limits sheet p) (given (eqb c longList) (LongList form limits sheet p)
-        (given (eqb c noRoom) (NoRoom p) (given (eqb c 0) (Done p) ⊥))))
+    FoldRows c p = ReadingRows form limits sheet c p
+        (given (eqb c manyBoxes) (ManyBoxes form limits sheet p)
+        (given (eqb c longList) (LongList form limits sheet p)
+        (given (eqb c noRoom) (NoRoom p)
+        (given (eqb c 0) (Done p) ⊥))))
 
     abbrev pub FoldAnswers : ℕ → ℕ → Type 0
     FoldAnswers c p = ((fold form limits room sheet) .code ≡ c) × ((fold form limits room sheet) .place ≡ p)
@@ -74,7 +82,8 @@ module _ (form : Form) (limits : Limits) (sheet : List ℕ) where
     abbrev pub LookupRows : ℕ → ℕ → Type 0
     LookupRows c p = ReadingRows form limits sheet c p
         (given (eqb c noDate) ((rs : List Rule) × Accepted form limits sheet rs × (dated y mo d m ≡ false) × (p ≡ 0))
-        (given (eqb c manyBoxes) ((dated y mo d m ≡ true) × ManyBoxes form limits sheet p) (given (eqb c longList) ((dated y mo d m ≡ true) × LongList form limits sheet p)
+        (given (eqb c manyBoxes) ((dated y mo d m ≡ true) × ManyBoxes form limits sheet p)
+        (given (eqb c longList) ((dated y mo d m ≡ true) × LongList form limits sheet p)
         (given (eqb c unsettled) ((rs : List Rule) × (dated y mo d m ≡ true) × Foldable form limits sheet rs × (Settled y mo d rs → ⊥) × (p ≡ 0))
         (given (eqb c 0) ((rs : List Rule) × (dated y mo d m ≡ true) × Foldable form limits sheet rs × Settled y mo d rs × (p ≡ 0)) ⊥)))))
 

@@ -85,5 +85,7 @@ given false A B = B
 -- the rows of every table, the codes of reading; and then the others
 abbrev pub ReadingRows : Form → Limits → List ℕ → ℕ → ℕ → Type 0 → Type 0
 ReadingRows form limits sheet c p others =
-    given (eqb c pastEnd) (Met form limits sheet pastEnd p) (given (eqb c unlawful) (Met form limits sheet unlawful p)
-    (given (eqb c overLimit) (Met form limits sheet overLimit p) (given (eqb c badEnd) (BadEnd form limits sheet p) others)))
+    given (eqb c pastEnd) (Met form limits sheet pastEnd p)
+    (given (eqb c unlawful) (Met form limits sheet unlawful p)
+    (given (eqb c overLimit) (Met form limits sheet overLimit p)
+    (given (eqb c badEnd) (BadEnd form limits sheet p) others)))

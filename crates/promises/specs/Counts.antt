@@ -1,16 +1,17 @@
 -- Demand 2: the numbers of an accepted fold are counts over its rules, and what it wrote is the folded rules, then the rules left; a refused
--- fold counts nothing and writes nothing. 01: "Two accepted folds with the same drained rules have the same folded rules, whichever
+-- fold counts nothing and writes nothing; the same of writing back. 01: "Two accepted folds with the same drained rules have the same folded rules, whichever
 -- rules are left in each."
 -- Assumes nothing.
 use mathlib.Core.Path.{_≡_}
 use mathlib.Core.List.{List, [], _++_}
-use Prim.Native.Nat.{ℕ, _+_, _≤_}
+use Prim.Native.Nat.{ℕ, _+_, _≤_, _<_}
 use lib.ListN.{length}
+use Rattle.laws.specs.Lists.{All}
 use Rattle.definition.specs.Rule.{Rule}
 use Rattle.definition.specs.Sheet.{Form, Limits, encode}
 use Rattle.definition.specs.Stop.{drained, left}
 use Rattle.definition.specs.Group.{folded}
-use Rattle.definition.specs.Fold.{Folded, fold}
+use Rattle.definition.specs.Fold.{Folded, fold, writeBack}
 use Rattle.promises.specs.Conditions.{Accepted}
 
 -- the rules of the sheet are rs
@@ -38,6 +39,15 @@ pub record SamePage (form : Form) (limits : Limits) (rs qs : List Rule) (f g : F
   pub second-written : g .result ≡ encode form limits (page ++ left qs)
 
 -- ## THE STATEMENTS
+-- an accepted sheet of bytes is written back as it came; a refused one isn't written
+abbrev pub BackWrites : Form → Limits → ℕ → List ℕ → Type 0
+BackWrites form limits room sheet = (writeBack form limits room sheet) .code ≡ 0 → All (λ b. b < 256) sheet
+    → ((writeBack form limits room sheet) .result ≡ sheet) × ((writeBack form limits room sheet) .bytes ≡ length sheet)
+
+abbrev pub BackNothing : Form → Limits → ℕ → List ℕ → Type 0
+BackNothing form limits room sheet =
+    ((writeBack form limits room sheet) .code ≡ 0 → ⊥) → ((writeBack form limits room sheet) .bytes ≡ 0) × ((writeBack form limits room sheet) .result ≡ [])
+
 module _ (form : Form) (limits : Limits) (room : ℕ) (sheet : List ℕ) where
   abbrev pub AcceptedCounts : Type 0
   AcceptedCounts = (fold form limits room sheet) .code ≡ 0
