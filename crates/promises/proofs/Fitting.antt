@@ -56,7 +56,7 @@ ends-bounded b lo (q ∷ rs) l r h = (
   ends-bounded b (q .1) rs (omega (arith, r .0, r .1)) (r .2) (h .1),
 )
 
-pub items-bounded : (b : Range) (t : ℕ → Bool) → b .0 < b .1 → All (Bounded b) (itemsOf b (runs (keep t (coordinates b))))
+items-bounded : (b : Range) (t : ℕ → Bool) → b .0 < b .1 → All (Bounded b) (itemsOf b (runs (keep t (coordinates b))))
 unfolding itemsOf
 items-bounded b t proper =
     go (runs E) (runs-rising (b .0) E (kept-climb t (b .0) (b .1 - b .0)))

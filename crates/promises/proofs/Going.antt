@@ -28,7 +28,7 @@ abbrev pub Goes : Rule → Type 0
 Goes r = stops r ≡ false
 
 -- ## Drained and left
-pub drained-go : (rs : List Rule) → All Goes (drained rs)
+drained-go : (rs : List Rule) → All Goes (drained rs)
 unfolding drained
 drained-go [] = tt
 drained-go (r ∷ rs) = go (stops r) refl (drained-go rs)
