@@ -1,10 +1,8 @@
 //! The answers of the oracle: each calls the functions of docs/src and prints what they gave.
 
-use alloc::collections::VecDeque;
-
 use crate::bits::{from_hex, to_hex};
+use crate::fold::fold_rules;
 use crate::normalize::canonical_time::normalize_time_rules;
-use crate::normalize::{canonical_to_ruleseq, drain_ruleseq_into_canonical};
 use crate::outside::Outside;
 use crate::rules::day::DaySelector;
 use crate::rules::{OpeningHoursExpression, RuleOperator, RuleSequence};
@@ -12,12 +10,12 @@ use crate::sheet_reader::read_sheet;
 use crate::sheet_writer::write_sheet;
 
 /// `DRAINED EMITTED LEFT RESULTHEX` for a sheet in hex, or why it is outside the Rust.
-pub(crate) fn fold_line(line: &str) -> String {
+pub fn fold_line(line: &str) -> String {
     answer(line, fold)
 }
 
 /// `RESULTHEX` for a sheet in hex, the day of all its rules as one list, or why it is outside the Rust.
-pub(crate) fn day_line(line: &str) -> String {
+pub fn day_line(line: &str) -> String {
     answer(line, |rules| to_hex(&write_sheet(&day_of_all(rules))))
 }
 
@@ -34,26 +32,22 @@ fn answer(line: &str, of_rules: impl FnOnce(Vec<RuleSequence>) -> String) -> Str
     }
 }
 
-/// Takes the two steps of `OpeningHoursExpression::normalize` one by one, for the counts between them.
+/// The fold's counts and its result, which `OpeningHoursExpression::normalize` must give as well.
 fn fold(rules: Vec<RuleSequence>) -> String {
-    let mut left: VecDeque<RuleSequence> = rules.clone().into();
-    let canonical = drain_ruleseq_into_canonical(&mut left);
-    let mut result = canonical_to_ruleseq(canonical);
-
-    let counts = format!(
-        "{} {} {}",
-        rules.len() - left.len(),
-        result.len(),
-        left.len()
-    );
-    result.extend(left);
+    let folded = fold_rules(rules.clone());
 
     assert!(
-        OpeningHoursExpression { rules }.normalize().rules == result,
+        OpeningHoursExpression { rules }.normalize().rules == folded.result,
         "the two steps and normalize() must give the same rules"
     );
 
-    format!("{counts} {}", to_hex(&write_sheet(&result)))
+    format!(
+        "{} {} {} {}",
+        folded.drained,
+        folded.emitted,
+        folded.left,
+        to_hex(&write_sheet(&folded.result))
+    )
 }
 
 /// The canonical day of the list of all rules, whatever their days and operators, written as rules without day items.

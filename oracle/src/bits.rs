@@ -1,27 +1,40 @@
 //! Fields of bits in bytes, the most significant bit first, and the hex form of bytes.
 
 /// Reads fields from the front of a sheet.
-pub(crate) struct BitReader<'a> {
+pub struct BitReader<'a> {
     bytes: &'a [u8],
     position: usize,
 }
 
 impl<'a> BitReader<'a> {
-    pub(crate) fn new(bytes: &'a [u8]) -> Self {
-        Self { bytes, position: 0 }
+    pub fn new(bytes: &'a [u8]) -> Self {
+        Self::at(bytes, 0)
+    }
+
+    /// Reads on from a bit of the sheet.
+    pub fn at(bytes: &'a [u8], position: usize) -> Self {
+        Self { bytes, position }
+    }
+
+    /// How many bits were read.
+    pub fn position(&self) -> usize {
+        self.position
     }
 
     /// The next `width` bits as a number, or nothing where they run past the end.
-    pub(crate) fn field(&mut self, width: usize) -> Option<u32> {
+    pub fn field(&mut self, width: usize) -> Option<u32> {
         let end = self.position + width;
 
         if end > self.bytes.len() * 8 {
             return None;
         }
 
-        let value = (self.position..end).fold(0, |value, place| value << 1 | self.bit(place));
+        let window = self.bytes[self.position / 8..end.div_ceil(8)]
+            .iter()
+            .fold(0, |window, byte| window << 8 | u64::from(*byte));
+        let from_the_last_byte = window >> (end.next_multiple_of(8) - end);
         self.position = end;
-        Some(value)
+        Some((from_the_last_byte & ((1 << width) - 1)) as u32)
     }
 
     /// Whether all that is left are zero bits to the end of the byte.
@@ -30,44 +43,51 @@ impl<'a> BitReader<'a> {
         end - self.position < 8 && (self.position..end).all(|place| self.bit(place) == 0)
     }
 
-    fn bit(&self, place: usize) -> u32 {
-        u32::from(self.bytes[place / 8] >> (7 - place % 8) & 1)
+    fn bit(&self, place: usize) -> u8 {
+        self.bytes[place / 8] >> (7 - place % 8) & 1
     }
 }
 
 /// Writes fields one after another; the last byte is filled with zero bits.
 #[derive(Default)]
-pub(crate) struct BitWriter {
+pub struct BitWriter {
     bytes: Vec<u8>,
-    position: usize,
+    /// Fewer than eight bits that wait for their byte to be full.
+    waiting: u64,
+    waiting_width: usize,
 }
 
 impl BitWriter {
     /// Writes `value` in `width` bits. A value that does not fit has no packed form, and no answer may be made up for it.
-    pub(crate) fn field(&mut self, name: &str, width: usize, value: u32) {
+    pub fn field(&mut self, name: &str, width: usize, value: u32) {
         assert!(
             u64::from(value) < 1 << width,
             "the result cannot be packed: {name} is {value}, its field has {width} bits"
         );
 
-        for place in (0..width).rev() {
-            if self.position.is_multiple_of(8) {
-                self.bytes.push(0);
-            }
+        self.waiting = self.waiting << width | u64::from(value);
+        self.waiting_width += width;
 
-            let bit = (value >> place & 1) as u8;
-            self.bytes[self.position / 8] |= bit << (7 - self.position % 8);
-            self.position += 1;
+        while self.waiting_width >= 8 {
+            self.waiting_width -= 8;
+            self.bytes.push((self.waiting >> self.waiting_width) as u8);
         }
+
+        self.waiting &= (1 << self.waiting_width) - 1;
     }
 
-    pub(crate) fn into_bytes(self) -> Vec<u8> {
+    pub fn into_bytes(mut self) -> Vec<u8> {
+        if self.waiting_width > 0 {
+            self.bytes
+                .push((self.waiting << (8 - self.waiting_width)) as u8);
+        }
+
         self.bytes
     }
 }
 
 /// The bytes of a line of hex, or nothing where it is none.
-pub(crate) fn from_hex(line: &str) -> Option<Vec<u8>> {
+pub fn from_hex(line: &str) -> Option<Vec<u8>> {
     let digits: Vec<u8> = line
         .chars()
         .map(|digit| digit.to_digit(16).map(|value| value as u8))
@@ -79,6 +99,6 @@ pub(crate) fn from_hex(line: &str) -> Option<Vec<u8>> {
 }
 
 /// Bytes in upper-case hex.
-pub(crate) fn to_hex(bytes: &[u8]) -> String {
+pub fn to_hex(bytes: &[u8]) -> String {
     bytes.iter().map(|byte| format!("{byte:02X}")).collect()
 }

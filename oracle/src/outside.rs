@@ -2,8 +2,8 @@
 
 use core::fmt::{Display, Formatter, Result};
 
-#[derive(Clone, Copy)]
-pub(crate) enum Outside {
+#[derive(Clone, Copy, Debug)]
+pub enum Outside {
     /// The line is not hex.
     NotHex,
     /// The bytes are no packed sheet: cut short, an unlawful value, a set padding bit, or bytes after the padding.
@@ -16,6 +16,12 @@ pub(crate) enum Outside {
     YearStep,
     /// `WeekRange::new` turns a step above end less start into 1.
     WeekStep,
+}
+
+impl Outside {
+    pub fn is_unreadable(self) -> bool {
+        matches!(self, Self::Unreadable)
+    }
 }
 
 impl Display for Outside {

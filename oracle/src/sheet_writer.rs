@@ -10,6 +10,11 @@ use crate::rules::time::{Time, TimeSpan};
 
 /// The sheet of these rules in their order.
 pub(crate) fn write_sheet(rules: &[RuleSequence]) -> Vec<u8> {
+    write_rules(rules).into_bytes()
+}
+
+/// The same before its last byte is filled.
+pub(crate) fn write_rules(rules: &[RuleSequence]) -> BitWriter {
     let mut bits = BitWriter::default();
     write_count(&mut bits, "the number of rules", 16, rules.len());
 
@@ -17,7 +22,7 @@ pub(crate) fn write_sheet(rules: &[RuleSequence]) -> Vec<u8> {
         write_rule(&mut bits, rule);
     }
 
-    bits.into_bytes()
+    bits
 }
 
 fn write_rule(bits: &mut BitWriter, rule: &RuleSequence) {

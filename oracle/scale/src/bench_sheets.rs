@@ -1,0 +1,265 @@
+//! The sheets of the bench, put together rule by rule, all inside the Rust's domain.
+
+use crate::random::Random;
+use crate::rule::{
+    ADDITIONAL, CLOSED, ITEM_LIMIT, MIDNIGHT, NORMAL, OPEN, RULE_LIMIT, Rule, Span, Stepped, Time,
+    UNKNOWN, fixed, fixed_time, months, range, weekdays,
+};
+use crate::sheet::write_sheet;
+
+pub struct BenchSheet {
+    pub name: &'static str,
+    pub bytes: Vec<u8>,
+}
+
+pub fn bench_sheets() -> Vec<BenchSheet> {
+    let sheets = [
+        ("one rule", vec![open(10, 18).on(0, 4)]),
+        ("two rules (P2)", worked_day_p2()),
+        ("20 rules of a landing site", landing_site()),
+        ("64 rules, 1,024 boxes in all dimensions", all_dimensions()),
+        ("64 rules, 1,023 boxes in years", many_years()),
+        ("24 rules, 1,024 groups", many_groups(0)),
+        (
+            "52 rules, 1,024 groups of lists of 32 rules",
+            many_groups(28),
+        ),
+    ];
+
+    sheets
+        .map(|(name, rules)| BenchSheet {
+            name,
+            bytes: write_sheet(rules),
+        })
+        .into()
+}
+
+/// Weekdays are numbered from 0 for Monday.
+const MONDAY: u32 = 0;
+const TUESDAY: u32 = 1;
+const THURSDAY: u32 = 3;
+const FRIDAY: u32 = 4;
+const SATURDAY: u32 = 5;
+const SUNDAY: u32 = 6;
+
+fn normal(kind: u32, from: u32, to: u32) -> Rule {
+    Rule {
+        operator: NORMAL,
+        kind,
+        spans: vec![fixed(60 * from, 60 * to)],
+        ..Rule::default()
+    }
+}
+
+fn open(from: u32, to: u32) -> Rule {
+    normal(OPEN, from, to)
+}
+
+fn closed(from: u32, to: u32) -> Rule {
+    normal(CLOSED, from, to)
+}
+
+fn also(kind: u32, from: u32, to: u32) -> Rule {
+    Rule {
+        operator: ADDITIONAL,
+        ..normal(kind, from, to)
+    }
+}
+
+/// A rule with one more item or part.
+impl Rule {
+    fn on(mut self, start: u32, end: u32) -> Self {
+        self.weekdays.push(weekdays(start, end));
+        self
+    }
+
+    fn in_weeks(mut self, start: u32, end: u32) -> Self {
+        self.weeks.push(range(start, end));
+        self
+    }
+
+    fn in_months(mut self, start: u32, end: u32) -> Self {
+        self.monthdays.push(months(start, end));
+        self
+    }
+
+    fn in_years(mut self, start: u32, end: u32) -> Self {
+        self.years.push(range(start, end));
+        self
+    }
+
+    fn saying(mut self, comment: u32) -> Self {
+        self.comment = comment;
+        self
+    }
+
+    fn at(mut self, span: Span) -> Self {
+        self.spans = vec![span];
+        self
+    }
+}
+
+fn worked_day_p2() -> Vec<Rule> {
+    vec![
+        open(10, 18).on(MONDAY, FRIDAY),
+        closed(12, 13).on(TUESDAY, TUESDAY),
+    ]
+}
+
+/// Seasons, holidays, years of works, comments, an evening from dusk on and one with an open end: 560 boxes.
+fn landing_site() -> Vec<Rule> {
+    let from_dusk = Span {
+        start: Time {
+            tag: 1,
+            event: 3,
+            ..Time::default()
+        },
+        end: fixed_time(MIDNIGHT),
+        ..Span::default()
+    };
+    let open_ended = Span {
+        open_end: 1,
+        ..fixed(1200, MIDNIGHT)
+    };
+
+    vec![
+        open(8, 18).on(MONDAY, FRIDAY),
+        open(9, 16).on(SATURDAY, SATURDAY),
+        open(10, 14).on(SUNDAY, SUNDAY),
+        open(7, 20).in_months(4, 9).on(MONDAY, FRIDAY),
+        open(8, 19).in_months(4, 9).on(SATURDAY, SUNDAY),
+        normal(UNKNOWN, 10, 14)
+            .saying(1)
+            .in_months(11, 3)
+            .on(SUNDAY, SUNDAY),
+        closed(12, 13).in_months(11, 3),
+        also(OPEN, 18, 22).saying(2).on(FRIDAY, FRIDAY),
+        closed(0, 24).saying(3).in_weeks(52, 53),
+        closed(0, 24).saying(3).in_weeks(1, 1),
+        open(6, 21).in_weeks(27, 34),
+        also(OPEN, 21, 23)
+            .saying(4)
+            .in_weeks(27, 34)
+            .on(SATURDAY, SUNDAY),
+        closed(8, 12).in_months(11, 3).on(MONDAY, MONDAY),
+        closed(6, 9)
+            .saying(5)
+            .in_years(2024, 2025)
+            .in_months(4, 9)
+            .on(MONDAY, THURSDAY),
+        open(7, 22).in_years(2026, 2026).on(SATURDAY, SATURDAY),
+        also(UNKNOWN, 18, 20)
+            .saying(6)
+            .in_years(2026, 2026)
+            .in_weeks(42, 43)
+            .on(MONDAY, FRIDAY),
+        closed(0, 24)
+            .saying(7)
+            .in_years(2026, 2026)
+            .in_months(11, 3)
+            .on(SUNDAY, SUNDAY),
+        also(OPEN, 20, 24)
+            .saying(8)
+            .in_months(4, 9)
+            .on(FRIDAY, SATURDAY)
+            .at(from_dusk),
+        also(OPEN, 20, 24)
+            .in_months(11, 3)
+            .on(SATURDAY, SATURDAY)
+            .at(open_ended),
+        closed(13, 14).saying(9).in_weeks(42, 43),
+    ]
+}
+
+const WEEKDAY_CUTS: [u32; 5] = [0, 2, 4, 6, 7];
+const WEEK_CUTS: [u32; 5] = [1, 14, 27, 40, 54];
+const MONTH_CUTS: [u32; 9] = [1, 2, 4, 5, 7, 8, 10, 11, 13];
+const YEAR_CUTS: [u32; 9] = [1900, 2020, 2021, 2022, 2023, 2024, 2025, 2026, 10000];
+
+/// Rules over some stretch of intervals in each dimension, every other one Additional: 4 by 4 by 8 by 8 boxes.
+fn all_dimensions() -> Vec<Rule> {
+    let mut random = Random::new(64, 1024);
+    let mut stretch = |cuts: &[u32]| {
+        let (one, other) = (random.below(cuts.len()), random.below(cuts.len() - 1));
+        let (from, to) = if other < one {
+            (other, one)
+        } else {
+            (one, other + 1)
+        };
+        (cuts[from], cuts[to] - 1)
+    };
+
+    (0..RULE_LIMIT as u32)
+        .map(|number| {
+            let (first_day, last_day) = stretch(&WEEKDAY_CUTS);
+            let (first_week, last_week) = stretch(&WEEK_CUTS);
+            let (first_month, last_month) = stretch(&MONTH_CUTS);
+            let (first_year, last_year) = stretch(&YEAR_CUTS);
+            let hour = number % 12;
+
+            Rule {
+                operator: [NORMAL, ADDITIONAL][number as usize % 2],
+                ..normal([OPEN, UNKNOWN, CLOSED][number as usize % 3], hour, hour + 9)
+            }
+            .saying(number % 7)
+            .on(first_day, last_day)
+            .in_weeks(first_week, last_week)
+            .in_months(first_month, last_month)
+            .in_years(first_year, last_year)
+        })
+        .collect()
+}
+
+/// 511 years, each alone between years that no rule names, shared out sixteen to a rule, so that most stand in two rules.
+fn many_years() -> Vec<Rule> {
+    let single = |number: usize| {
+        let year = 1901 + 2 * (number % 511) as u32;
+        range(year, year)
+    };
+
+    (0..RULE_LIMIT)
+        .map(|number| {
+            let hour = number as u32 % 20;
+            let years = number * ITEM_LIMIT..(number + 1) * ITEM_LIMIT;
+
+            Rule {
+                years: years.map(single).collect::<Vec<Stepped>>(),
+                ..also(OPEN, hour, hour + 3).saying(number as u32 % 5)
+            }
+        })
+        .collect()
+}
+
+/// A rule for each interval of each dimension, with a span and a comment of its own, so that no two of 4 by 4 by 8 by 8 boxes have the same
+/// day, after so many rules of sixteen spans that stand on every day.
+fn many_groups(on_every_day: u32) -> Vec<Rule> {
+    let every_day = (0..on_every_day).map(|number| Rule {
+        spans: (0..ITEM_LIMIT as u32)
+            .map(|place| fixed(90 * place + number, 90 * place + number + 20))
+            .collect(),
+        ..also(OPEN, 0, 24).saying(100 + number)
+    });
+
+    let cuts = [
+        (&WEEKDAY_CUTS[..], Rule::on as fn(Rule, u32, u32) -> Rule),
+        (&WEEK_CUTS, Rule::in_weeks),
+        (&MONTH_CUTS, Rule::in_months),
+        (&YEAR_CUTS, Rule::in_years),
+    ];
+    let intervals = cuts.into_iter().flat_map(|(cuts, item)| {
+        cuts.windows(2)
+            .map(move |pair| (item, pair[0], pair[1] - 1))
+    });
+
+    let own = intervals.enumerate().map(|(number, (item, start, end))| {
+        let minute = 60 * number as u32;
+        let span = fixed(minute, minute + 45);
+        item(
+            also(OPEN, 0, 24).saying(1 + number as u32).at(span),
+            start,
+            end,
+        )
+    });
+
+    every_day.chain(own).collect()
+}

@@ -1,0 +1,177 @@
+//! The bench: `bench` times the archive and the Rust on the same sheets, from sheet bytes to result bytes, and prints a table.
+//! `bench --sheets` prints the sheets, in hex and in the Rust's own words; `bench --profile SHEET RUNS` folds one of them, by its number
+//! from 1, that many times by the archive alone, for a profiler.
+
+use std::hint::black_box;
+use std::process::ExitCode;
+use std::time::{Duration, Instant};
+
+use oracle::bits::to_hex;
+use oracle::fold::{normalize_sheet, read_expression};
+use scale::archive;
+use scale::bench_sheets::{BenchSheet, bench_sheets};
+use scale::stack::stack_of;
+
+fn main() -> ExitCode {
+    let words: Vec<String> = std::env::args().skip(1).collect();
+    let words: Vec<&str> = words.iter().map(String::as_str).collect();
+
+    match words.as_slice() {
+        [] => print_times(),
+        ["--sheets"] => bench_sheets().iter().for_each(print_sheet),
+        ["--profile", sheet, runs] => match (sheet.parse(), runs.parse()) {
+            (Ok(sheet), Ok(runs)) => profile(sheet, runs),
+            _ => return usage(),
+        },
+        _ => return usage(),
+    }
+
+    ExitCode::SUCCESS
+}
+
+fn usage() -> ExitCode {
+    eprintln!("usage: bench [--sheets | --profile SHEET RUNS]");
+    ExitCode::from(2)
+}
+
+/// Ample for the longest result of the bench, of some 2 MB.
+const ROOM: usize = 4 << 20;
+
+fn print_sheet(sheet: &BenchSheet) {
+    let expression =
+        read_expression(&sheet.bytes).expect("the Rust holds every sheet of the bench");
+    println!(
+        "{}\n  {}\n  {expression}\n",
+        sheet.name,
+        to_hex(&sheet.bytes)
+    );
+}
+
+fn profile(sheet: usize, runs: usize) {
+    let sheets = bench_sheets();
+    let sheet = &sheets[sheet - 1].bytes;
+    let mut out = vec![0; ROOM];
+
+    for _ in 0..runs {
+        black_box(fold(black_box(sheet), &mut out));
+    }
+}
+
+/// The six numbers of a fold.
+fn fold(sheet: &[u8], out: &mut [u8]) -> [u64; 6] {
+    let mut numbers = [0; 6];
+    assert!(
+        archive::fold(sheet, out, &mut numbers),
+        "there is room for the numbers"
+    );
+    numbers
+}
+
+fn print_times() {
+    println!(
+        "| sheet | bytes in, out | emitted | archive best | median | Rust best | median | normalize alone | archive : Rust best | median | stack |"
+    );
+    println!("|---|---|---|---|---|---|---|---|---|---|---|");
+
+    for sheet in bench_sheets() {
+        print_row(&sheet);
+    }
+
+    let archive = env!("HOURS_ARCHIVE_FILE");
+    match std::fs::metadata(archive) {
+        Ok(file) => println!("\nTimes in µs. The archive has {} bytes.", file.len()),
+        Err(error) => println!("\nTimes in µs. {archive}: {error}"),
+    }
+}
+
+fn print_row(sheet: &BenchSheet) {
+    let bytes = &sheet.bytes;
+    let mut out = vec![0; ROOM];
+    let numbers = fold(bytes, &mut out);
+    let result = normalize_sheet(bytes).expect("the Rust holds every sheet of the bench");
+    let length = numbers[4] as usize;
+    assert!(
+        numbers[0] == 0 && out[..length] == result,
+        "the two agree on {}",
+        sheet.name
+    );
+
+    let expression = read_expression(bytes).expect("the Rust holds it, as above");
+    let [ours, rust, normalized] = times([
+        &mut || {
+            black_box(fold(black_box(bytes), &mut out));
+        },
+        &mut || drop(black_box(normalize_sheet(black_box(bytes)))),
+        &mut || drop(black_box(black_box(&expression).clone().normalize())),
+    ]);
+    let mut room = vec![0; length];
+    let stack = stack_of(|| {
+        fold(bytes, &mut room);
+    });
+
+    println!(
+        "| {} | {}, {length} | {} | {:.1} | {:.1} | {:.1} | {:.1} | {:.1} | {:.2} | {:.2} | {stack} |",
+        sheet.name,
+        bytes.len(),
+        numbers[2],
+        ours.best,
+        ours.median,
+        rust.best,
+        rust.median,
+        normalized.median,
+        ours.best / rust.best,
+        ours.median / rust.median,
+    );
+}
+
+/// Microseconds of one run.
+#[derive(Clone, Copy)]
+struct Times {
+    best: f64,
+    median: f64,
+}
+
+/// A sample is as many runs as take this long, and the samples of all calls take turns, so that a busy moment meets all of them.
+const SAMPLE: Duration = Duration::from_micros(200);
+const SAMPLES: usize = 201;
+const LONGEST: Duration = Duration::from_secs(4);
+const FEWEST_SAMPLES: usize = 5;
+
+fn times<const N: usize>(mut calls: [&mut dyn FnMut(); N]) -> [Times; N] {
+    let runs = calls.each_mut().map(|call| runs_of_a_sample(call));
+    let mut samples = [const { Vec::new() }; N];
+    let began = Instant::now();
+
+    for taken in 0..SAMPLES {
+        if taken >= FEWEST_SAMPLES && began.elapsed() > LONGEST {
+            break;
+        }
+        for ((call, runs), samples) in calls.iter_mut().zip(runs).zip(&mut samples) {
+            samples.push(time_of(call, runs).as_secs_f64() * 1e6 / runs as f64);
+        }
+    }
+
+    samples.map(|mut samples| {
+        samples.sort_by(f64::total_cmp);
+        Times {
+            best: samples[0],
+            median: samples[samples.len() / 2],
+        }
+    })
+}
+
+fn runs_of_a_sample(call: &mut dyn FnMut()) -> usize {
+    let mut runs = 1;
+    while time_of(call, runs) < SAMPLE {
+        runs *= 2;
+    }
+    runs
+}
+
+fn time_of(call: &mut dyn FnMut(), runs: usize) -> Duration {
+    let began = Instant::now();
+    for _ in 0..runs {
+        call();
+    }
+    began.elapsed()
+}

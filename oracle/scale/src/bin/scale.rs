@@ -1,0 +1,113 @@
+//! The comparison at scale: `scale --seed S --count N [--threads T]` makes N sound sheets and N damaged ones, gives each to the archive
+//! and holds what it answers against the Rust and document 01. Exit status 1 on any difference.
+
+use std::process::ExitCode;
+use std::sync::atomic::{AtomicU64, Ordering};
+use std::thread;
+use std::time::Instant;
+
+use oracle::bits::to_hex;
+use scale::run::Report;
+
+struct Arguments {
+    seed: u64,
+    count: u64,
+    threads: u64,
+}
+
+/// How many sheets a thread takes at a time, and how many differences it waits for before it gives up.
+const SHARE: u64 = 64;
+const ENOUGH_DIFFERENCES: usize = 5;
+
+fn main() -> ExitCode {
+    let Some(arguments) = arguments() else {
+        eprintln!("usage: scale --seed S --count N [--threads T]");
+        return ExitCode::from(2);
+    };
+
+    let began = Instant::now();
+    let report = compare_all(&arguments);
+    let seconds = began.elapsed().as_secs_f64();
+
+    for (sheet, difference) in &report.differences {
+        println!("sheet {}", to_hex(sheet));
+        println!("  {}", difference.call);
+        println!("  expected {}", difference.expected);
+        println!("  given    {}", difference.given);
+    }
+
+    println!("sound: {}", report.sound);
+    println!("damaged: {}", report.damaged);
+    println!(
+        "seed {}: {} sheets in {seconds:.0} s on {} threads, {:.0} a second; {} differences",
+        arguments.seed,
+        report.sound.sheets + report.damaged.sheets,
+        arguments.threads,
+        (report.sound.sheets + report.damaged.sheets) as f64 / seconds,
+        report.differences.len()
+    );
+
+    match report.differences.is_empty() {
+        true => ExitCode::SUCCESS,
+        false => ExitCode::FAILURE,
+    }
+}
+
+fn arguments() -> Option<Arguments> {
+    let words: Vec<String> = std::env::args().skip(1).collect();
+    let (pairs, []) = words.as_chunks::<2>() else {
+        return None;
+    };
+
+    let mut arguments = Arguments {
+        seed: 1,
+        count: 0,
+        threads: thread::available_parallelism().map_or(1, |threads| threads.get() as u64),
+    };
+
+    for [name, value] in pairs {
+        let value = value.parse().ok()?;
+        match name.as_str() {
+            "--seed" => arguments.seed = value,
+            "--count" => arguments.count = value,
+            "--threads" if value > 0 => arguments.threads = value,
+            _ => return None,
+        }
+    }
+
+    Some(arguments)
+}
+
+fn compare_all(arguments: &Arguments) -> Report {
+    let next = AtomicU64::new(0);
+    let mut report = Report::default();
+
+    thread::scope(|scope| {
+        let workers: Vec<_> = (0..arguments.threads)
+            .map(|_| scope.spawn(|| compare_shares(arguments, &next)))
+            .collect();
+
+        for worker in workers {
+            report.add(worker.join().expect("a thread stumbled"));
+        }
+    });
+
+    report
+}
+
+/// Shares of the sheets as long as there are any.
+fn compare_shares(arguments: &Arguments, next: &AtomicU64) -> Report {
+    let mut report = Report::default();
+
+    loop {
+        let first = next.fetch_add(SHARE, Ordering::Relaxed);
+
+        if first >= arguments.count || report.differences.len() >= ENOUGH_DIFFERENCES {
+            return report;
+        }
+
+        for number in first..arguments.count.min(first + SHARE) {
+            report.compare_number(arguments.seed, number);
+        }
+    }
+}

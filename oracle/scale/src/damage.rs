@@ -1,0 +1,98 @@
+//! Damage to sheets: cut short, bits flipped, ended wrong, fields set to what they may not hold, and noise.
+
+use crate::layout::{Field, Refusal, Walk, walk_sheet};
+use crate::random::Random;
+use crate::rule::Rule;
+use crate::sheet::read_sheet;
+
+/// The sheet of these rules, damaged in one way or another. Not every damage makes it unlawful; where the first does not, a second follows.
+pub fn damaged(random: &mut Random, rules: &mut Vec<Rule>, sheet: &[u8]) -> Vec<u8> {
+    let once = damaged_once(random, rules, sheet.into());
+
+    match read_sheet(&once) {
+        Ok(mut read) => damaged_once(random, &mut read.rules, once),
+        Err(_) => once,
+    }
+}
+
+fn damaged_once(random: &mut Random, rules: &mut Vec<Rule>, mut sheet: Vec<u8>) -> Vec<u8> {
+    match random.weighed(&[(15, 0), (20, 1), (5, 2), (12, 3), (40, 4), (5, 5)]) {
+        0 => sheet.truncate(random.below(sheet.len())),
+        1 => flip(random, &mut sheet, 1),
+        2 => {
+            let bits = random.below(6) + 2;
+            flip(random, &mut sheet, bits);
+        }
+        3 => end_wrong(random, &mut sheet),
+        4 => overwrite_field(random, rules, &mut sheet),
+        _ => {
+            let length = random.below(40);
+            sheet = vec![0, random.below(3) as u8];
+            sheet.extend(random.bytes(length));
+        }
+    }
+
+    sheet
+}
+
+fn flip(random: &mut Random, sheet: &mut [u8], bits: usize) {
+    for _ in 0..bits {
+        let bit = random.below(8 * sheet.len());
+        sheet[bit / 8] ^= 0x80 >> (bit % 8);
+    }
+}
+
+/// A bit set in the last byte, often padding, and at times bytes that follow.
+fn end_wrong(random: &mut Random, sheet: &mut Vec<u8>) {
+    if random.percent(60) {
+        *sheet.last_mut().expect("a sheet has its rule count") ^= 1 << random.below(8);
+    }
+
+    sheet.resize(sheet.len() + random.below(3), 0);
+    let tail: [&[u8]; 4] = [&[], &[0], &[1], &[0x80]];
+    sheet.extend(random.of(&tail));
+}
+
+/// One field, of whatever sort, set to its highest or lowest pattern, to a value next to its bounds, or to any value.
+fn overwrite_field(random: &mut Random, rules: &mut Vec<Rule>, sheet: &mut [u8]) {
+    let mut places = Places::default();
+    walk_sheet(&mut places, rules).expect("a list of places refuses nothing");
+    let (place, field) = random.of(&places.met);
+
+    let highest_pattern = u32::MAX >> (32 - field.width);
+    let value = match random.below(5) {
+        0 => 0,
+        1 => highest_pattern,
+        2 => field.lowest.saturating_sub(1),
+        3 => field.highest.saturating_add(1),
+        _ => random.next() as u32,
+    };
+
+    for (offset, bit) in (0..field.width).rev().enumerate() {
+        set_bit(sheet, place + offset, value >> bit & 1 == 1);
+    }
+}
+
+fn set_bit(sheet: &mut [u8], place: usize, bit: bool) {
+    let mask = 0x80 >> (place % 8);
+
+    match bit {
+        true => sheet[place / 8] |= mask,
+        false => sheet[place / 8] &= !mask,
+    }
+}
+
+/// Every field of a sheet with its place.
+#[derive(Default)]
+struct Places {
+    place: usize,
+    met: Vec<(usize, Field)>,
+}
+
+impl Walk for Places {
+    fn field(&mut self, field: Field, _value: &mut u32) -> Result<(), Refusal> {
+        self.met.push((self.place, field));
+        self.place += field.width;
+        Ok(())
+    }
+}

@@ -1,0 +1,254 @@
+//! What document 01 expects of a sheet: refusals and lookups by the modules beside this one, folds by the Rust.
+//!
+//! Where the sheet stands for a value of the Rust, the Rust folds it whole. It has no years and weeks that wrap, and turns some steps into
+//! 1 (docs/DIFFERENCES.md). Where a sheet has such items, the Rust folds the drained rules alone, those that wrap as their two halves, and
+//! the rules left are copied.
+
+use oracle::bits::{BitReader, BitWriter};
+use oracle::fold::{Folded, fold_sheet, read_expression};
+
+use crate::calendar::point_of;
+use crate::layout::Refusal;
+use crate::points::{
+    DIMENSIONS, Extent, Selector, check_limits, is_simple, list_at, selector_of, split, stops,
+};
+use crate::rule::{CLOSED, MIDNIGHT, Rule, Stepped};
+use crate::sheet::{Read, read_sheet, write_sheet};
+
+/// The numbers of an answer, and the bytes that then stand at the front of the buffer.
+#[derive(Clone, Debug, PartialEq, Eq)]
+pub struct Answer {
+    pub numbers: Vec<u64>,
+    pub result: Vec<u8>,
+}
+
+/// How many numbers each function answers. Code comes first and place last.
+pub const FOLD_NUMBERS: usize = 6;
+pub const WRITE_BACK_NUMBERS: usize = 3;
+pub const LOOKUP_NUMBERS: usize = 4;
+
+impl Answer {
+    fn refused(refusal: Refusal, count: usize) -> Self {
+        let mut numbers = vec![0; count];
+        numbers[0] = refusal.code;
+        numbers[count - 1] = refusal.place;
+
+        Self {
+            numbers,
+            result: Vec::new(),
+        }
+    }
+
+    fn of(outcome: Result<Self, Refusal>, count: usize) -> Self {
+        outcome.unwrap_or_else(|refusal| Self::refused(refusal, count))
+    }
+
+    /// The answer where the buffer has so many bytes.
+    pub fn in_room(&self, room: usize) -> Self {
+        if room < self.result.len() {
+            Self::refused(Refusal::at(7, self.result.len()), self.numbers.len())
+        } else {
+            self.clone()
+        }
+    }
+}
+
+/// A sheet as it was read, with what all answers about it rest on.
+pub struct Sheet<'a> {
+    bytes: &'a [u8],
+    outcome: Result<Accepted, Refusal>,
+}
+
+/// What an accepted sheet holds.
+pub struct Accepted {
+    read: Read,
+    selectors: Vec<Selector>,
+    extent: Result<Extent, Refusal>,
+}
+
+impl Accepted {
+    fn of(read: Read) -> Self {
+        let selectors: Vec<Selector> = read
+            .rules
+            .iter()
+            .take_while(|rule| !stops(rule))
+            .map(selector_of)
+            .collect();
+        let extent = check_limits(&read.rules[..selectors.len()], &selectors);
+
+        Self {
+            read,
+            selectors,
+            extent,
+        }
+    }
+
+    fn drained(&self) -> &[Rule] {
+        &self.read.rules[..self.selectors.len()]
+    }
+
+    pub fn rules(&self) -> &[Rule] {
+        &self.read.rules
+    }
+
+    /// The boxes and lists of an accepted fold.
+    pub fn extent(&self) -> Option<Extent> {
+        self.extent.ok()
+    }
+}
+
+impl<'a> Sheet<'a> {
+    pub fn new(bytes: &'a [u8]) -> Self {
+        Self {
+            bytes,
+            outcome: read_sheet(bytes).map(Accepted::of),
+        }
+    }
+
+    /// What the sheet holds, where none of codes 1 to 4 refuses it.
+    pub fn accepted(&self) -> Result<&Accepted, Refusal> {
+        self.outcome.as_ref().map_err(|refusal| *refusal)
+    }
+
+    /// Whether the Rust's constructors take the sheet's values as they are.
+    pub fn is_inside(&self) -> bool {
+        read_expression(self.bytes).is_ok()
+    }
+
+    /// The fold into an ample buffer.
+    pub fn fold(&self) -> Answer {
+        Answer::of(self.folded(), FOLD_NUMBERS)
+    }
+
+    fn folded(&self) -> Result<Answer, Refusal> {
+        let accepted = self.accepted().inspect_err(|refusal| {
+            let read = read_expression(self.bytes);
+            let unreadable = read.is_err_and(|reason| reason.is_unreadable());
+            assert!(
+                refusal.code == 4 || unreadable,
+                "the oracle has no limits, but refuses as well"
+            );
+        })?;
+        accepted.extent?;
+
+        let folded = fold_sheet(self.bytes).unwrap_or_else(|reason| {
+            assert!(!reason.is_unreadable(), "the oracle reads the sheet");
+            fold_halves(self.bytes, accepted)
+        });
+        let drained = accepted.drained().len();
+        assert_eq!(folded.drained, drained, "the Rust drains as many rules");
+
+        // Where the rules left were copied, they are not in the count yet.
+        let counted = folded.emitted + folded.left;
+        let mut result = folded.result.into_bytes();
+        result[..2].copy_from_slice(&(counted as u16).to_be_bytes());
+
+        let counts = [
+            0,
+            folded.drained,
+            folded.emitted,
+            folded.left,
+            result.len(),
+            0,
+        ];
+
+        Ok(Answer {
+            numbers: counts.map(|count| count as u64).into(),
+            result,
+        })
+    }
+
+    /// The sheet written back into an ample buffer: reading and writing are inverse.
+    pub fn write_back(&self) -> Answer {
+        let written = self.accepted().map(|_| Answer {
+            numbers: vec![0, self.bytes.len() as u64, 0],
+            result: self.bytes.into(),
+        });
+
+        Answer::of(written, WRITE_BACK_NUMBERS)
+    }
+
+    /// The lookup at a year, month, day and minute; it writes no bytes.
+    pub fn lookup(&self, moment: [u64; 4]) -> Answer {
+        let found = self.state_at(moment).map(|(kind, comment)| Answer {
+            numbers: vec![0, kind.into(), comment.into(), 0],
+            result: Vec::new(),
+        });
+
+        Answer::of(found, LOOKUP_NUMBERS)
+    }
+
+    fn state_at(&self, [year, month, day, minute]: [u64; 4]) -> Result<(u32, u32), Refusal> {
+        let accepted = self.accepted()?;
+        let point = point_of(year, month, day)
+            .filter(|_| minute < MIDNIGHT.into())
+            .ok_or(Refusal::at(8, 0))?;
+        accepted.extent?;
+
+        let drained = accepted.drained();
+        let list = list_at(drained, &accepted.selectors, &point);
+        let spans = list
+            .iter()
+            .flat_map(|rule| rule.spans.iter().map(move |span| (rule, span)));
+
+        if drained.len() < accepted.rules().len() || !spans.clone().all(|(_, span)| is_simple(span))
+        {
+            return Err(Refusal::at(9, 0));
+        }
+
+        let last_covering = spans.rev().find(|(_, span)| {
+            (u64::from(span.start.minutes)..span.end.minutes.into()).contains(&minute)
+        });
+
+        Ok(last_covering.map_or((CLOSED, 0), |(rule, _)| (rule.kind, rule.comment)))
+    }
+}
+
+/// The fold of a sheet that the Rust can't hold: the drained rules with wrapping years and weeks as halves, then the rules left. The
+/// count in front is that of the folded rules alone.
+fn fold_halves(sheet: &[u8], accepted: &Accepted) -> Folded<BitWriter> {
+    let drained = accepted.drained();
+    let halved = write_sheet(drained.iter().map(with_halves).collect());
+    let mut folded = fold_sheet(&halved).expect("the Rust holds rising ranges of step 1");
+    let places = &accepted.read.places;
+
+    folded.left = accepted.rules().len() - drained.len();
+    copy_bits(
+        &mut folded.result,
+        sheet,
+        places[drained.len()],
+        places[places.len() - 1],
+    );
+    folded
+}
+
+fn with_halves(rule: &Rule) -> Rule {
+    let [_, weeks, _, years] = &DIMENSIONS;
+    let halves = |items: &[Stepped], dimension| {
+        items
+            .iter()
+            .flat_map(|item| split(item.start, item.end, dimension))
+            .map(|range| Stepped {
+                start: range.start,
+                end: range.end - 1,
+                step: 1,
+            })
+            .collect()
+    };
+
+    Rule {
+        years: halves(&rule.years, years),
+        weeks: halves(&rule.weeks, weeks),
+        ..rule.clone()
+    }
+}
+
+fn copy_bits(writer: &mut BitWriter, sheet: &[u8], from: usize, end: usize) {
+    let mut reader = BitReader::at(sheet, from);
+
+    while reader.position() < end {
+        let width = (end - reader.position()).min(32);
+        let bits = reader.field(width).expect("the bits are in the sheet");
+        writer.field("copied bits", width, bits);
+    }
+}

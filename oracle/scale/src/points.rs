@@ -1,0 +1,197 @@
+//! From rules to points: ranges, stoppers, draining, the count of boxes (code 5), the lengths of the lists (code 6), the list at a point.
+
+use std::iter;
+use std::ops::Range;
+
+use crate::layout::Refusal;
+use crate::rule::{
+    ALL_NTH, CLOSED, FALLBACK, MIDNIGHT, MONTHS, NORMAL, Rule, Span, Stepped, Weekday,
+};
+
+pub const BOX_LIMIT: usize = 1024;
+pub const LIST_LIMIT: usize = 32;
+
+/// The lowest value of a dimension up to the unreachable one above the highest.
+pub type Dimension = Range<u32>;
+
+/// Weekdays, weeks, months and years.
+pub const DIMENSIONS: [Dimension; 4] = [0..7, 1..54, 1..13, 1900..10000];
+
+pub type Point = [u32; 4];
+
+/// A drained rule's ranges in each dimension.
+pub type Selector = [Vec<Range<u32>>; 4];
+
+/// Start to end as one range, or as two where it wraps.
+pub fn split(start: u32, end: u32, dimension: &Dimension) -> Vec<Range<u32>> {
+    let after = end + 1;
+
+    if start >= after {
+        [dimension.start..after, start..dimension.end].into()
+    } else {
+        iter::once(start..after).collect()
+    }
+}
+
+pub fn selector_of(rule: &Rule) -> Selector {
+    let [weekdays, weeks, months, years] = &DIMENSIONS;
+
+    [
+        ranges_of(weekdays, &rule.weekdays, |item| (item.start, item.end)),
+        ranges_of(weeks, &rule.weeks, |item| (item.start, item.end)),
+        ranges_of(months, &rule.monthdays, |item| (item.start, item.end)),
+        ranges_of(years, &rule.years, |item| (item.start, item.end)),
+    ]
+}
+
+/// No items mean the whole dimension.
+fn ranges_of<T>(dimension: &Dimension, items: &[T], ends: fn(&T) -> (u32, u32)) -> Vec<Range<u32>> {
+    if items.is_empty() {
+        return vec![dimension.clone()];
+    }
+
+    items
+        .iter()
+        .map(ends)
+        .flat_map(|(start, end)| split(start, end, dimension))
+        .collect()
+}
+
+pub fn stops(rule: &Rule) -> bool {
+    let stepped = |range: &Stepped| range.step != 1;
+
+    rule.operator == FALLBACK
+        || rule.years.iter().any(stepped)
+        || rule.weeks.iter().any(stepped)
+        || rule.monthdays.iter().any(|item| item.tag != MONTHS)
+        || !rule.weekdays.iter().all(is_plain_weekday)
+        || rule.spans.iter().any(may_reach_tomorrow)
+}
+
+fn is_plain_weekday(item: &Weekday) -> bool {
+    (
+        item.tag,
+        item.offset,
+        item.nth_from_start,
+        item.nth_from_end,
+    ) == (0, 0, ALL_NTH, ALL_NTH)
+}
+
+fn may_reach_tomorrow(span: &Span) -> bool {
+    match (span.start.tag, span.end.tag) {
+        (0, 0) => span.start.minutes >= span.end.minutes || span.end.minutes > MIDNIGHT,
+        (_, 0) => span.end.minutes != MIDNIGHT,
+        _ => true,
+    }
+}
+
+pub fn is_simple(span: &Span) -> bool {
+    span.start.tag == 0 && !may_reach_tomorrow(span) && (span.open_end, span.repeats_flag) == (0, 0)
+}
+
+fn replaces(rule: &Rule) -> bool {
+    rule.operator == NORMAL && rule.kind != CLOSED
+}
+
+/// In each dimension both bounds and all starts and ends of the ranges, rising.
+pub fn cuts_of(selectors: &[Selector]) -> [Vec<u32>; 4] {
+    let mut cuts = DIMENSIONS.map(|dimension| vec![dimension.start, dimension.end]);
+
+    for selector in selectors {
+        for (values, ranges) in cuts.iter_mut().zip(selector) {
+            values.extend(ranges.iter().flat_map(|range| [range.start, range.end]));
+        }
+    }
+
+    for values in &mut cuts {
+        values.sort_unstable();
+        values.dedup();
+    }
+
+    cuts
+}
+
+/// How many boxes an accepted fold has, and how long the longest list was after any rule.
+#[derive(Clone, Copy)]
+pub struct Extent {
+    pub boxes: usize,
+    pub longest_list: usize,
+}
+
+/// Refuses too many boxes, and then a list that grows too long.
+pub fn check_limits(drained: &[Rule], selectors: &[Selector]) -> Result<Extent, Refusal> {
+    let cuts = cuts_of(selectors);
+    let boxes = cuts.iter().map(|values| values.len() - 1).product();
+
+    if boxes > BOX_LIMIT {
+        return Err(Refusal::at(5, boxes));
+    }
+
+    let mut lengths = vec![0; boxes];
+    let mut longest_list = 0;
+
+    for (index, (rule, selector)) in drained.iter().zip(selectors).enumerate() {
+        for (length, combinations) in lengths.iter_mut().zip(combinations_of(selector, &cuts)) {
+            if combinations > 0 {
+                *length = match replaces(rule) {
+                    true => 1,
+                    false => *length + combinations,
+                };
+                longest_list = longest_list.max(*length);
+            }
+        }
+
+        if longest_list > LIST_LIMIT {
+            return Err(Refusal::at(6, index));
+        }
+    }
+
+    Ok(Extent {
+        boxes,
+        longest_list,
+    })
+}
+
+/// For each box, in how many combinations of one range per dimension it is covered.
+fn combinations_of(selector: &Selector, cuts: &[Vec<u32>; 4]) -> Vec<usize> {
+    let mut combinations = vec![1];
+
+    for (ranges, values) in selector.iter().zip(cuts) {
+        let times: Vec<usize> = values[..values.len() - 1]
+            .iter()
+            .map(|start| times_covered(ranges, *start))
+            .collect();
+
+        combinations = combinations
+            .iter()
+            .flat_map(|above| times.iter().map(move |times| above * times))
+            .collect();
+    }
+
+    combinations
+}
+
+fn times_covered(ranges: &[Range<u32>], value: u32) -> usize {
+    ranges.iter().filter(|range| range.contains(&value)).count()
+}
+
+/// The rules of the list at a point after all drained rules, in its order.
+pub fn list_at<'a>(drained: &'a [Rule], selectors: &[Selector], point: &Point) -> Vec<&'a Rule> {
+    let mut list = Vec::new();
+
+    for (rule, selector) in drained.iter().zip(selectors) {
+        let combinations = selector
+            .iter()
+            .zip(point)
+            .map(|(ranges, value)| times_covered(ranges, *value))
+            .product();
+
+        if combinations > 0 && replaces(rule) {
+            list = vec![rule];
+        } else {
+            list.extend(iter::repeat_n(rule, combinations));
+        }
+    }
+
+    list
+}

@@ -1,0 +1,160 @@
+//! Recipes of sound sheets: drained whole, stopped, at the limits and one past them.
+
+use crate::points::{DIMENSIONS, LIST_LIMIT};
+use crate::random::Random;
+use crate::rule::{ITEM_LIMIT, RULE_LIMIT, Rule, fixed, months, range, weekdays};
+use crate::stock::Stock;
+use crate::stoppers::stop;
+
+/// The rules of one sheet. Half of them stay where the Rust's constructors take the values as they are.
+pub fn rules(random: &mut Random) -> Vec<Rule> {
+    let recipe = random.weighed(&[
+        (60, drained as fn(&mut Stock) -> Vec<Rule>),
+        (26, stopped),
+        (4, boxes_at_the_limit),
+        (4, lists_at_the_limit),
+        (6, counts_at_the_limit),
+    ]);
+    let rising = random.percent(50);
+
+    recipe(&mut Stock::new(random, rising))
+}
+
+fn drained(stock: &mut Stock) -> Vec<Rule> {
+    stock.rules()
+}
+
+/// Stoppers first, in the middle, last, or at several places.
+fn stopped(stock: &mut Stock) -> Vec<Rule> {
+    let mut rules = stock.rules();
+    let last = rules.len() - 1;
+    let anywhere = stock.random.below(rules.len());
+    let places = [
+        vec![0],
+        vec![last / 2],
+        vec![last],
+        vec![0, last],
+        vec![anywhere],
+    ];
+
+    for place in stock.random.of(&places) {
+        stop(&mut rules[place], stock);
+    }
+
+    rules
+}
+
+/// Intervals of weekdays, weeks, months and years: 1,024 boxes or not many less, and some that are more.
+const SHAPES: [[u32; 4]; 8] = [
+    [1, 8, 8, 16],
+    [4, 4, 8, 8],
+    [2, 16, 4, 8],
+    [7, 3, 12, 4],
+    [5, 5, 5, 8],
+    [1, 32, 1, 32],
+    [1, 9, 8, 16],
+    [7, 7, 7, 3],
+];
+
+fn boxes_at_the_limit(stock: &mut Stock) -> Vec<Rule> {
+    let shape = stock.random.of(&SHAPES);
+    let mut first = boxes_rule(shape);
+    first.kind = stock.random.within(0, 2);
+    first.spans = stock.some_spans(2);
+
+    let mut rules = vec![first];
+    for _ in 0..stock.random.below(6) {
+        let mut rule = Rule {
+            operator: stock.random.within(0, 1),
+            ..stock.rule_of_all_days()
+        };
+        rule.years = some_of(stock.random, &rules[0].years);
+        rule.monthdays = some_of(stock.random, &rules[0].monthdays);
+        rule.weeks = some_of(stock.random, &rules[0].weeks);
+        rule.weekdays = some_of(stock.random, &rules[0].weekdays);
+        rules.push(rule);
+    }
+    rules
+}
+
+/// One rule whose ranges make so many intervals in each dimension.
+fn boxes_rule(shape: [u32; 4]) -> Rule {
+    let [on_weekdays, in_weeks, in_months, in_years] = &DIMENSIONS;
+    let [days, weeks, month, years] = shape;
+
+    Rule {
+        years: alternating(in_years.start, years)
+            .map(|year| range(year, year))
+            .collect(),
+        monthdays: alternating(in_months.start, month)
+            .map(|month| months(month, month))
+            .collect(),
+        weeks: alternating(in_weeks.start, weeks)
+            .map(|week| range(week, week))
+            .collect(),
+        weekdays: alternating(on_weekdays.start, days)
+            .map(|day| weekdays(day, day))
+            .collect(),
+        ..Rule::default()
+    }
+}
+
+/// Single values, no two of them neighbours, that cut a dimension into so many intervals.
+fn alternating(lowest: u32, intervals: u32) -> impl Iterator<Item = u32> {
+    (0..intervals / 2).map(move |place| lowest + intervals % 2 + 2 * place)
+}
+
+fn some_of<T: Clone>(random: &mut Random, items: &[T]) -> Vec<T> {
+    items
+        .iter()
+        .filter(|_| random.percent(60))
+        .cloned()
+        .collect()
+}
+
+/// Lists of about 32 entries, by single pushes or by ranges that overlap.
+fn lists_at_the_limit(stock: &mut Stock) -> Vec<Rule> {
+    let length = LIST_LIMIT + stock.random.below(4) - 1;
+    let mut rules: Vec<Rule> = (0..length).map(|_| stock.rule_of_all_days()).collect();
+
+    if stock.random.percent(50) {
+        let mut overlapping = stock.rule_of_all_days();
+        overlapping.weekdays = [(0, 2), (1, 3), (0, 2), (1, 3)]
+            .map(|(start, end)| weekdays(start, end))
+            .into();
+        overlapping.weeks = vec![range(1, 30), range(20, 53)];
+        rules.splice(..8, [overlapping]);
+    }
+
+    rules
+}
+
+/// 64 rules, or 16 items of one sort, the same or each some way from the one before; half of them one more.
+fn counts_at_the_limit(stock: &mut Stock) -> Vec<Rule> {
+    let above = stock.random.below(2);
+
+    if stock.random.percent(20) {
+        return (0..RULE_LIMIT + above).map(|_| stock.rule()).collect();
+    }
+
+    let mut rules = stock.rules();
+    let place = stock.random.below(rules.len());
+    let (rule, count) = (&mut rules[place], ITEM_LIMIT + above);
+
+    let apart = stock.random.within(0, 2);
+    let offsets = (0..count as u32).map(|place| apart * place);
+
+    match stock.random.below(5) {
+        0 => rule.years = offsets.map(|by| range(2000 + by, 2001 + by)).collect(),
+        1 => rule.monthdays = offsets.map(|by| months(1 + by % 12, 2)).collect(),
+        2 => rule.weeks = offsets.map(|by| range(1 + by, 3 + by)).collect(),
+        3 => rule.weekdays = offsets.map(|by| weekdays(by % 7, 0)).collect(),
+        _ => {
+            rule.spans = offsets
+                .map(|by| fixed(600 + 10 * by, 700 + 9 * by))
+                .collect()
+        }
+    }
+
+    rules
+}

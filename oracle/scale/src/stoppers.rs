@@ -1,0 +1,125 @@
+//! Stoppers: each makes a draining rule into one that stops.
+
+use crate::rule::{
+    ALL_NTH, DATED, FALLBACK, MIDNIGHT, MONTHS_OF_YEAR, Monthday, Rule, Span, Stepped, Weekday,
+    fixed, fixed_time, months, weekdays,
+};
+use crate::stock::{MINUTES, Stock, YEAR_VALUES};
+
+pub fn stop(rule: &mut Rule, stock: &mut Stock) {
+    match stock.random.below(7) {
+        0 => rule.operator = FALLBACK,
+        1 => {
+            let item = stepped(stock, 1900, 9000, 9999, &[2, 3, 400]);
+            rule.years.push(item);
+        }
+        2 => {
+            let item = stepped(stock, 1, 40, 53, &[2, 3, 10]);
+            rule.weeks.push(item);
+        }
+        3 => rule.monthdays.insert(0, stopping_monthday(stock)),
+        4 => rule.weekdays.push(stopping_weekday(stock)),
+        _ => {
+            let place = stock.random.below(rule.spans.len() + 1);
+            rule.spans.insert(place, stopping_span(stock));
+        }
+    }
+}
+
+/// A range with a step. One that the Rust's constructors are to keep rises by the step at least.
+fn stepped(
+    stock: &mut Stock,
+    lowest: u32,
+    last_start: u32,
+    highest: u32,
+    steps: &[u32],
+) -> Stepped {
+    let (rising, random) = (stock.rising, &mut *stock.random);
+    let (start, step) = (random.within(lowest, last_start), random.of(steps));
+    let end = match rising {
+        true => random.within(start + step, highest),
+        false => random.within(lowest, highest),
+    };
+
+    Stepped { start, end, step }
+}
+
+fn stopping_monthday(stock: &mut Stock) -> Monthday {
+    let random = &mut *stock.random;
+
+    match random.below(2) {
+        0 => Monthday {
+            tag: MONTHS_OF_YEAR,
+            year: random.of(&YEAR_VALUES),
+            ..months(random.within(1, 12), random.within(1, 12))
+        },
+        _ => Monthday {
+            tag: DATED,
+            reference: random.of(&[0, 1, 0xFFFF, 0x8000_0000, u32::MAX]),
+            ..Monthday::default()
+        },
+    }
+}
+
+fn stopping_weekday(stock: &mut Stock) -> Weekday {
+    let random = &mut *stock.random;
+    let days = weekdays(random.within(0, 6), random.within(0, 6));
+    let offset = random.of(&[1, 0xFFFF, 0x7FFF, 0x8000]);
+    let one_missing = ALL_NTH ^ (1 << random.below(5));
+
+    match random.below(4) {
+        0 => Weekday {
+            tag: 1,
+            kind: random.within(0, 1),
+            offset: random.of(&[0, offset]),
+            ..Weekday::default()
+        },
+        1 => Weekday { offset, ..days },
+        2 => Weekday {
+            nth_from_start: one_missing,
+            ..days
+        },
+        _ => Weekday {
+            nth_from_end: random.of(&[0, one_missing]),
+            ..days
+        },
+    }
+}
+
+fn stopping_span(stock: &mut Stock) -> Span {
+    let minute = stock.random.of(&MINUTES);
+    let later = stock.random.of(&[1441, 1500, 2880]);
+    let no_midnight = stock.random.of(&[0, 1439, 1441, 2880]);
+    let (first_event, second_event) = (stock.variable_time(), stock.variable_time());
+
+    match stock.random.below(9) {
+        0 => fixed(minute, later),
+        1 => fixed(minute, minute),
+        2 => fixed(MIDNIGHT, minute),
+        3 => fixed(2880, 2880),
+        4 => Span {
+            open_end: 1,
+            ..fixed(720, 600)
+        },
+        5 => Span {
+            repeats_flag: 1,
+            repeats: 60,
+            ..fixed(0, 1441)
+        },
+        6 => Span {
+            start: first_event,
+            end: fixed_time(no_midnight),
+            ..Span::default()
+        },
+        7 => Span {
+            start: fixed_time(minute),
+            end: first_event,
+            ..Span::default()
+        },
+        _ => Span {
+            start: first_event,
+            end: second_event,
+            ..Span::default()
+        },
+    }
+}

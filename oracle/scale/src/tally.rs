@@ -1,0 +1,160 @@
+//! What a run met: how often each code, and how many rules were drained, emitted and left.
+
+use std::fmt::{Display, Formatter, Result};
+
+use crate::points::{BOX_LIMIT, Extent, LIST_LIMIT};
+use crate::rule::{ITEM_LIMIT, RULE_LIMIT, Rule};
+
+/// Numbers by their count of binary digits: 0, 1, 2 to 3, 4 to 7 and so on.
+#[derive(Default)]
+struct Sizes([u64; 18]);
+
+impl Sizes {
+    fn count(&mut self, size: u64) {
+        let digits = u64::BITS - size.leading_zeros();
+        self.0[(digits as usize).min(17)] += 1;
+    }
+}
+
+impl Display for Sizes {
+    fn fmt(&self, f: &mut Formatter<'_>) -> Result {
+        let met = self.0.iter().enumerate().filter(|(_, times)| **times > 0);
+
+        met.map(|(digits, times)| match digits {
+            0 | 1 => format!("{digits}: {times}"),
+            _ => format!("{}-{}: {times}", 1 << (digits - 1), (1 << digits) - 1),
+        })
+        .collect::<Vec<_>>()
+        .join(", ")
+        .fmt(f)
+    }
+}
+
+/// Accepted folds that stand exactly at a limit.
+#[derive(Default)]
+struct AtLimits([u64; 5]);
+
+impl AtLimits {
+    fn count(&mut self, rules: &[Rule], extent: Extent) {
+        let met = [
+            rules.len() == RULE_LIMIT,
+            rules
+                .iter()
+                .any(|rule| day_items(rule).contains(&ITEM_LIMIT)),
+            rules.iter().any(|rule| rule.spans.len() == ITEM_LIMIT),
+            extent.boxes == BOX_LIMIT,
+            extent.longest_list == LIST_LIMIT,
+        ];
+        add_each(&mut self.0, &met.map(u64::from));
+    }
+}
+
+impl Display for AtLimits {
+    fn fmt(&self, f: &mut Formatter<'_>) -> Result {
+        let [rules, items, spans, boxes, entries] = self.0;
+        write!(
+            f,
+            "{RULE_LIMIT} rules: {rules}, {ITEM_LIMIT} days' items: {items}, {ITEM_LIMIT} spans: {spans}, "
+        )?;
+        write!(
+            f,
+            "{BOX_LIMIT} boxes: {boxes}, {LIST_LIMIT} entries: {entries}"
+        )
+    }
+}
+
+fn day_items(rule: &Rule) -> [usize; 4] {
+    [
+        rule.years.len(),
+        rule.monthdays.len(),
+        rule.weeks.len(),
+        rule.weekdays.len(),
+    ]
+}
+
+/// The counts of the sheets of one sort, sound or damaged.
+#[derive(Default)]
+pub struct Tally {
+    pub sheets: u64,
+    pub short_buffers: u64,
+    folded_whole: u64,
+    at_limits: AtLimits,
+    fold_codes: [u64; 10],
+    lookup_codes: [u64; 10],
+    sheet_bytes: Sizes,
+    drained: Sizes,
+    emitted: Sizes,
+    left: Sizes,
+}
+
+impl Tally {
+    pub fn fold(&mut self, numbers: &[u64], sheet_bytes: usize) {
+        self.sheets += 1;
+        self.fold_codes[numbers[0] as usize] += 1;
+        self.sheet_bytes.count(sheet_bytes as u64);
+
+        if numbers[0] == 0 {
+            self.drained.count(numbers[1]);
+            self.emitted.count(numbers[2]);
+            self.left.count(numbers[3]);
+        }
+    }
+
+    pub fn accepted_fold(&mut self, rules: &[Rule], extent: Extent, inside: bool) {
+        self.folded_whole += u64::from(inside);
+        self.at_limits.count(rules, extent);
+    }
+
+    pub fn lookup(&mut self, numbers: &[u64]) {
+        self.lookup_codes[numbers[0] as usize] += 1;
+    }
+
+    pub fn add(&mut self, other: &Self) {
+        self.sheets += other.sheets;
+        self.short_buffers += other.short_buffers;
+        self.folded_whole += other.folded_whole;
+        add_each(&mut self.at_limits.0, &other.at_limits.0);
+        add_each(&mut self.fold_codes, &other.fold_codes);
+        add_each(&mut self.lookup_codes, &other.lookup_codes);
+        add_each(&mut self.sheet_bytes.0, &other.sheet_bytes.0);
+        add_each(&mut self.drained.0, &other.drained.0);
+        add_each(&mut self.emitted.0, &other.emitted.0);
+        add_each(&mut self.left.0, &other.left.0);
+    }
+}
+
+impl Display for Tally {
+    fn fmt(&self, f: &mut Formatter<'_>) -> Result {
+        let accepted: u64 =
+            self.fold_codes.iter().sum::<u64>() - self.fold_codes[1..=4].iter().sum::<u64>();
+
+        writeln!(f, "{} sheets, {accepted} of them accepted", self.sheets)?;
+        writeln!(f, "  folds by code: {}", by_code(&self.fold_codes))?;
+        let halved = self.fold_codes[0] - self.folded_whole;
+        writeln!(
+            f,
+            "  folded by the Rust: {} whole, {halved} with years and weeks that wrap as halves",
+            self.folded_whole
+        )?;
+        writeln!(f, "  lookups by code: {}", by_code(&self.lookup_codes))?;
+        writeln!(f, "  short buffers, answered by 7: {}", self.short_buffers)?;
+        writeln!(f, "  folds at a limit: {}", self.at_limits)?;
+        writeln!(f, "  sheet bytes {}", self.sheet_bytes)?;
+        writeln!(f, "  drained {}", self.drained)?;
+        writeln!(f, "  emitted {}", self.emitted)?;
+        write!(f, "  left {}", self.left)
+    }
+}
+
+fn by_code(codes: &[u64; 10]) -> String {
+    let met = codes.iter().enumerate().filter(|(_, times)| **times > 0);
+    met.map(|(code, times)| format!("{code}: {times}"))
+        .collect::<Vec<_>>()
+        .join(", ")
+}
+
+fn add_each(sums: &mut [u64], others: &[u64]) {
+    for (sum, other) in sums.iter_mut().zip(others) {
+        *sum += other;
+    }
+}
