@@ -42,13 +42,14 @@ fn flip(random: &mut Random, sheet: &mut [u8], bits: usize) {
     }
 }
 
-/// A bit set in the last byte, often padding, and at times bytes that follow.
+/// A bit set in the last byte, often padding, and at times bytes that follow, rarely very many.
 fn end_wrong(random: &mut Random, sheet: &mut Vec<u8>) {
     if random.percent(60) {
         *sheet.last_mut().expect("a sheet has its rule count") ^= 1 << random.below(8);
     }
 
-    sheet.resize(sheet.len() + random.below(3), 0);
+    let longest = random.weighed(&[(95, 3), (5, 70_000)]);
+    sheet.resize(sheet.len() + random.below(longest), 0);
     let tail: [&[u8]; 4] = [&[], &[0], &[1], &[0x80]];
     sheet.extend(random.of(&tail));
 }

@@ -21,4 +21,6 @@ mod shrink;
 pub mod stack;
 mod stock;
 mod stoppers;
+#[cfg(test)]
+mod stored;
 mod tally;
