@@ -1,0 +1,105 @@
+-- THE RULES LEFT, where they stand: behind the drained rules, up to the end of all. Rests on the law of beginnings.
+-- Assumes nothing.
+use mathlib.Core.Path.{_≡_, refl, sym, ap, ap₂, _∙_, subst}
+use mathlib.Core.Bool.{Bool, true, false, cond}
+use mathlib.Core.List.{List, [], _∷_, _++_, flatMap}
+use Prim.Native.Nat.{ℕ, _+_, _*_, _-_, _≤_, _<_, _^_}
+use native.Mathlib.Omega.{arith}
+use lib.Dec.{ltb}
+use lib.ListN.{length, take, drop, getD, replicate, length-append}
+use lib.Seq.{take-append-seam}
+use borrow.Author.Tests.{ltb-true, ltb-false}
+use Rattle.laws.proofs.Lists.{every-all}
+use Rattle.laws.proofs.Spread.{flatMap-length}
+use Rattle.definition.specs.Field.{Layout, bits, bytesFor, packed, sheetBits}
+use Rattle.definition.specs.Rule.{Rule}
+use Rattle.definition.specs.Sheet.{form1, limits1, rule, rules, encode}
+use Rattle.definition.specs.Stop.{stops, drained, left}
+use Rattle.definition.proofs.Bits.{Bytes, length-bits, length-bytes}
+use Rattle.definition.proofs.Faithful.{Stand}
+use Rattle.definition.proofs.Lawful.{rules-each}
+use Rattle.definition.proofs.Lengths.{rule-short}
+use Rattle.definition.proofs.SheetRead.{rule-faithful, encode-decoded}
+use Rattle.sheet.proofs.Begins.{Begins, rules-begin, rules-few}
+use Rattle.sheet_writer.proofs.Frame.{rules-bits}
+use Rattle.phases.specs.Phases.{SheetRead, Leaving}
+
+-- drained and left are all rules
+pub left-behind : (rs : List Rule) → (drop (length (drained rs)) rs ≡ left rs) × (length (drained rs) + length (left rs) ≡ length rs)
+unfolding drained left
+left-behind [] = (refl, refl)
+left-behind (r ∷ rs) = go (stops r) refl (left-behind rs)
+  where
+    go : (b : Bool) → stops r ≡ b → (drop (length (drained rs)) rs ≡ left rs) × (length (drained rs) + length (left rs) ≡ length rs)
+        → (drop (length (drained (r ∷ rs))) (r ∷ rs) ≡ left (r ∷ rs)) × (length (drained (r ∷ rs)) + length (left (r ∷ rs)) ≡ length (r ∷ rs))
+    go true e ih = rw (e, drained, left) (refl, omega arith)
+    go false e ih = rw (e, drained, left) (ih .0, omega (arith, ih .1))
+
+empty : (qs : List Rule) → length qs ≤ 0 → qs ≡ []
+empty [] h = refl
+empty (q ∷ qs) h = absurd (omega arith)
+
+-- a rule that fits takes as few bits as one that is read
+rule-few : (r : Rule) → (rule form1 limits1) .fits r ≡ true → length ((rule form1 limits1) .write r) ≤ 2998
+rule-few r f =
+    let ws = (rule form1 limits1) .write r in
+    let e = rule-faithful form1 limits1 .returns r tt f (ws ++ []) 0 [] (omega arith) refl in
+    omega (arith, rule-short (ws ++ []) 0 r (0 + length ws) e .1)
+
+module _ (sheet : List ℕ) (bytes : Bytes sheet) (begins : List ℕ) (rs : List Rule) (end : ℕ) (r : SheetRead sheet begins rs end) where
+  -- how many rules
+  pub rules-limited : length rs ≤ limits1 .rules
+  rules-limited = rules-few sheet rs end bytes (r .read)
+
+  first-left : length (drained rs) < length rs → Begins (sheetBits sheet) end rs (length (drained rs)) (getD begins (length (drained rs)) 0)
+  first-left h =
+      subst (λ b. Begins (sheetBits sheet) end rs (length (drained rs)) (getD b (length (drained rs)) 0)) (sym (r .noted))
+      (rules-begin sheet rs end bytes (r .read) (r .before) (r .room) (length (drained rs)) h)
+
+  -- where all rules end
+  rules-end : (end ≤ 8 * length sheet) × (end < 2 ^ 25)
+  unfolding encode packed
+  rules-end =
+      let d = encode-decoded form1 limits1 sheet bytes rs end (r .read) in
+      let ws = (rules form1 limits1) .write rs in
+      let whole = ap length (d .1) in
+      let each = every-all (λ q. length ((rule form1 limits1) .write q) ≤ 2998) ((rule form1 limits1) .fits) rule-few rs (rules-each form1 limits1 rs (d .0)) in
+      let few = flatMap-length ((rule form1 limits1) .write) 2998 rs each in
+      let long = ap length (rules-bits rs) ∙ length-append (bits 16 (length rs)) (flatMap ((rule form1 limits1) .write) rs) in (
+        omega (arith, d .2, whole, length-bytes (bytesFor (length ws)) (ws ++ replicate (8 * bytesFor (length ws) - length ws) 0)),
+        omega (arith, d .2, long, length-bits 16 (length rs), few, rules-limited),
+      )
+
+  -- THE RULES LEFT from the first of them on; where none is left, from the end on
+  leaving-at : (start : ℕ) → Stand (flatMap ((rule form1 limits1) .write) (left rs)) (sheetBits sheet) start end
+      → Leaving sheet rs start end (length (drained rs)) (length rs - length (drained rs))
+  leaving-at start s =
+      let ws = flatMap ((rule form1 limits1) .write) (left rs) in
+      let many : end - start ≡ length ws = omega (arith, s .ends) in
+      record {
+        ordered = omega (arith, s .ends);
+        inside = rules-end .0;
+        low = rules-end .1;
+        stands = ap₂ take many (s .stands) ∙ take-append-seam ws (drop end (sheetBits sheet));
+        drained-many = refl;
+        left-many = omega (arith, left-behind rs .1);
+        left-few = omega (arith, rules-limited);
+      }
+
+  pub rules-leaving : (start : ℕ) → start ≡ cond (ltb (length (drained rs)) (length rs)) (getD begins (length (drained rs)) 0) end
+      → Leaving sheet rs start end (length (drained rs)) (length rs - length (drained rs))
+  unfolding flatMap
+  rules-leaving start e = go (ltb (length (drained rs)) (length rs)) refl
+    where
+      go : (b : Bool) → ltb (length (drained rs)) (length rs) ≡ b → Leaving sheet rs start end (length (drained rs)) (length rs - length (drained rs))
+      go true l =
+          let at : start ≡ getD begins (length (drained rs)) 0 = e ∙ ap (λ b. cond b (getD begins (length (drained rs)) 0) end) l in
+          leaving-at start
+          (subst (λ p. Stand (flatMap ((rule form1 limits1) .write) (left rs)) (sheetBits sheet) p end) (sym at)
+          (subst (λ qs. Stand (flatMap ((rule form1 limits1) .write) qs) (sheetBits sheet) (getD begins (length (drained rs)) 0) end) (left-behind rs .0)
+          (first-left (ltb-true (length (drained rs)) (length rs) l) .stands)))
+      go false l =
+          let at : start ≡ end = e ∙ ap (λ b. cond b (getD begins (length (drained rs)) 0) end) l in
+          let none : left rs ≡ [] = empty (left rs) (omega (arith, ltb-false (length (drained rs)) (length rs) l, left-behind rs .1)) in
+          leaving-at start (subst (λ qs. Stand (flatMap ((rule form1 limits1) .write) qs) (sheetBits sheet) start end) (sym none)
+          (record { ends = omega (arith, at); stands = ap (λ p. drop p (sheetBits sheet)) at }))
