@@ -1,0 +1,10 @@
+-- What an export leaves in a lent slice: "a slice too short for them is answered no, with nothing written anywhere".
+-- Assumes nothing.
+use mathlib.Core.Bool.{Bool, cond}
+use mathlib.Core.List.{List}
+use Prim.Native.Nat.{ℕ}
+use Rattle.definition.specs.Fold.{buffer}
+
+-- some numbers at the front, where the answer is told
+abbrev pub put : Bool → List ℕ → List ℕ → List ℕ
+put told numbers lent = cond told (buffer numbers lent) lent

@@ -1,0 +1,58 @@
+// What users touch: the fold of a sheet, the state at a date and minute, and writing back. None asks for anything: every byte string,
+// date and buffer gets an answer. Rests on the check of sheets and on the phases of the fold.
+pub mod export;
+
+use emission::Folded;
+use sheet::back::WrittenBack;
+use sheet::check::Checked;
+use state_at::answer::Answer;
+ghost use mathlib.Core.Path.{_≡_};
+ghost use lib.ListN.{length};
+ghost use Rattle.definition.specs.Sheet.{form1, limits1};
+ghost use Rattle.definition.specs.Fold.{buffer, numbers, fold, writeBack};
+ghost use Rattle.definition.specs.Lookup.{lookup};
+ghost use Rattle.sheet.specs.Back.{answered, backNumbers};
+ghost use Rattle.emission.specs.Emission.{numbersOf};
+ghost use Rattle.state_at.specs.Found as found;
+
+// "The fold answers code, drained, emitted (folded rules only), left (rules copied), bytes written, place." The result stands at the front of
+// `out`; a refused fold changes no byte.
+pub fn fold(sheet: &[u8], out: &mut [u8]) -> Folded
+    ensures { λ r. ⌜ (numbersOf r ≡ numbers (fold form1 limits1 (length (now (out .entry))) (now (sheet .entry))))
+        × (now (out .exit) ≡ buffer ((fold form1 limits1 (length (now (out .entry))) (now (sheet .entry))) .result) (now (out .entry))) ⌝ }
+{
+    let mut begins = [0usize; 64];
+    let checked = sheet::check::check(sheet, &mut begins);
+    match checked {
+        Checked::Rules(count, end) => normalize::fold_rules(sheet, &begins, count, end, out),
+        Checked::Refused(code, place) => normalize::refused(code as u64, place as u64),
+    }
+}
+
+// "Takes a sheet, a year, month, day and minute (0 to 1439)": "answers code, kind, comment and the table's place; refused, kind and comment are 0".
+pub fn lookup(sheet: &[u8], year: u64, month: u64, day: u64, minute: u64) -> Answer
+    ensures { λ r. ⌜ found.answered r ≡ lookup form1 limits1 (now (sheet .entry)) year month day minute ⌝ }
+{
+    let mut begins = [0usize; 64];
+    let checked = sheet::check::check(sheet, &mut begins);
+    match checked {
+        Checked::Rules(count, end) => lookup::look_rules(
+            sheet,
+            &begins,
+            count,
+            year,
+            month,
+            day,
+            minute,
+        ),
+        Checked::Refused(code, place) => lookup::refused(code as u64, place as u64),
+    }
+}
+
+// "Writing back refuses by 1 to 4 and 7 only": code, bytes written and place.
+pub fn write_back(sheet: &[u8], out: &mut [u8]) -> WrittenBack
+    ensures { λ r. ⌜ (answered r ≡ backNumbers (writeBack form1 limits1 (length (now (out .entry))) (now (sheet .entry))))
+        × (now (out .exit) ≡ buffer ((writeBack form1 limits1 (length (now (out .entry))) (now (sheet .entry))) .result) (now (out .entry))) ⌝ }
+{
+    sheet::back::write_back(sheet, out)
+}
