@@ -1,4 +1,4 @@
-// Records of a file of stored answers: numbers of three bytes, the high byte first, and bytes behind them.
+// Records of a file of stored answers: numbers of three bytes, or of eight, the high byte first, and bytes behind them.
 ghost use Prim.Native.Nat.{_+_, _≤_, _<_, _^_};
 ghost use lib.ListN.{length};
 ghost use Rattle.io.specs.Counts.{Counts};
@@ -15,6 +15,15 @@ pub fn number(s: &[u8], at: usize) -> usize
     ensures { λ r. ⌜ r < 2 ^ 24 ⌝ }
 {
     wide(s[at]) * 65536 + wide(s[at + 1]) * 256 + wide(s[at + 2])
+}
+
+// The number of eight bytes at a place.
+pub fn long_number(s: &[u8], at: usize) -> u64
+    requires { ⌜ at + 8 ≤ length (now s) ⌝ }
+{
+    let high = (number(s, at) * 256 + wide(s[at + 3])) as u64;
+    let low = (number(s, at + 4) * 256 + wide(s[at + 7])) as u64;
+    high * 4294967296 + low
 }
 
 // The file's next bytes, at the front of a buffer: how many there were, none where the buffer has no room for all.

@@ -1,9 +1,9 @@
--- `sheet_replay::agree::begin_so` is safe and ends. The measure is the rules left.
+-- `replay::reading::begin_so` is safe and ends. The measure is the rules left.
 -- Assumes nothing.
 use Prim.Native.Nat.{_-_, _≤_}
 use native.Mathlib.Omega.{arith}
-use Rattle.sheet_replay.proofs.agree.begin_so.Statement.{statement}
-use Rattle.sheet_replay.proofs.agree.begin_so.Tie as tie
+use Rattle.replay.proofs.reading.begin_so.Statement.{statement}
+use Rattle.replay.proofs.reading.begin_so.Tie as tie
 
 abbrev Inv-loop : tie.InvT-loop
 Inv-loop begins rules places i₀ i = i ≤ rules

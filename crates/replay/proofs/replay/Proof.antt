@@ -1,11 +1,11 @@
--- `sheet_replay::replay` is safe and ends. The loop's invariant: at most as many differ as were compared. The measure is the turns left.
+-- `replay::replay` is safe and ends. The loop's invariant: at most as many differ as were compared. The measure is the turns left.
 -- Assumes nothing.
 use Prim.Native.Nat.{_-_, _≤_}
 use mathlib.Core.Logic.{⊎-elim}
 use borrow.Author.Needs.{needs}
 use native.Mathlib.Omega.{arith}
-use Rattle.sheet_replay.proofs.replay.Statement.{statement}
-use Rattle.sheet_replay.proofs.replay.Tie as tie
+use Rattle.replay.proofs.replay.Statement.{statement}
+use Rattle.replay.proofs.replay.Tie as tie
 
 abbrev Inv-loop : tie.InvT-loop
 Inv-loop fd sort differing₀ turn₀ differing turn = (turn ≤ 1000000) × (differing ≤ turn)

@@ -1,12 +1,12 @@
--- `sheet_replay::agree::fill` is safe and ends. The loop's invariant: the buffer keeps its length. The measure is the bytes left.
+-- `replay::buffer::fill` is safe and ends. The loop's invariant: the buffer keeps its length. The measure is the bytes left.
 -- Assumes nothing.
 use Prim.Native.Nat.{_-_, _≤_}
 use mathlib.Core.Path.{_≡_}
 use lib.ListN.{length, length-set}
 use borrow.Author.Needs.{needs}
 use native.Mathlib.Omega.{arith}
-use Rattle.sheet_replay.proofs.agree.fill.Statement.{statement}
-use Rattle.sheet_replay.proofs.agree.fill.Tie as tie
+use Rattle.replay.proofs.buffer.fill.Statement.{statement}
+use Rattle.replay.proofs.buffer.fill.Tie as tie
 
 abbrev Inv-loop : tie.InvT-loop
 Inv-loop out₀ i₀ out i = (i ≤ length out) × (length out ≡ length out₀)

@@ -1,14 +1,19 @@
-// Replays readings and write-backs of sheets (data/, made by oracle/sheets.py), and prints how many were compared and how many differ.
-mod agree;
-mod record;
+// Replays readings, write-backs, folds and lookups of sheets (data/, made by oracle/sheets.py), and prints how many were compared and how
+// many differ.
+mod buffer;
+mod fold;
+mod reading;
+mod state;
+mod write_back;
 
 use libc::STDOUT_FILENO;
-use record::Head;
 
 // What the records of a file are.
 enum Sort {
     Reading,
     WriteBack,
+    Fold,
+    Lookup,
 }
 
 enum Compared {
@@ -22,31 +27,47 @@ struct Tally {
     differing: usize,
 }
 
-fn agrees(sort: Sort, head: Head, body: &[u8]) -> bool {
+// Is what the record tells of its sheet so?
+fn agrees(sort: Sort, sheet: &[u8], told: &[u8]) -> bool {
     match sort {
-        Sort::Reading => agree::reading(head, body),
-        Sort::WriteBack => agree::write_back(head, body),
+        Sort::Reading => reading::agrees(sheet, told),
+        Sort::WriteBack => write_back::agrees(sheet, told),
+        Sort::Fold => fold::agrees(sheet, told),
+        Sort::Lookup => state::agrees(sheet, told),
     }
 }
 
-// What follows a record's numbers is read and compared. A file that ends in between differs.
-fn compare_body(fd: i32, sort: Sort, head: Head) -> Compared {
-    let mut body = io::buffer();
-    let size = records::take(fd, &mut body, head.size);
-    if size == head.size && agrees(sort, head, &body[..size]) {
+// The sheet, of some length, and behind it what is told of it.
+fn agrees_body(sort: Sort, body: &[u8], length: usize) -> bool {
+    if body.len() < length {
+        return false;
+    }
+    agrees(sort, &body[..length], &body[length..])
+}
+
+// What follows a record's two numbers is read and compared. A file that ends in between differs.
+fn compare_body(fd: i32, sort: Sort, length: usize, size: usize) -> Compared {
+    let mut body = io::large_buffer();
+    let taken = records::take(fd, &mut body, size);
+    if taken == size && agrees_body(sort, &body[..taken], length) {
         Compared::Same
     } else {
         Compared::Differing
     }
 }
 
-// The file's next record, compared.
+// The file's next record, compared: its sheet's length, the length of all that follows, the sheet, and what is told of it.
 fn compare_record(fd: i32, sort: Sort) -> Compared {
-    let mut numbers = [0u8; 18];
-    if io::read_full(fd, &mut numbers) < 18 {
+    let mut numbers = [0u8; 6];
+    if io::read_full(fd, &mut numbers) < 6 {
         return Compared::NoRecord;
     }
-    compare_body(fd, sort, Head::of(&numbers))
+    compare_body(
+        fd,
+        sort,
+        records::number(&numbers, 0),
+        records::number(&numbers, 3),
+    )
 }
 
 // Record after record to the end of the file. A proved loop has to end, so it stops at a million, which no file here has.
@@ -92,4 +113,6 @@ fn replay_file(path: &[u8], sort: Sort, name: &[u8]) {
 fn main() {
     replay_file(b"readings", Sort::Reading, b" readings compared, ");
     replay_file(b"write_backs", Sort::WriteBack, b" write-backs compared, ");
+    replay_file(b"folds", Sort::Fold, b" folds compared, ");
+    replay_file(b"lookups", Sort::Lookup, b" lookups compared, ");
 }

@@ -1,10 +1,10 @@
--- `sheet_replay::agree::holds` is safe and ends. The measure is the bytes left.
+-- `replay::buffer::holds` is safe and ends. The measure is the bytes left.
 -- Assumes nothing.
 use Prim.Native.Nat.{_-_, _≤_}
 use lib.ListN.{length}
 use native.Mathlib.Omega.{arith}
-use Rattle.sheet_replay.proofs.agree.holds.Statement.{statement}
-use Rattle.sheet_replay.proofs.agree.holds.Tie as tie
+use Rattle.replay.proofs.buffer.holds.Statement.{statement}
+use Rattle.replay.proofs.buffer.holds.Tie as tie
 
 abbrev Inv-loop : tie.InvT-loop
 Inv-loop out result i₀ i = i ≤ length out

@@ -1,0 +1,32 @@
+// Does the fold of a sheet do what a record tells? Told: CODE DRAINED EMITTED LEFT BYTES PLACE ROOM, and the bytes at the front of the buffer.
+use crate::buffer;
+use records::number;
+ghost use Prim.Native.Nat.{_≤_};
+ghost use lib.ListN.{length};
+
+// Are the numbers and every byte of the buffer those of the record?
+fn folded_so(sheet: &[u8], told: &[u8], out: &mut [u8]) -> bool
+    requires { ⌜ 21 ≤ length (now told) ⌝ }
+{
+    buffer::fill(out);
+    let folded = hours::fold(sheet, out);
+    let numbers = number(told, 0) as u64 == folded.code
+        && number(told, 3) as u64 == folded.drained
+        && number(told, 6) as u64 == folded.emitted
+        && number(told, 9) as u64 == folded.left
+        && number(told, 12) as u64 == folded.bytes
+        && number(told, 15) as u64 == folded.place;
+    numbers && buffer::holds(out, &told[21..])
+}
+
+pub fn agrees(sheet: &[u8], told: &[u8]) -> bool {
+    if told.len() < 21 {
+        return false;
+    }
+    let room = number(told, 18);
+    if 65536 < room {
+        return false;
+    }
+    let mut out = io::large_buffer();
+    folded_so(sheet, told, &mut out[..room])
+}
