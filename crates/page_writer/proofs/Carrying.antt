@@ -29,7 +29,7 @@ use Rattle.day_writer.specs.Rules.{Carried}
 use Rattle.paving_update.specs.Update.{listPlaces, listLimit}
 use Rattle.paving_update.specs.Boxes.{listOf}
 use Rattle.paving_update.proofs.Drawing.{list-length}
-use Rattle.paving_map.specs.Boxes.{boxWords}
+use Rattle.box_day.specs.Boxes.{boxWords}
 
 -- a painted run of minutes
 plain-fits : (r : Range) → ProperRun r → FitsSpan (plainSpan r)

@@ -20,7 +20,7 @@ use Rattle.paving_update.specs.Update.{listPlaces, listLimit}
 use Rattle.paving_update.specs.Boxes.{listOf}
 use Rattle.paving_update.proofs.Drawing.{list-length}
 use Rattle.paving_map.specs.Numbering.{wordsOf}
-use Rattle.paving_map.specs.Boxes.{boxWords, Ready}
+use Rattle.box_day.specs.Boxes.{boxWords, Ready}
 use Rattle.page_writer.specs.Pages.{pageCounts, pageEnds, pageAt, pageRules, PageReady}
 
 -- ## Its items, as they are cut out

@@ -13,7 +13,7 @@ use Rattle.rule_writer.specs.Written.{rowsBelow}
 use Rattle.runs.specs.Runs.{numbers}
 use Rattle.day_writer.specs.Rules.{dayRules, Carried}
 use Rattle.paving_map.specs.Numbering.{wordsOf}
-use Rattle.paving_map.specs.Boxes.{boxWords, Ready}
+use Rattle.box_day.specs.Boxes.{boxWords, Ready}
 
 -- a day's number, and items dimension by dimension, from weekdays to years
 abbrev pub Page : Type 0

@@ -1,17 +1,17 @@
 // Pages measured and written: group after group, the group's day over the group's items. A page is a row of numbers: the day's number,
 // four counts of items by sorts, and the items' ends; pages stand one behind the other. A day's number is one more than a box that has it:
 // the box's day is folded again where its rules are due. The buffers from `words` to `painted` are scratch.
+use box_day::fold_box;
 use day_writer::Measure;
 use day_writer::measure_day;
 use day_writer::write_day;
 use paving::wide;
-use paving_map::day::fold_box;
 ghost use mathlib.Core.Path.{_≡_};
 ghost use Prim.Native.Nat.{_+_, _*_, _≤_, _<_, _^_};
 ghost use lib.ListN.{length};
 ghost use Rattle.item_writer.specs.Written.{Room, Wrote};
 ghost use Rattle.day_writer.specs.Rules.{rulesBits};
-ghost use Rattle.paving_map.specs.Boxes.{boxWords, Scratch};
+ghost use Rattle.box_day.specs.Boxes.{boxWords, Scratch};
 ghost use Rattle.page_writer.specs.Pages.{pageSize, pageAt, pagesAt, pageRules, pagesRules, PageReady, Pages};
 
 // How many numbers a page has.

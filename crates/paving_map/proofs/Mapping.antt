@@ -12,7 +12,8 @@ use borrow.Author.Tests.{eqb-true, eqb-false}
 use Rattle.definition.specs.Group.{dayClass}
 use Rattle.day_words.specs.Day.{unflatFrom, unflat, fingerprintOf}
 use Rattle.paving_map.specs.Numbering.{numberOf}
-use Rattle.paving_map.specs.Boxes.{newNumber, newClasses, Known, Mapped}
+use Rattle.day_number.specs.Number.{newNumber, newClasses}
+use Rattle.paving_map.specs.Boxes.{Known, Mapped}
 use Rattle.paving_map.proofs.Numbering.{same-number, number-none, number-new, number-low}
 
 -- a fact below n and at n is one below n + 1

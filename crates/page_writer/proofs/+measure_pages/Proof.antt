@@ -5,8 +5,8 @@ use Prim.Native.Nat.{ℕ, _<_}
 use native.Mathlib.Omega.{arith}
 use borrow.Fn.Kinds.{In}
 use borrow.Fn.PlainCycle.{Measures, is, falls, and}
-use Rattle.paving_map.specs.Boxes.{boxWords}
-use Rattle.paving_map.proofs.Searching.{scratch-kept}
+use Rattle.box_day.specs.Boxes.{boxWords}
+use Rattle.box_day.proofs.Kept.{scratch-kept}
 use Rattle.page_writer.proofs.Reading.{size-low, none-size, more-size, pages-first, pages-later}
 use Rattle.page_writer.proofs.measure_page.Reads as measure-page-reads
 use Rattle.page_writer.proofs.page_size.Reads as page-size-reads

@@ -6,8 +6,8 @@ use native.Mathlib.Omega.{arith}
 use borrow.Fn.Kinds.{In}
 use borrow.Fn.PlainCycle.{Measures, is, falls, and}
 use Rattle.item_writer.proofs.Chain.{wrote-then, room-first, room-rest, room-as, wrote-as, wrote-none}
-use Rattle.paving_map.specs.Boxes.{boxWords}
-use Rattle.paving_map.proofs.Searching.{scratch-kept}
+use Rattle.box_day.specs.Boxes.{boxWords}
+use Rattle.box_day.proofs.Kept.{scratch-kept}
 use Rattle.page_writer.proofs.Reading.{size-low, none-bits, more-bits, pages-first, pages-later}
 use Rattle.page_writer.proofs.page_size.Reads as page-size-reads
 use Rattle.page_writer.proofs.write_page.Reads as write-page-reads

@@ -1,0 +1,3 @@
+pub mod Folding
+pub mod Comparing
+pub mod Kept

@@ -1,0 +1,19 @@
+-- What is asked of a box's list, and what a search for it answers.
+-- Assumes nothing.
+use mathlib.Core.Path.{_≡_}
+use mathlib.Core.List.{List}
+use Prim.Native.Nat.{ℕ, _+_, _*_, _≤_, _<_}
+use lib.ListN.{length, getD}
+use Rattle.paving_update.specs.Update.{listPlaces, listLimit}
+use Rattle.paving_update.specs.Boxes.{listOf}
+use Rattle.memory.specs.declared.Found.{Found}
+use Rattle.memory.specs.declared.Found.the-variants.{At, Nothing}
+
+-- a box whose list is there and within the limit
+abbrev pub Listed : List ℕ → ℕ → Type 0
+Listed lists node = (node * listPlaces + listPlaces ≤ length lists) × (getD lists (node * listPlaces) 0 ≤ listLimit)
+
+-- a box before it that has the same list
+abbrev pub SameList : List ℕ → ℕ → Found → Type 0
+SameList lists node (At box) = (box < node) × (listOf lists box ≡ listOf lists node)
+SameList lists node Nothing = Unit {0}
