@@ -6,7 +6,7 @@ use borrow.Author.Needs.{needs}
 use denote.Ref.{now}
 use Rattle.paving_map.specs.Boxes.{boxWords}
 use Rattle.paving_map.proofs.Mapping.{known-none, mapped-none}
-use Rattle.paving_map.proofs.Searching.{ready-kept}
+use Rattle.box_day.proofs.Kept.{ready-kept}
 use Rattle.folding.proofs.number_days.Statement.{statement}
 use Rattle.folding.proofs.number_days.Tie as tie
 
