@@ -3,6 +3,8 @@ pub mod Classes
 pub mod Agreeing
 pub mod Marks
 pub mod Popping
+pub mod Growing
+pub mod Matching
 pub mod Emptying
 pub mod Sweeping
 pub mod Points
