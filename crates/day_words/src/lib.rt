@@ -14,11 +14,12 @@ pub fn same_words(a: &[u64], b: &[u64], i: usize, n: usize) -> bool
     requires { ⌜ (n ≤ length (now a)) × (n ≤ length (now b)) ⌝ }
     ensures { λ r. ⌜ r ≡ sameList eqb (part (now (a .entry)) i (n - i)) (part (now (b .entry)) i (n - i)) ⌝ }
 {
-    if i < n {
-        if a[i] == b[i] {
-            return same_words(a, b, i + 1, n);
+    let mut at = i;
+    while at < n {
+        if a[at] != b[at] {
+            return false;
         }
-        return false;
+        at += 1;
     }
     true
 }
