@@ -5,12 +5,12 @@ use mathlib.Core.Bool.{Bool, true, false}
 use mathlib.Core.List.{List, [], _∷_, _++_, flatMap}
 use Prim.Native.Nat.{ℕ, zero, suc, _+_, _-_, _*_, _≤_, _<_, _/_}
 use native.Mathlib.Omega.{arith}
-use lib.Dec.{ltb}
+use lib.Dec.{ltb, eqb}
 use lib.ListN.{length, getD, set}
-use borrow.Author.Tests.{lt-ltb, le-ltb, le-leb, lt-leb}
+use borrow.Author.Tests.{lt-ltb, le-ltb, le-leb, lt-leb, eqb-true, eqb-false}
 use Rattle.paving.specs.Grid.{Node}
 use Rattle.paving.proofs.Room.{from-cons, from-end, node-in}
-use Rattle.paving_update.specs.Update.{rangePlaces, listPlaces, listLimit, Lawful, cutOf, rangeOf, covered, countOf, overColumns, overRanges, leaves, leavesOf, Drawn, drawn, drawOne, drawAll}
+use Rattle.paving_update.specs.Update.{rangePlaces, listPlaces, listLimit, Lawful, cutOf, rangeOf, covered, NextCovered, countOf, overColumns, overRanges, leaves, leavesOf, Drawn, drawn, drawOne, drawAll}
 
 -- ## Tables
 pub count-none : (counts : List ℕ) (l : ℕ) → l ≡ 0 → 0 ≡ countOf counts l
@@ -31,12 +31,18 @@ module _ (rows cuts ranges : List ℕ) (i r x row : ℕ) (e : row ≡ getD rows 
   unfolding covered cutOf rangeOf
   covers-no h = rw (← e, lt-leb _ _ h)
 
-module _ (sizes counts rows cuts ranges : List ℕ) (h : Lawful sizes counts rows cuts ranges) (i : ℕ) (l : i < length sizes) where
-  pub cut-in : (x : ℕ) → x < getD sizes i 0 → (i < length rows) × (getD rows i 0 + x < length cuts)
-  cut-in x k = (omega (arith, h .all-rows), omega (arith, h .row i l))
+-- a dimension's columns and a range of it stand in the tables
+pub columns-in : (sizes counts rows cuts ranges : List ℕ) → Lawful sizes counts rows cuts ranges → (i width r x : ℕ) → i < length sizes → width ≡ getD sizes i 0 → r < getD counts i 0 → x ≤ width
+    → (i < length rows) × (getD rows i 0 + width < length cuts) × (i * rangePlaces + 2 * r + 1 < length ranges) × (x ≤ width)
+columns-in sizes counts rows cuts ranges h i width r x l e k o = (omega (arith, h .all-rows), omega (arith, h .row i l), omega (arith, h .all-ranges, h .count i l), o)
 
-  pub range-in : (r : ℕ) → r < getD counts i 0 → i * rangePlaces + 2 * r + 1 < length ranges
-  range-in r k = omega (arith, h .all-ranges, h .count i l)
+-- one column more that is passed
+pub passed-more : (f : ℕ → Bool) (x y : ℕ) → ((k : ℕ) → x ≤ k → k < y → f k ≡ false) → f y ≡ false → (k : ℕ) → x ≤ k → k < y + 1 → f k ≡ false
+passed-more f x y p h k l m = go (eqb k y) refl
+  where
+    go : (b : Bool) → eqb k y ≡ b → f k ≡ false
+    go true e = rw (eqb-true k y e) h
+    go false e = p k l (omega (arith, eqb-false k y e))
 
 -- few ranges in each dimension
 pub count-few : (sizes counts rows cuts ranges : List ℕ) → Lawful sizes counts rows cuts ranges → (l : ℕ) → l ≤ length sizes → countOf counts l ≤ 32
@@ -98,21 +104,53 @@ module _ (sizes counts rows cuts ranges : List ℕ) where
         let m : getD counts i 0 - (rest - 1) ≡ getD counts i 0 - rest + 1 = omega arith in
         rw (e, from-cons (getD counts i 0 - rest) (getD counts i 0) (omega arith), draw-append, ← (rw c at h), ← m) (rw e at k)
 
-  module _ (rule : ℕ) (replaces : Bool) (i node width r x : ℕ) (e : width ≡ getD sizes i 0) (s : Drawn) where
-    pub out-end : width ≤ x → s ≡ drawAll rule replaces s (overColumns sizes counts rows cuts ranges i (leaves sizes counts rows cuts ranges i) node r x)
-    unfolding drawAll overColumns flatMap
-    out-end h = rw (from-end x (getD sizes i 0) (omega arith))
+  -- the columns before the first that is covered add nothing
+  pub columns-skip : (i : ℕ) (below : ℕ → List ℕ) (node width r x y : ℕ) → width ≡ getD sizes i 0 → NextCovered rows cuts ranges i r width x y
+      → overColumns sizes counts rows cuts ranges i below node r x ≡ overColumns sizes counts rows cuts ranges i below node r y
+  unfolding overColumns flatMap
+  columns-skip i below node width r x y e found = go (y - x) x (omega arith) (omega (arith, found .from-first))
+    where
+      go : (n p : ℕ) → x ≤ p → p + n ≡ y → overColumns sizes counts rows cuts ranges i below node r p ≡ overColumns sizes counts rows cuts ranges i below node r y
+      go zero p l q = let z : p ≡ y = omega arith in rw z refl
+      go (suc n) p l q = rw (from-cons p (getD sizes i 0) (omega (arith, found .to-end)), found .passed p l (omega arith)) (go n (p + 1) (omega arith) (omega arith))
 
-    pub out-in : (rest : ℕ) (b : Bool) (s₁ s₂ : Drawn) → x < width → rest ≡ countOf counts i → b ≡ covered rows cuts ranges i r x → b ≡ true
-        → s₁ ≡ drawAll rule replaces s (leavesOf sizes counts rows cuts ranges i (node * width + x) rest)
-        → s₂ ≡ drawAll rule replaces s₁ (overColumns sizes counts rows cuts ranges i (leaves sizes counts rows cuts ranges i) node r (x + 1))
+  pub columns-end : (rule : ℕ) (replaces : Bool) (i : ℕ) (below : ℕ → List ℕ) (node width r y : ℕ) (s : Drawn) → width ≡ getD sizes i 0 → width ≤ y
+      → s ≡ drawAll rule replaces s (overColumns sizes counts rows cuts ranges i below node r y)
+  unfolding drawAll overColumns flatMap
+  columns-end rule replaces i below node width r y s e h = rw (from-end y (getD sizes i 0) (omega arith))
+
+  module _ (rule : ℕ) (replaces : Bool) (i node width r x y : ℕ) (e : width ≡ getD sizes i 0) (found : NextCovered rows cuts ranges i r width x y) (s : Drawn) where
+    pub out-end : width ≤ y → s ≡ drawAll rule replaces s (overColumns sizes counts rows cuts ranges i (leaves sizes counts rows cuts ranges i) node r x)
+    out-end h = rw (columns-skip i (leaves sizes counts rows cuts ranges i) node width r x y e found) (columns-end rule replaces i (leaves sizes counts rows cuts ranges i) node width r y s e h)
+
+    pub out-in : (rest : ℕ) (s₁ s₂ : Drawn) → y < width → rest ≡ countOf counts i
+        → s₁ ≡ drawAll rule replaces s (leavesOf sizes counts rows cuts ranges i (node * width + y) rest)
+        → s₂ ≡ drawAll rule replaces s₁ (overColumns sizes counts rows cuts ranges i (leaves sizes counts rows cuts ranges i) node r (y + 1))
         → s₂ ≡ drawAll rule replaces s (overColumns sizes counts rows cuts ranges i (leaves sizes counts rows cuts ranges i) node r x)
     unfolding overColumns flatMap
-    out-in rest b s₁ s₂ h c q t a k =
-        rw (from-cons x (getD sizes i 0) (omega arith), draw-append, ← q, t, ← all-ranges i (node * getD sizes i 0 + x), ← (rw (c, e) at a)) k
+    out-in rest s₁ s₂ h c a k =
+        rw (
+          columns-skip i (leaves sizes counts rows cuts ranges i) node width r x y e found,
+          from-cons y (getD sizes i 0) (omega arith),
+          draw-append,
+          found .reached h,
+          ← all-ranges i (node * getD sizes i 0 + y),
+          ← (rw (c, e) at a),
+        ) k
 
-    pub out-out : (b : Bool) (s₂ : Drawn) → x < width → b ≡ covered rows cuts ranges i r x → b ≡ false
-        → s₂ ≡ drawAll rule replaces s (overColumns sizes counts rows cuts ranges i (leaves sizes counts rows cuts ranges i) node r (x + 1))
-        → s₂ ≡ drawAll rule replaces s (overColumns sizes counts rows cuts ranges i (leaves sizes counts rows cuts ranges i) node r x)
-    unfolding overColumns flatMap drawAll
-    out-out b s₂ h q t k = rw (from-cons x (getD sizes i 0) (omega arith), draw-append, ← q, t) k
+  pub out-last : (rule : ℕ) (replaces : Bool) (i node r x : ℕ) (s s₂ : Drawn) → i ≡ 0
+      → s₂ ≡ drawAll rule replaces s (overColumns sizes counts rows cuts ranges 0 (leaves sizes counts rows cuts ranges 0) node r x)
+      → s₂ ≡ drawAll rule replaces s (overColumns sizes counts rows cuts ranges i (leaves sizes counts rows cuts ranges i) node r x)
+  out-last rule replaces i node r x s s₂ e h = rw e h
+
+  -- the boxes of a node of the last dimension that a range covers, from a column on
+  abbrev pub boxesFrom : ℕ → ℕ → ℕ → List ℕ
+  boxesFrom node r x = overColumns sizes counts rows cuts ranges 0 (leaves sizes counts rows cuts ranges 0) node r x
+
+  -- a rule drawn at one of them, and at those from the next on
+  pub draw-next : (rule : ℕ) (replaces : Bool) (node width r y z : ℕ) (s s₁ : Drawn) → width ≡ getD sizes 0 0 → covered rows cuts ranges 0 r y ≡ true → y < width
+      → s₁ ≡ drawOne rule replaces s (node * width + y) → NextCovered rows cuts ranges 0 r width (y + 1) z
+      → drawAll rule replaces s₁ (boxesFrom node r z) ≡ drawAll rule replaces s (boxesFrom node r y)
+  unfolding overColumns flatMap drawAll leaves
+  draw-next rule replaces node width r y z s s₁ e t h a later =
+      rw (← columns-skip 0 (leaves sizes counts rows cuts ranges 0) node width r (y + 1) z e later, from-cons y (getD sizes 0 0) (omega arith), t, a, e) refl

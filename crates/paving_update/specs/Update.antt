@@ -1,6 +1,7 @@
 -- A rule drawn over the boxes of a grid: the boxes that its ranges cover, once for each combination, and what a box's list becomes.
 -- Assumes nothing.
-use mathlib.Core.Bool.{Bool, true, cond}
+use mathlib.Core.Path.{_≡_}
+use mathlib.Core.Bool.{Bool, true, false, cond}
 use mathlib.Core.List.{List, [], _∷_, flatMap}
 use Prim.Native.Nat.{ℕ, zero, suc, _+_, _-_, _*_, _≤_, _<_}
 use lib.Dec.{ltb}
@@ -40,6 +41,13 @@ rangeOf ranges i r = (getD ranges (i * rangePlaces + 2 * r) 0, getD ranges (i * 
 -- does a range cover a column? It does where the column's start lies in it: a range's ends are cuts
 unfoldable pub covered : List ℕ → List ℕ → List ℕ → ℕ → ℕ → ℕ → Bool
 covered rows cuts ranges i r x = holds (cutOf rows cuts i x) (rangeOf ranges i r)
+
+-- y is the first column, from x up to the width, that a range covers
+pub record NextCovered (rows cuts ranges : List ℕ) (i r width x y : ℕ) : Type 0 where
+  pub from-first : x ≤ y
+  pub to-end : y ≤ width
+  pub passed : (k : ℕ) → x ≤ k → k < y → covered rows cuts ranges i r k ≡ false
+  pub reached : y < width → covered rows cuts ranges i r y ≡ true
 
 -- how many ranges the first of l dimensions has
 unfoldable pub countOf : List ℕ → ℕ → ℕ

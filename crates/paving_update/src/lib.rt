@@ -4,7 +4,7 @@ ghost use mathlib.Core.Path.{_≡_};
 ghost use Prim.Native.Nat.{suc, _+_, _-_, _*_, _≤_, _<_, _/_};
 ghost use lib.ListN.{length, getD};
 ghost use Rattle.paving.specs.Grid.{Node};
-ghost use Rattle.paving_update.specs.Update.{rangePlaces, listPlaces, Lawful, covered, countOf, leaves, leavesOf, overColumns, drawn, drawOne, drawAll};
+ghost use Rattle.paving_update.specs.Update.{rangePlaces, listPlaces, Lawful, covered, NextCovered, countOf, leaves, leavesOf, overColumns, drawn, drawOne, drawAll};
 
 const RANGE_PLACES: usize = 64;
 
@@ -51,6 +51,61 @@ fn covers(
     } else {
         false
     }
+}
+
+// The first column, from one on, that a range covers; the width, if there is none.
+fn next_covered(
+    rows: &[u16],
+    cuts: &[u16],
+    ranges: &[u16],
+    dimension: usize,
+    range: usize,
+    width: usize,
+    column: usize,
+) -> usize
+    requires { ⌜ (dimension < length (now rows)) × (getD (now rows) dimension 0 + width < length (now cuts)) × (dimension * rangePlaces + 2 * range + 1 < length (now ranges)) × (column ≤ width) ⌝ }
+    ensures { λ r. ⌜ NextCovered (now (rows .entry)) (now (cuts .entry)) (now (ranges .entry)) dimension range width column r ⌝ }
+{
+    let mut next = column;
+    while next < width {
+        if covers(rows, cuts, ranges, dimension, range, next) {
+            return next;
+        }
+        next += 1;
+    }
+    next
+}
+
+// Draws a rule at the boxes of a node of the last dimension, from one on, that a range covers.
+fn draw_columns(
+    lists: &mut [u16],
+    sizes: &[u16],
+    counts: &[u16],
+    rows: &[u16],
+    cuts: &[u16],
+    ranges: &[u16],
+    rule: u16,
+    replaces: bool,
+    over: bool,
+    node: usize,
+    width: usize,
+    range: usize,
+    column: usize,
+) -> bool
+    requires { ⌜ Lawful (now sizes) (now counts) (now rows) (now cuts) (now ranges) ⌝ }
+    requires { ⌜ Node (length (now lists) / listPlaces) (now sizes) 1 node ⌝ }
+    requires { ⌜ (width ≡ getD (now sizes) 0 0) × (range < getD (now counts) 0 0) × (column ≤ width) ⌝ }
+    ensures { λ r. ⌜ drawn (now (lists .exit)) r
+        ≡ drawAll rule replaces (drawn (now (lists .entry)) over) (overColumns (now (sizes .entry)) (now (counts .entry)) (now (rows .entry)) (now (cuts .entry)) (now (ranges .entry)) 0
+        (leaves (now (sizes .entry)) (now (counts .entry)) (now (rows .entry)) (now (cuts .entry)) (now (ranges .entry)) 0) node range column) ⌝ }
+{
+    let mut now = over;
+    let mut next = next_covered(rows, cuts, ranges, 0, range, width, column);
+    while next < width {
+        now = draw(lists, rule, replaces, now, node * width + next);
+        next = next_covered(rows, cuts, ranges, 0, range, width, next + 1);
+    }
+    now
 }
 
 // The number of ranges in the first of the dimensions left.
@@ -145,62 +200,61 @@ fn update_columns(
 ) -> bool
     requires { ⌜ Lawful (now sizes) (now counts) (now rows) (now cuts) (now ranges) ⌝ }
     requires { ⌜ Node (length (now lists) / listPlaces) (now sizes) (suc dimension) node ⌝ }
-    requires { ⌜ (width ≡ getD (now sizes) dimension 0) × (width < 65536) × (range < getD (now counts) dimension 0) ⌝ }
+    requires { ⌜ (width ≡ getD (now sizes) dimension 0) × (width < 65536) × (range < getD (now counts) dimension 0) × (column ≤ width) ⌝ }
     ensures { λ r. ⌜ drawn (now (lists .exit)) r
         ≡ drawAll rule replaces (drawn (now (lists .entry)) over) (overColumns (now (sizes .entry)) (now (counts .entry)) (now (rows .entry)) (now (cuts .entry)) (now (ranges .entry)) dimension
         (leaves (now (sizes .entry)) (now (counts .entry)) (now (rows .entry)) (now (cuts .entry)) (now (ranges .entry)) dimension) node range column) ⌝ }
 {
-    if column < width {
-        if covers(rows, cuts, ranges, dimension, range, column) {
-            let rest = count_of(counts, dimension);
-            let now = update(
-                lists,
-                sizes,
-                counts,
-                rows,
-                cuts,
-                ranges,
-                rule,
-                replaces,
-                over,
-                dimension,
-                node * width + column,
-                rest,
-            );
-            update_columns(
-                lists,
-                sizes,
-                counts,
-                rows,
-                cuts,
-                ranges,
-                rule,
-                replaces,
-                now,
-                dimension,
-                node,
-                width,
-                range,
-                column + 1,
-            )
-        } else {
-            update_columns(
-                lists,
-                sizes,
-                counts,
-                rows,
-                cuts,
-                ranges,
-                rule,
-                replaces,
-                over,
-                dimension,
-                node,
-                width,
-                range,
-                column + 1,
-            )
-        }
+    if dimension == 0 {
+        return draw_columns(
+            lists,
+            sizes,
+            counts,
+            rows,
+            cuts,
+            ranges,
+            rule,
+            replaces,
+            over,
+            node,
+            width,
+            range,
+            column,
+        );
+    }
+    let next = next_covered(rows, cuts, ranges, dimension, range, width, column);
+    if next < width {
+        let rest = count_of(counts, dimension);
+        let now = update(
+            lists,
+            sizes,
+            counts,
+            rows,
+            cuts,
+            ranges,
+            rule,
+            replaces,
+            over,
+            dimension,
+            node * width + next,
+            rest,
+        );
+        update_columns(
+            lists,
+            sizes,
+            counts,
+            rows,
+            cuts,
+            ranges,
+            rule,
+            replaces,
+            now,
+            dimension,
+            node,
+            width,
+            range,
+            next + 1,
+        )
     } else {
         over
     }

@@ -1,9 +1,11 @@
-use mathlib.Core.Path.{_≡_}
-use Prim.Native.Nat.{suc, _+_, _*_, _-_, ℕ, _<_}
+use mathlib.Core.Path.{_≡_, ap, _∙_}
+use Prim.Native.Nat.{ℕ, suc, _+_, _-_, _*_, _<_}
+use lib.ListN.{getD}
+use denote.Ref.{now}
 use borrow.Author.Needs.{needs}
 use native.Mathlib.Omega.{arith}
 use Rattle.paving.proofs.Room.{node-in, node-child}
-use Rattle.paving_update.proofs.Walk.{count-some, cut-in, range-in, count-few, list-in, node-len, node-at, out-leaf, out-none, out-ranges, out-end, out-in, out-out}
+use Rattle.paving_update.proofs.Walk.{count-some, columns-in, count-few, list-in, node-len, node-at, out-leaf, out-none, out-ranges, out-end, out-in, out-last}
 use borrow.Fn.Kinds.{In}
 use borrow.Fn.PlainCycle.{Measures, is, falls, and}
 use Rattle.paving_update.proofs.update.Reads as update
@@ -14,7 +16,8 @@ use Rattle.paving_update.proofs.update_columns.Kinds as update-columns-
 use Rattle.paving_update.proofs.+update+update_columns.Lts-update_columns as update-columns-lts
 use Rattle.paving.proofs.wide.Reads as wide-reads
 use Rattle.paving_update.proofs.count_of.Reads as count-of-reads
-use Rattle.paving_update.proofs.covers.Reads as covers-reads
+use Rattle.paving_update.proofs.next_covered.Reads as next-covered-reads
+use Rattle.paving_update.proofs.draw_columns.Reads as draw-columns-reads
 use Rattle.paving_update.proofs.draw.Reads as draw-reads
 use Rattle.paving_update.proofs.+update+update_columns.{statement}
 use Rattle.paving_update.proofs.+update+update_columns.Tie.{close}
@@ -65,25 +68,24 @@ pub +update+update-columns-spec : {M : Type 1} → statement M
     (λ c. omega (arith, c .before .before .before .before .before .before .before .before .before .before .before .pre .1 .1 .0 .dims, c .before .before .before .before .if1 .left))
     (λ c κs. search needs)
     (λ c. let a = c .before .before .before .before .before .before .before .before .before .before .before .before .before .args in let e : a .left ≡ suc (a .left - 1) = omega (arith, c .before .before .before .before .before .before .if1 .left) in omega (arith, count-some (a .counts .now) (a .left) (a .left - 1) e, c .before .before .before .wide .ensures .0, c .before .before .before .before .before .before .before .before .before .before .before .before .before .pre .1 .1 .1))
-    (λ c κs. let a = c .before .before .before .before .before .before .before .before .before .before .before .before .before .args in let p = c .before .before .before .before .before .before .before .before .before .before .before .before .before .pre .1 in let e : a .left ≡ suc (a .left - 1) = omega (arith, c .before .before .before .before .before .before .if1 .left) in (omega (arith, c .before .before .before .before .before .before .before .before .before .before .before .before .before .pre .0, c .before .wide2 .ensures .1, c .before .before .before .before .before .before .if1 .left), (p .0, (node-at _ _ _ _ _ e (p .1 .0), (c .before .wide2 .ensures .0, c .before .wide2 .ensures .1, omega (arith, c .before .before .before .wide .ensures .0, c .before .before .before .before .before .if2 .left, count-some (a .counts .now) (a .left) (a .left - 1) e, p .1 .1))))))
+    (λ c κs. let a = c .before .before .before .before .before .before .before .before .before .before .before .before .before .args in let p = c .before .before .before .before .before .before .before .before .before .before .before .before .before .pre .1 in let e : a .left ≡ suc (a .left - 1) = omega (arith, c .before .before .before .before .before .before .if1 .left) in (omega (arith, c .before .before .before .before .before .before .before .before .before .before .before .before .before .pre .0, c .before .wide2 .ensures .1, c .before .before .before .before .before .before .if1 .left), (p .0, (node-at _ _ _ _ _ e (p .1 .0), (c .before .wide2 .ensures .0, c .before .wide2 .ensures .1, omega (arith, c .before .before .before .wide .ensures .0, c .before .before .before .before .before .if2 .left, count-some (a .counts .now) (a .left) (a .left - 1) e, p .1 .1), omega arith)))))
     (λ c. search needs)
     (λ c κs. let p = c .before .before .before .before .before .before .before .before .before .before .before .before .before .before .before .before .before .pre .1 in (omega (arith, c .before .before .before .before .before .before .before .before .before .before .before .before .before .before .before .before .before .pre .0, c .before .before .before .before .before .before .before .before .before .if2 .left), (p .0, (node-len _ _ _ _ _ (c .before .before .before .update-columns .kept .0) (p .1 .0), omega (arith, p .1 .1)))))
     (λ c. search needs)
     (λ c. let a = c .before .before .before .before .before .before .before .before .before .before .before .before .before .before .before .before .before .before .before .before .args in let e : a .left ≡ suc (a .left - 1) = omega (arith, c .before .before .before .before .before .before .before .before .before .before .before .before .before .if1 .left) in out-ranges _ _ _ _ _ _ _ _ _ _ _ _ _ _ _ e (c .before .before .before .before .before .before .before .before .before .before .before .before .if2 .left) (omega (arith, count-some (a .counts .now) (a .left) (a .left - 1) e, c .before .before .before .before .before .before .before .before .before .before .wide .ensures .0, c .before .before .before .before .before .before .before .before .before .before .before .before .before .before .before .before .before .before .before .before .pre .1 .1 .1)) (c .before .before .before .before .before .before .before .before .before .before .wide .ensures .0) (c .before .before .before .before .before .before .update-columns .ensures) (c .before .before .update .ensures)))
-    λ t. update-columns-lts.spec (covers-reads.Asked, covers-reads.Learnt, count-of-reads.Asked, count-of-reads.Learnt, update-below t, update.Post, update-columns-below t, update-columns.Post)
+    λ t. update-columns-lts.spec (draw-columns-reads.Asked, draw-columns-reads.Learnt, next-covered-reads.Asked, next-covered-reads.Learnt, count-of-reads.Asked, count-of-reads.Learnt, update-below t, update.Post, update-columns-below t, update-columns.Post)
     (update-columns-at t)
     update-columns.Post
-    (λ c κs. let a = c .before .before .before .before .before .before .before .args in let p = c .before .before .before .before .before .before .before .pre .1 in let d = cut-in _ _ _ _ _ (p .0) (a .dimension) (omega (arith, p .1 .0 .dims)) (a .column) (omega (arith, p .1 .1 .0, c .if1 .taken)) in (d .0, d .1, range-in _ _ _ _ _ (p .0) (a .dimension) (omega (arith, p .1 .0 .dims)) (a .range) (p .1 .1 .2)))
+    (λ c κs. let a = c .before .before .before .before .before .before .before .before .args in let p = c .before .before .before .before .before .before .before .before .pre .1 in let e = c .before .if1 .taken in let w = p .1 .1 .0 in let r = p .1 .1 .2 in (p .0, (node-at _ _ _ _ _ (ap suc e) (p .1 .0), (w ∙ ap (λ i. getD (now (a .sizes)) i 0) e, rw e at r, p .1 .1 .3))))
+    (λ c. search needs)
+    (λ c. out-last _ _ _ _ _ _ _ _ _ _ _ _ _ (c .before .before .before .before .if1 .taken) (c .before .before .draw-columns .ensures))
+    (λ c κs. let p = c .before .before .before .before .before .before .before .pre .1 in columns-in _ _ _ _ _ (p .0) _ _ _ _ (omega (arith, p .1 .0 .dims)) (p .1 .1 .0) (p .1 .1 .2) (p .1 .1 .3))
     (λ c κs. omega (arith, c .before .before .before .before .before .before .before .before .before .pre .1 .0 .all-counts, c .before .before .before .before .before .before .before .before .before .pre .1 .1 .0 .dims))
-    (λ c. omega (arith, node-in _ _ _ _ (node-child _ _ _ _ _ _ (c .before .before .before .before .before .before .before .before .before .before .before .pre .1 .1 .1 .0) (c .before .before .before .before .if1 .taken) (c .before .before .before .before .before .before .before .before .before .before .before .pre .1 .1 .0)), c .before .before .before .before .before .before .before .before .before .before .before .good))
-    (λ c. omega (arith, node-in _ _ _ _ (node-child _ _ _ _ _ _ (c .before .before .before .before .before .before .before .before .before .before .before .pre .1 .1 .1 .0) (c .before .before .before .before .if1 .taken) (c .before .before .before .before .before .before .before .before .before .before .before .pre .1 .1 .0)), c .before .before .before .before .before .before .before .before .before .before .before .good))
-    (λ c κs. let a = c .before .before .before .before .before .before .before .before .before .before .before .args in let p = c .before .before .before .before .before .before .before .before .before .before .before .pre .1 in let few = count-few _ _ _ _ _ (p .0) (a .dimension) (omega (arith, p .1 .0 .dims)) in (omega (arith, c .before .before .before .before .before .before .before .before .before .before .before .pre .0, few, c .before .count-of .ensures), (p .0, (node-child _ _ _ _ _ _ (p .1 .1 .0) (c .before .before .before .before .if1 .taken) (p .1 .0), omega (arith, c .before .count-of .ensures)))))
+    (λ c. let p = c .before .before .before .before .before .before .before .before .before .before .before .pre .1 in omega (arith, node-in _ _ _ _ (node-child _ _ _ _ _ _ (p .1 .1 .0) (c .before .before .if2 .taken) (p .1 .0)), c .before .before .before .before .before .before .before .before .before .before .before .good))
+    (λ c. let p = c .before .before .before .before .before .before .before .before .before .before .before .pre .1 in omega (arith, node-in _ _ _ _ (node-child _ _ _ _ _ _ (p .1 .1 .0) (c .before .before .if2 .taken) (p .1 .0)), c .before .before .before .before .before .before .before .before .before .before .before .good))
+    (λ c κs. let a = c .before .before .before .before .before .before .before .before .before .before .before .args in let p = c .before .before .before .before .before .before .before .before .before .before .before .pre .1 in let few = count-few _ _ _ _ _ (p .0) (a .dimension) (omega (arith, p .1 .0 .dims)) in (omega (arith, c .before .before .before .before .before .before .before .before .before .before .before .pre .0, few, c .before .count-of .ensures), (p .0, (node-child _ _ _ _ _ _ (p .1 .1 .0) (c .before .before .if2 .taken) (p .1 .0), omega (arith, c .before .count-of .ensures)))))
     (λ c. search needs)
-    (λ c κs. let p = c .before .before .before .before .before .before .before .before .before .before .before .before .before .before .before .pre .1 in (omega (arith, c .before .before .before .before .before .before .before .before .before .before .before .before .before .before .before .pre .0, c .before .before .before .before .before .before .before .before .if1 .taken), (p .0, (node-len _ _ _ _ _ (c .before .before .before .update .kept .0) (p .1 .0), p .1 .1))))
+    (λ c κs. let p = c .before .before .before .before .before .before .before .before .before .before .before .before .before .before .before .pre .1 in (omega (arith, c .before .before .before .before .before .before .before .before .before .before .before .before .before .before .before .pre .0, c .before .before .before .before .before .before .if2 .taken, c .before .before .before .before .before .before .before .next-covered .ensures .from-first), (p .0, (node-len _ _ _ _ _ (c .before .before .before .update .kept .0) (p .1 .0), (p .1 .1 .0, p .1 .1 .1, p .1 .1 .2, omega (arith, c .before .before .before .before .before .before .if2 .taken))))))
     (λ c. search needs)
-    (λ c κs. (omega (arith, c .before .before .before .before .before .before .before .before .before .before .pre .0, c .before .before .before .if1 .taken), c .before .before .before .before .before .before .before .before .before .before .pre .1))
-    (λ c. search needs)
-    (λ c. out-in _ _ _ _ _ _ _ _ _ _ _ _ (c .before .before .before .before .before .before .before .before .before .before .before .before .before .before .before .before .before .before .pre .1 .1 .1 .0) _ _ _ _ _ (c .before .before .before .before .before .before .before .before .before .before .before .if1 .taken) (c .before .before .before .before .before .before .before .before .count-of .ensures) (c .before .before .before .before .before .before .before .before .before .before .covers .ensures) (c .before .before .before .before .before .before .before .before .before .if2 .taken) (c .before .before .before .before .before .before .update .ensures) (c .before .before .update-columns .ensures))
-    (λ c. search needs)
-    (λ c. out-out _ _ _ _ _ _ _ _ _ _ _ _ (c .before .before .before .before .before .before .before .before .before .before .before .before .before .pre .1 .1 .1 .0) _ _ _ (c .before .before .before .before .before .before .if1 .taken) (c .before .before .before .before .before .covers .ensures) (c .before .before .before .before .if2 .left) (c .before .before .update-columns2 .ensures))
-    (λ c. out-end _ _ _ _ _ _ _ _ _ _ _ _ (c .before .before .before .before .before .before .before .pre .1 .1 .1 .0) _ (c .if1 .left))
+    (λ c. out-in _ _ _ _ _ _ _ _ _ _ _ _ _ (c .before .before .before .before .before .before .before .before .before .before .before .before .before .before .before .before .before .before .pre .1 .1 .1 .0) (c .before .before .before .before .before .before .before .before .before .before .next-covered .ensures) _ _ _ _ (c .before .before .before .before .before .before .before .before .before .if2 .taken) (c .before .before .before .before .before .before .before .before .count-of .ensures) (c .before .before .before .before .before .before .update .ensures) (c .before .before .update-columns .ensures))
+    (λ c. out-end _ _ _ _ _ _ _ _ _ _ _ _ _ (c .before .before .before .before .before .before .before .before .before .pre .1 .1 .1 .0) (c .before .next-covered .ensures) _ (c .if2 .left))
