@@ -2,10 +2,10 @@
 -- Assumes nothing.
 use mathlib.Core.Path.{_≡_, refl, sym, ap, ap₂, _∙_}
 use mathlib.Core.List.{List, [], _∷_}
-use mathlib.Core.Bool.{Bool, true, false}
-use Prim.Native.Nat.{ℕ, suc, _+_, _*_, _-_, _/_, _%_, _≤_, _<_}
+use mathlib.Core.Bool.{Bool, true, false, _&&_}
+use Prim.Native.Nat.{ℕ, zero, suc, _+_, _*_, _-_, _/_, _%_, _≤_, _<_}
 use native.Mathlib.Omega.{arith}
-use lib.Dec.{eqb, ltb}
+use lib.Dec.{eqb, leb, ltb}
 use lib.ListN.{length, getD, set}
 use lib.Seq.{sets}
 use borrow.Author.Tests.{lt-ltb, le-ltb, le-leb, lt-leb, eq-eqb, ne-eqb}
@@ -73,30 +73,39 @@ module _ (xs ps : List ℕ) (q t : List ℕ) (k r i n : ℕ) where
   unfolding strokesFrom
   list-ends h = none-laid q k _ (ap (strokesFrom xs ps i) (left-none i n h))
 
--- ## What a stroke leaves at a minute
-module _ (x m S : ℕ) where
-  pub over-in : x / 2048 % 2048 ≤ m → m < x % 2048 → x / 4194304 ≡ strokeOver x m S
-  unfolding strokeOver
-  over-in h k = rw (le-leb (x / 2048 % 2048) m h, lt-ltb m (x % 2048) k)
+-- ## What strokes leave at a minute, the last first
+module _ (x m : ℕ) where
+  pub covers-in : x / 2048 % 2048 ≤ m → (r : Bool) → r ≡ ltb m (x % 2048) → r ≡ leb (x / 2048 % 2048) m && ltb m (x % 2048)
+  covers-in h r e = rw (le-leb (x / 2048 % 2048) m h) e
 
-  pub over-after : x / 2048 % 2048 ≤ m → x % 2048 ≤ m → S ≡ strokeOver x m S
-  unfolding strokeOver
-  over-after h k = rw (le-leb (x / 2048 % 2048) m h, le-ltb m (x % 2048) k)
+  pub covers-later : m < x / 2048 % 2048 → false ≡ leb (x / 2048 % 2048) m && ltb m (x % 2048)
+  covers-later h = rw (lt-leb (x / 2048 % 2048) m h)
 
-  pub over-before : m < x / 2048 % 2048 → S ≡ strokeOver x m S
-  unfolding strokeOver
-  over-before h = rw (lt-leb (x / 2048 % 2048) m h)
-
-pub shown-step : (q : List ℕ) (S m i k s : ℕ) → i < k → s ≡ strokeOver (getD q i 0) m S → shown s (part q (i + 1) (k - (i + 1))) m ≡ shown S (part q i (k - i)) m
+shown-last : (q : List ℕ) (S m a n : ℕ) → shown S (part q a (suc n)) m ≡ strokeOver (getD q (a + n) 0) m (shown S (part q a n) m)
 unfolding shown part
-shown-step q S m i k s h e = ap (λ v. shown v (part q (i + 1) (k - (i + 1))) m) e ∙ sym (ap (λ n. shown S (part q i n) m) (left-in i k h))
+shown-last q S m a zero = let e : a ≡ a + 0 = omega arith in ap (λ i. strokeOver (getD q i 0) m S) e
+shown-last q S m a (suc n) =
+    let e : a + 1 + n ≡ a + suc n = omega arith in
+    shown-last q (strokeOver (getD q a 0) m S) m (a + 1) n ∙ ap (λ i. strokeOver (getD q i 0) m (shown (strokeOver (getD q a 0) m S) (part q (a + 1) n) m)) e
 
-pub shown-end : (q : List ℕ) (S m i k : ℕ) → k ≤ i → S ≡ shown S (part q i (k - i)) m
+module _ (q : List ℕ) (m i : ℕ) (some : 0 < i) (b : Bool) (e : b ≡ leb (getD q (i - 1) 0 / 2048 % 2048) m && ltb m (getD q (i - 1) 0 % 2048)) where
+  last : shown 65536 (part q 0 i) m ≡ strokeOver (getD q (i - 1) 0) m (shown 65536 (part q 0 (i - 1)) m)
+  last =
+      let n : i ≡ suc (i - 1) = omega arith in
+      let z : 0 + (i - 1) ≡ i - 1 = omega arith in
+      ap (λ k. shown 65536 (part q 0 k) m) n ∙ shown-last q 65536 m 0 (i - 1) ∙ ap (λ k. strokeOver (getD q k 0) m (shown 65536 (part q 0 (i - 1)) m)) z
+
+  pub shown-here : b ≡ true → getD q (i - 1) 0 / 4194304 ≡ shown 65536 (part q 0 i) m
+  unfolding strokeOver
+  shown-here t = sym (last ∙ rw (sym e ∙ t))
+
+  pub shown-below : b ≡ false → shown 65536 (part q 0 (i - 1)) m ≡ shown 65536 (part q 0 i) m
+  unfolding strokeOver
+  shown-below f = sym (last ∙ rw (sym e ∙ f))
+
+pub shown-none : (q : List ℕ) (m i : ℕ) → i ≡ 0 → 65536 ≡ shown 65536 (part q 0 i) m
 unfolding shown part
-shown-end q S m i k h = sym (ap (λ n. shown S (part q i n) m) (left-none i k h))
-
-pub shown-start : (q : List ℕ) (S m k : ℕ) → shown S (part q 0 (k - 0)) m ≡ shown S (part q 0 k) m
-shown-start q S m k = let z : k - 0 ≡ k = omega arith in ap (λ n. shown S (part q 0 n) m) z
+shown-none q m i e = sym (ap (λ n. shown 65536 (part q 0 n) m) e)
 
 -- ## Cuts
 length-cutAt : (x : ℕ) (cs : List ℕ) → (length cs ≤ length (cutAt x cs)) × (length (cutAt x cs) ≤ suc (length cs))

@@ -5,14 +5,15 @@ use span_number::start_of;
 use words::cut_at;
 use words::wide;
 ghost use mathlib.Core.Path.{_≡_};
-ghost use Prim.Native.Nat.{_+_, _*_, _-_, _<_, _≤_};
+ghost use Prim.Native.Nat.{_+_, _*_, _-_, _/_, _%_, _<_, _≤_};
+ghost use lib.Dec.{leb, ltb};
 ghost use lib.ListN.{length};
 ghost use lib.Seq.{sets};
 ghost use Rattle.span_number.specs.Number.{spanAt};
 ghost use Rattle.definition.specs.Day.{simple};
-ghost use mathlib.Core.Bool.{true};
+ghost use mathlib.Core.Bool.{true, _&&_};
 ghost use Rattle.words.specs.Words.{part};
-ghost use Rattle.day_paint.specs.Stroke.{strokeNumber, strokesOfRun, strokesFrom, strokeOver, shown, cutsOf, cellsOf};
+ghost use Rattle.day_paint.specs.Stroke.{strokeNumber, strokesOfRun, strokesFrom, shown, cutsOf, cellsOf};
 
 // A simple span with its state, as one number.
 fn stroke(state: u32, span: u64) -> u64
@@ -81,29 +82,31 @@ pub fn write_strokes(
     }
 }
 
-// The state that a stroke leaves at a minute.
-fn stroke_over(x: u64, m: u64, s: u64) -> u64
-    ensures { λ r. ⌜ r ≡ strokeOver x m s ⌝ }
+// Whether a stroke covers a minute.
+fn covers(x: u64, m: u64) -> bool
+    ensures { λ r. ⌜ r ≡ leb (x / 2048 % 2048) m && ltb m (x % 2048) ⌝ }
 {
     if x / 2048 % 2048 <= m {
-        if m < x % 2048 { x / 4194304 } else { s }
+        m < x % 2048
     } else {
-        s
+        false
     }
 }
 
-// The state of the last of k strokes that covers a minute, plain Closed where none does.
+// The state of the last of k strokes that covers a minute, plain Closed where none does. What is painted over is not looked at.
 fn last_over(strokes: &[u64], k: usize, m: u64) -> u64
     requires { ⌜ k ≤ length (now strokes) ⌝ }
     ensures { λ r. ⌜ r ≡ shown 65536 (part (now (strokes .entry)) 0 k) m ⌝ }
 {
-    let mut s: u64 = 65536;
-    let mut i: usize = 0;
-    while i < k {
-        s = stroke_over(strokes[i], m, s);
-        i += 1;
+    let mut i = k;
+    while i > 0 {
+        i -= 1;
+        let x = strokes[i];
+        if covers(x, m) {
+            return x / 4194304;
+        }
     }
-    s
+    65536
 }
 
 // The cuts of k strokes; answers how many there are.
