@@ -19,15 +19,6 @@ use Rattle.words.proofs.Sets.{left-in, left-none, sets-append, part-sets, lengt
 abbrev pub Counted : List ℕ → List ℕ → ℕ → ℕ → List ℕ → Type 0
 Counted s t at r words = (t ≡ sets s at words) × (r ≡ length words)
 
-same-counted : (s t : List ℕ) (at r : ℕ) (words more : List ℕ) → words ≡ more → Counted s t at r more → Counted s t at r words
-same-counted s t at r words more e h = (h .0 ∙ ap (sets s at) (sym e), h .1 ∙ ap length (sym e))
-
-two-counted : (s t u : List ℕ) (at m r : ℕ) (first second : List ℕ) → Counted s t at m first → Counted t u (at + m) r second → Counted s u at (m + r) (first ++ second)
-two-counted s t u at m r first second h k = (
-  k .0 ∙ ap₂ (λ v n. sets v (at + n) second) (h .0) (h .1) ∙ sym (sets-append s at first second),
-  ap₂ _+_ (h .1) (k .1) ∙ sym (length-append first second),
-)
-
 module _ (s : List ℕ) (at a c x : ℕ) where
   pub run-there : a < c → x ≡ partsNumber a c 0 0 → (set s at x ≡ sets s at (runUpTo a c)) × (1 ≡ length (runUpTo a c)) × (1 ≤ 1)
   unfolding runUpTo
@@ -37,34 +28,51 @@ module _ (s : List ℕ) (at a c x : ℕ) where
   unfolding runUpTo
   run-none h = rw (le-ltb a c h) (refl, refl, omega arith)
 
-module _ (cs vs : List ℕ) (S a j n : ℕ) (s t : List ℕ) (at : ℕ) where
-  pub runs-on : j < n → getD vs j 0 ≡ S → (r : ℕ) → Counted s t at r (runsFrom cs vs S a (j + 1) (n - (j + 1))) → Counted s t at r (runsFrom cs vs S a j (n - j))
-  unfolding runsFrom
-  runs-on h e r l =
-      same-counted s t at r _ (runsFrom cs vs S a (j + 1) (n - (j + 1)))
-      (ap (runsFrom cs vs S a j) (left-in j n h) ∙ rw (eq-eqb (getD vs j 0) S e, runsFrom)) l
+-- the runs of a state, written from interval j on up to interval i: laid over what is written, the rest gives the whole
+module _ (cs vs : List ℕ) (S n : ℕ) (s₀ : List ℕ) (at a j : ℕ) where
+  pub record Going (s : List ℕ) (w b i : ℕ) : Type 0 where
+    pub laid : sets s (at + w) (runsFrom cs vs S b i (n - i)) ≡ sets s₀ at (runsFrom cs vs S a j (n - j))
+    pub counted : w + length (runsFrom cs vs S b i (n - i)) ≡ length (runsFrom cs vs S a j (n - j))
 
-  pub runs-break : j < n → (getD vs j 0 ≡ S → ⊥) → (u : List ℕ) (m r : ℕ) → Counted s u at m (runUpTo a (getD cs j 0))
-      → Counted u t (at + m) r (runsFrom cs vs S (getD cs (j + 1) 0) (j + 1) (n - (j + 1))) → Counted s t at (m + r) (runsFrom cs vs S a j (n - j))
-  unfolding runsFrom
-  runs-break h e u m r k l =
-      let first : List ℕ = runUpTo a (getD cs j 0) in
-      let rest : List ℕ = runsFrom cs vs S (getD cs (j + 1) 0) (j + 1) (n - (j + 1)) in
-      same-counted s t at (m + r) _ (first ++ rest) (ap (runsFrom cs vs S a j) (left-in j n h) ∙ rw (ne-eqb (getD vs j 0) S e, runsFrom)) (two-counted s u t at m r first rest k l)
+  pub going-start : Going s₀ 0 a j
+  going-start = let e : at + 0 ≡ at = omega arith in record { laid = ap (λ k. sets s₀ k (runsFrom cs vs S a j (n - j))) e; counted = omega arith }
 
-  pub runs-end : n ≤ j → (r : ℕ) → Counted s t at r (runUpTo a (getD cs j 0)) → Counted s t at r (runsFrom cs vs S a j (n - j))
-  unfolding runsFrom
-  runs-end h r l = same-counted s t at r _ _ (ap (runsFrom cs vs S a j) (left-none j n h)) l
+  module _ (s : List ℕ) (w b i : ℕ) where
+    same-going : (words : List ℕ) → runsFrom cs vs S b i (n - i) ≡ words → Going s w b i
+        → (sets s (at + w) words ≡ sets s₀ at (runsFrom cs vs S a j (n - j))) × (w + length words ≡ length (runsFrom cs vs S a j (n - j)))
+    same-going words e g = (ap (sets s (at + w)) (sym e) ∙ g .laid, ap (λ v. w + length v) (sym e) ∙ g .counted)
+
+    pub going-on : i < n → getD vs i 0 ≡ S → Going s w b i → Going s w b (i + 1)
+    unfolding runsFrom
+    going-on h e g =
+        let l = same-going (runsFrom cs vs S b (i + 1) (n - (i + 1))) (ap (runsFrom cs vs S b i) (left-in i n h) ∙ rw (eq-eqb (getD vs i 0) S e, runsFrom)) g in
+        record { laid = l .0; counted = l .1 }
+
+    pub going-break : i < n → (getD vs i 0 ≡ S → ⊥) → (t : List ℕ) (m : ℕ) → t ≡ sets s (at + w) (runUpTo b (getD cs i 0)) → m ≡ length (runUpTo b (getD cs i 0))
+        → Going s w b i → Going t (w + m) (getD cs (i + 1) 0) (i + 1)
+    unfolding runsFrom
+    going-break h d t m e f g =
+        let first : List ℕ = runUpTo b (getD cs i 0) in
+        let rest : List ℕ = runsFrom cs vs S (getD cs (i + 1) 0) (i + 1) (n - (i + 1)) in
+        let l = same-going (first ++ rest) (ap (runsFrom cs vs S b i) (left-in i n h) ∙ rw (ne-eqb (getD vs i 0) S d, runsFrom)) g in
+        let k : at + (w + m) ≡ at + w + length first = omega (arith, f) in
+        let q : w + m + length rest ≡ w + length (first ++ rest) = omega (arith, f, length-append first rest) in
+        record { laid = ap₂ (λ v c. sets v c rest) e k ∙ sym (sets-append s (at + w) first rest) ∙ l .0; counted = q ∙ l .1 }
+
+    pub going-end : n ≤ i → (t : List ℕ) (m : ℕ) → t ≡ sets s (at + w) (runUpTo b (getD cs i 0)) → m ≡ length (runUpTo b (getD cs i 0))
+        → Going s w b i → Counted s₀ t at (w + m) (runsFrom cs vs S a j (n - j))
+    unfolding runsFrom
+    going-end h t m e f g = let l = same-going _ (ap (runsFrom cs vs S b i) (left-none i n h)) g in (e ∙ l .0, ap (w +_) f ∙ l .1)
 
 -- ## Emptying
-module _ (vs : List ℕ) (S j n : ℕ) (t : List ℕ) where
-  pub clear-hit : j < n → getD vs j 0 ≡ S → t ≡ clearFrom (set vs j 65536) S (j + 1) (n - (j + 1)) → t ≡ clearFrom vs S j (n - j)
+module _ (vs : List ℕ) (S j n : ℕ) where
+  pub clear-hit : j < n → getD vs j 0 ≡ S → clearFrom (set vs j 65536) S (j + 1) (n - (j + 1)) ≡ clearFrom vs S j (n - j)
   unfolding clearFrom
-  clear-hit h e f = f ∙ sym (ap (clearFrom vs S j) (left-in j n h) ∙ rw (eq-eqb (getD vs j 0) S e, clearFrom))
+  clear-hit h e = sym (ap (clearFrom vs S j) (left-in j n h) ∙ rw (eq-eqb (getD vs j 0) S e, clearFrom))
 
-  pub clear-miss : j < n → (getD vs j 0 ≡ S → ⊥) → t ≡ clearFrom vs S (j + 1) (n - (j + 1)) → t ≡ clearFrom vs S j (n - j)
+  pub clear-miss : j < n → (getD vs j 0 ≡ S → ⊥) → clearFrom vs S (j + 1) (n - (j + 1)) ≡ clearFrom vs S j (n - j)
   unfolding clearFrom
-  clear-miss h e f = f ∙ sym (ap (clearFrom vs S j) (left-in j n h) ∙ rw (ne-eqb (getD vs j 0) S e, clearFrom))
+  clear-miss h e = sym (ap (clearFrom vs S j) (left-in j n h) ∙ rw (ne-eqb (getD vs j 0) S e, clearFrom))
 
   pub clear-end : n ≤ j → vs ≡ clearFrom vs S j (n - j)
   unfolding clearFrom
@@ -75,55 +83,62 @@ module _ (vs : List ℕ) (S j n : ℕ) (t : List ℕ) where
 abbrev pub Swept : List ℕ → List ℕ → ℕ → ℕ → List ℕ → List ℕ → List ℕ → Type 0
 Swept s t at r words vs left = (t ≡ sets s at words) × (r ≡ at + length words) × (vs ≡ left)
 
-module _ (cs vs : List ℕ) (class j n : ℕ) (s t us : List ℕ) (at r : ℕ) where
-  pub class-skips : j < n → (k : ℕ) → k ≡ stateClass (stateAt (getD vs j 0)) → (k ≡ class → ⊥)
-      → Swept s t at r (classWords cs class vs (j + 1) (n - (j + 1))) us (classLeft class vs (j + 1) (n - (j + 1)))
-      → Swept s t at r (classWords cs class vs j (n - j)) us (classLeft class vs j (n - j))
-  unfolding classWords classLeft isOfClass
-  class-skips h k e d l =
-      let z : eqb (stateClass (stateAt (getD vs j 0))) class ≡ false = ap (λ v. eqb v class) (sym e) ∙ ne-eqb k class d in
-      let w : classWords cs class vs j (n - j) ≡ classWords cs class vs (j + 1) (n - (j + 1)) = ap (classWords cs class vs j) (left-in j n h) ∙ rw (z, classWords) in
-      let x : classLeft class vs j (n - j) ≡ classLeft class vs (j + 1) (n - (j + 1)) = ap (classLeft class vs j) (left-in j n h) ∙ rw (z, classLeft) in
-      (l .0 ∙ ap (sets s at) (sym w), l .1 ∙ ap (λ v. at + length v) (sym w), l .2 ∙ sym x)
+-- a class, swept from interval j on up to interval i: laid over what is written, the rest gives the whole
+module _ (cs : List ℕ) (class n : ℕ) (s₀ : List ℕ) (at : ℕ) (vs₀ : List ℕ) (j : ℕ) where
+  pub record Sweeping (s : List ℕ) (place : ℕ) (vs : List ℕ) (i : ℕ) : Type 0 where
+    pub laid : sets s place (classWords cs class vs i (n - i)) ≡ sets s₀ at (classWords cs class vs₀ j (n - j))
+    pub placed : place + length (classWords cs class vs i (n - i)) ≡ at + length (classWords cs class vs₀ j (n - j))
+    pub left : classLeft class vs i (n - i) ≡ classLeft class vs₀ j (n - j)
 
-  pub class-ends : n ≤ j → Swept s s at at (classWords cs class vs j (n - j)) vs (classLeft class vs j (n - j))
-  unfolding classWords classLeft
-  class-ends h =
-      let w : classWords cs class vs j (n - j) ≡ [] = ap (classWords cs class vs j) (left-none j n h) in
-      let z : at ≡ at + 0 = omega arith in
-      (sym (ap (sets s at) w), z ∙ sym (ap (λ v. at + length v) w), sym (ap (classLeft class vs j) (left-none j n h)))
+  pub sweeping-start : Sweeping s₀ at vs₀ j
+  sweeping-start = record { laid = refl; placed = refl; left = refl }
 
-  module _ (h : j < n) (k : ℕ) (e : k ≡ stateClass (stateAt (getD vs j 0))) (d : k ≡ class)
-      (buf buf₁ : List ℕ) (m : ℕ) (runs : Counted buf buf₁ 0 m (runsFrom cs vs (getD vs j 0) (getD cs j 0) j (n - j))) (room : m ≤ length buf)
-      (s₁ : List ℕ) (next : ℕ) (entry : (s₁ ≡ sets s at (entryWords (getD vs j 0) (part buf₁ 0 m))) × (next ≡ at + 2 + m))
-      (vs₁ : List ℕ) (cleared : vs₁ ≡ clearFrom vs (getD vs j 0) j (n - j)) where
-    abbrev spans : List ℕ
-    spans = runsFrom cs vs (getD vs j 0) (getD cs j 0) j (suc (n - (j + 1)))
+  module _ (s : List ℕ) (place : ℕ) (vs : List ℕ) (i : ℕ) (g : Sweeping s place vs i) where
+    pub sweeping-ends : n ≤ i → Swept s₀ s at place (classWords cs class vs₀ j (n - j)) vs (classLeft class vs₀ j (n - j))
+    unfolding classWords classLeft
+    sweeping-ends h =
+        let w : classWords cs class vs i (n - i) ≡ [] = ap (classWords cs class vs i) (left-none i n h) in
+        let z : place ≡ place + 0 = omega arith in
+        (sym (ap (sets s place) w) ∙ g .laid, z ∙ sym (ap (λ v. place + length v) w) ∙ g .placed, sym (ap (classLeft class vs i) (left-none i n h)) ∙ g .left)
 
-    read : part buf₁ 0 m ≡ spans
-    read =
-        let z : runsFrom cs vs (getD vs j 0) (getD cs j 0) j (n - j) ≡ spans = ap (runsFrom cs vs (getD vs j 0) (getD cs j 0) j) (left-in j n h) in
-        ap₂ (λ v i. part v 0 i) (runs .0) (runs .1) ∙ part-sets buf 0 _ (omega (arith, runs .1, room)) ∙ z
+    module _ (h : i < n) (k : ℕ) (e : k ≡ stateClass (stateAt (getD vs i 0))) where
+      pub sweeping-skips : (k ≡ class → ⊥) → Sweeping s place vs (i + 1)
+      unfolding classWords classLeft isOfClass
+      sweeping-skips d =
+          let z : eqb (stateClass (stateAt (getD vs i 0))) class ≡ false = ap (λ v. eqb v class) (sym e) ∙ ne-eqb k class d in
+          let w : classWords cs class vs i (n - i) ≡ classWords cs class vs (i + 1) (n - (i + 1)) = ap (classWords cs class vs i) (left-in i n h) ∙ rw (z, classWords) in
+          let x : classLeft class vs i (n - i) ≡ classLeft class vs (i + 1) (n - (i + 1)) = ap (classLeft class vs i) (left-in i n h) ∙ rw (z, classLeft) in
+          record { laid = ap (sets s place) (sym w) ∙ g .laid; placed = ap (λ v. place + length v) (sym w) ∙ g .placed; left = sym x ∙ g .left }
 
-    pub class-takes : Swept s₁ t next r (classWords cs class vs₁ (j + 1) (n - (j + 1))) us (classLeft class vs₁ (j + 1) (n - (j + 1)))
-        → Swept s t at r (classWords cs class vs j (n - j)) us (classLeft class vs j (n - j))
-    unfolding classWords classLeft isOfClass entryWords
-    class-takes l =
-        let S = getD vs j 0 in
-        let z : eqb (stateClass (stateAt (getD vs j 0))) class ≡ true = ap (λ v. eqb v class) (sym e) ∙ eq-eqb k class d in
-        let c : vs₁ ≡ clearFrom vs (getD vs j 0) j (suc (n - (j + 1))) = cleared ∙ ap (clearFrom vs (getD vs j 0) j) (left-in j n h) in
-        let more : List ℕ = classWords cs class (clearFrom vs (getD vs j 0) j (suc (n - (j + 1)))) (j + 1) (n - (j + 1)) in
-        let w : classWords cs class vs j (n - j) ≡ entryWords (getD vs j 0) spans ++ classWords cs class vs₁ (j + 1) (n - (j + 1)) =
-        ap (classWords cs class vs j) (left-in j n h) ∙ rw (z, classWords) (ap (λ v. entryWords (getD vs j 0) spans ++ classWords cs class v (j + 1) (n - (j + 1))) (sym c)) in
-        let x : classLeft class vs j (n - j) ≡ classLeft class vs₁ (j + 1) (n - (j + 1)) =
-        ap (classLeft class vs j) (left-in j n h) ∙ rw (z, classLeft) (ap (λ v. classLeft class v (j + 1) (n - (j + 1))) (sym c)) in
-        let first : s₁ ≡ sets s at (entryWords (getD vs j 0) spans) = entry .0 ∙ ap (λ v. sets s at (entryWords (getD vs j 0) v)) read in
-        let size : next ≡ at + length (entryWords (getD vs j 0) spans) = omega (arith, entry .1, sym (ap length read) ∙ length-part buf₁ 0 m) in (
-          l .0 ∙ ap₂ (λ v i. sets v i (classWords cs class vs₁ (j + 1) (n - (j + 1)))) first size
-              ∙ sym (sets-append s at (entryWords (getD vs j 0) spans) (classWords cs class vs₁ (j + 1) (n - (j + 1)))) ∙ ap (sets s at) (sym w),
-          l .1 ∙ omega (arith, size, length-append (entryWords (getD vs j 0) spans) (classWords cs class vs₁ (j + 1) (n - (j + 1))), ap length w),
-          l .2 ∙ sym x,
-        )
+      module _ (d : k ≡ class) (buf buf₁ : List ℕ) (m : ℕ) (runs : Counted buf buf₁ 0 m (runsFrom cs vs (getD vs i 0) (getD cs i 0) i (n - i))) (room : m ≤ length buf)
+          (s₁ : List ℕ) (next : ℕ) (entry : (s₁ ≡ sets s place (entryWords (getD vs i 0) (part buf₁ 0 m))) × (next ≡ place + 2 + m))
+          (vs₁ : List ℕ) (cleared : vs₁ ≡ clearFrom vs (getD vs i 0) i (n - i)) where
+        abbrev spans : List ℕ
+        spans = runsFrom cs vs (getD vs i 0) (getD cs i 0) i (suc (n - (i + 1)))
+
+        read : part buf₁ 0 m ≡ spans
+        read =
+            let z : runsFrom cs vs (getD vs i 0) (getD cs i 0) i (n - i) ≡ spans = ap (runsFrom cs vs (getD vs i 0) (getD cs i 0) i) (left-in i n h) in
+            ap₂ (λ v c. part v 0 c) (runs .0) (runs .1) ∙ part-sets buf 0 _ (omega (arith, runs .1, room)) ∙ z
+
+        pub sweeping-takes : Sweeping s₁ next vs₁ (i + 1)
+        unfolding classWords classLeft isOfClass entryWords
+        sweeping-takes =
+            let z : eqb (stateClass (stateAt (getD vs i 0))) class ≡ true = ap (λ v. eqb v class) (sym e) ∙ eq-eqb k class d in
+            let c : vs₁ ≡ clearFrom vs (getD vs i 0) i (suc (n - (i + 1))) = cleared ∙ ap (clearFrom vs (getD vs i 0) i) (left-in i n h) in
+            let word : List ℕ = entryWords (getD vs i 0) spans in
+            let more : List ℕ = classWords cs class vs₁ (i + 1) (n - (i + 1)) in
+            let w : classWords cs class vs i (n - i) ≡ word ++ more =
+            ap (classWords cs class vs i) (left-in i n h) ∙ rw (z, classWords) (ap (λ v. entryWords (getD vs i 0) spans ++ classWords cs class v (i + 1) (n - (i + 1))) (sym c)) in
+            let x : classLeft class vs i (n - i) ≡ classLeft class vs₁ (i + 1) (n - (i + 1)) =
+            ap (classLeft class vs i) (left-in i n h) ∙ rw (z, classLeft) (ap (λ v. classLeft class v (i + 1) (n - (i + 1))) (sym c)) in
+            let first : s₁ ≡ sets s place word = entry .0 ∙ ap (λ v. sets s place (entryWords (getD vs i 0) v)) read in
+            let size : next ≡ place + length word = omega (arith, entry .1, sym (ap length read) ∙ length-part buf₁ 0 m) in
+            record {
+              laid = ap₂ (λ v c. sets v c more) first size ∙ sym (sets-append s place word more) ∙ ap (sets s place) (sym w) ∙ g .laid;
+              placed = omega (arith, size, length-append word more, ap length w, g .placed);
+              left = sym x ∙ g .left;
+            }
 
 -- ## Class after class
 module _ (cs vs : List ℕ) (n class : ℕ) (s : List ℕ) (at : ℕ) where

@@ -36,17 +36,19 @@ fn write_runs(
     ensures { λ r. ⌜ (now (buf .exit) ≡ sets (now (buf .entry)) at (runsFrom (now (cuts .entry)) (now (cells .entry)) s a j (n - j)))
         × (r ≡ length (runsFrom (now (cuts .entry)) (now (cells .entry)) s a j (n - j))) × (r ≤ n - j + 1) ⌝ }
 {
-    let c = cuts[j];
-    if j < n {
-        if cells[j] == s {
-            return write_runs(buf, at, cuts, cells, s, a, j + 1, n);
+    let mut i = j;
+    let mut from = a;
+    let mut written: usize = 0;
+    while i < n {
+        if cells[i] == s {
+            i += 1;
+            continue;
         }
-        let d = cuts[j + 1];
-        let m = write_run(buf, at, a, c);
-        let r = write_runs(buf, at + m, cuts, cells, s, d, j + 1, n);
-        return m + r;
+        written += write_run(buf, at + written, from, cuts[i]);
+        i += 1;
+        from = cuts[i];
     }
-    write_run(buf, at, a, c)
+    written + write_run(buf, at + written, from, cuts[i])
 }
 
 // Empties the cells of a state from j on.
@@ -54,13 +56,14 @@ fn clear(cells: &mut [u64], s: u64, j: usize, n: usize)
     requires { ⌜ n ≤ length (now cells) ⌝ }
     ensures { λ _. ⌜ now (cells .exit) ≡ clearFrom (now (cells .entry)) s j (n - j) ⌝ }
 {
-    if j < n {
-        if cells[j] == s {
-            cells[j] = 65536;
-            clear(cells, s, j + 1, n);
-        } else {
-            clear(cells, s, j + 1, n);
+    let mut i = j;
+    while i < n {
+        if cells[i] != s {
+            i += 1;
+            continue;
         }
+        cells[i] = 65536;
+        i += 1;
     }
 }
 
@@ -82,18 +85,21 @@ fn sweep_class(
         × (r ≡ at + length (classWords (now (cuts .entry)) class (now (cells .entry)) j (n - j)))
         × (now (cells .exit) ≡ classLeft class (now (cells .entry)) j (n - j)) × (r ≤ at + (n - j) * 65539) ⌝ }
 {
-    if j < n {
-        let s = cells[j];
-        if state_class(s) == class {
-            let c = cuts[j];
-            let r = write_runs(buf, 0, cuts, cells, s, c, j, n);
-            let next = write_entry(out, at, s, buf, r);
-            clear(cells, s, j, n);
-            return sweep_class(out, next, buf, cuts, cells, class, j + 1, n);
+    let mut i = j;
+    let mut place = at;
+    while i < n {
+        let s = cells[i];
+        if state_class(s) != class {
+            i += 1;
+            continue;
         }
-        return sweep_class(out, at, buf, cuts, cells, class, j + 1, n);
+        let c = cuts[i];
+        let r = write_runs(buf, 0, cuts, cells, s, c, i, n);
+        place = write_entry(out, place, s, buf, r);
+        clear(cells, s, i, n);
+        i += 1;
     }
-    at
+    place
 }
 
 // The painted states, class after class from this one on; answers the place after them.
