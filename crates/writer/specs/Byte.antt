@@ -1,7 +1,7 @@
--- A byte with one of its bits made another.
+-- A byte with some of its bits made others.
 -- Assumes nothing.
-use Prim.Native.Nat.{ℕ, _+_, _*_, _-_, _/_, _%_, _^_}
+use Prim.Native.Nat.{ℕ, _+_, _*_, _/_, _%_, _^_}
 
--- what stands above the place, the bit, what stands below
-unfoldable pub byteWith : ℕ → ℕ → ℕ → ℕ
-byteWith byte place bit = byte / 2 ^ (8 - place) * 2 ^ (8 - place) + bit * 2 ^ (7 - place) + byte % 2 ^ (7 - place)
+-- what stands above the last `from` bits, the number, the last `to` bits
+unfoldable pub byteWith : ℕ → ℕ → ℕ → ℕ → ℕ
+byteWith byte from to number = byte / 2 ^ from * 2 ^ from + number * 2 ^ to + byte % 2 ^ to

@@ -1,4 +1,4 @@
--- `writer::copy_bits` meets its contract, by the invariant of `put_field`.
+-- `writer::copy_bits` meets its contract, bit after bit. The loop's invariant: storing the bits still ahead leaves what storing them all leaves.
 -- Assumes nothing.
 use mathlib.Core.Path.{_≡_, refl, ap, _∙_}
 use Prim.Native.Nat.{_+_, _-_, _≤_}
@@ -8,7 +8,7 @@ use lib.Seq.{sets}
 use Rattle.definition.specs.Field.{sheetBits}
 use Rattle.definition.proofs.Bits.{length-sheetBits}
 use Rattle.field.proofs.FieldAt.{field-below, known-bytes}
-use Rattle.writer.proofs.Storing.{store-first, store-next, store-end, slice-length, slice-bit}
+use Rattle.writer.proofs.Storing.{store-first, store-next, store-end, one-bit, slice-length, slice-bit}
 use Rattle.writer.proofs.copy_bits.Statement.{statement}
 use Rattle.writer.proofs.copy_bits.Tie as tie
 
@@ -28,8 +28,8 @@ loop-again c =
     let long = slice-length s (args .from) (args .count) (omega (arith, length-sheetBits (args .sheet .now))) in
     let bit = c .before .before .before .field-at .ensures ∙ slice-bit s (args .from) (args .count) (old .i) (omega arith) (omega (arith, length-sheetBits (args .sheet .now))) in (
       omega arith,
-      omega (arith, c .before .before .put-bit .kept, old .inv .1),
-      ap (λ l. sets l (args .at + (old .i + 1)) (drop (old .i + 1) (take (args .count) (drop (args .from) s)))) (c .before .before .put-bit .ensures)
+      omega (arith, c .before .before .put-in-byte .kept, old .inv .1),
+      ap (λ l. sets l (args .at + (old .i + 1)) (drop (old .i + 1) (take (args .count) (drop (args .from) s)))) (c .before .before .put-in-byte .ensures ∙ ap (sets (sheetBits (old .out)) (args .at + old .i)) (one-bit _))
           ∙ store-next (take (args .count) (drop (args .from) s)) (sheetBits (old .out)) (args .at) (old .i) _ (omega (arith, long)) bit ∙ old .inv .2,
     )
 
@@ -40,17 +40,12 @@ returns c =
     let long = slice-length s (args .from) (args .count) (omega (arith, length-sheetBits (args .sheet .now))) in
     store-end (take (args .count) (drop (args .from) s)) (sheetBits (c .before .loop .out)) (args .at) (c .before .loop .i) (omega (arith, long)) ∙ c .before .loop .inv .2
 
--- a field of one bit fits a byte, and is a bit
-cast-put-bit : tie.Need-cast-put-bit Inv-loop μ-loop
-cast-put-bit c =
-    let args = c .before .before .before .before .before .before .args in
-    let bytes = known-bytes (args .sheet .now) (λ j. omega (arith, c .before .before .before .before .before .shared-slice-known .given j)) in
-    omega (arith, c .field-at .ensures, field-below (args .sheet .now) bytes (args .from + c .before .before .before .loop .i) 1 (omega arith))
-
-put-bit-requires : tie.Need-put-bit-requires Inv-loop μ-loop
-put-bit-requires c κs =
+-- a field of one bit is a bit
+put-in-byte-requires : tie.Need-put-in-byte-requires Inv-loop μ-loop
+put-in-byte-requires c κs =
     let args = c .before .before .before .before .before .before .args in
     let bytes = known-bytes (args .sheet .now) (λ j. omega (arith, c .before .before .before .before .before .shared-slice-known .given j)) in (
+      omega arith,
       omega (arith, c .before .before .before .loop .inv .1),
       omega (arith, c .field-at .ensures, field-below (args .sheet .now) bytes (args .from + c .before .before .before .loop .i) 1 (omega arith)),
     )
@@ -58,5 +53,5 @@ put-bit-requires c κs =
 pub copy-bits-spec : {M : Type 1} → statement M
 copy-bits-spec =
     tie.close
-    (tie.spec Inv-loop μ-loop (λ c. let args = c .before .before .args in (omega arith, refl, store-first (take (args .count) (drop (args .from) (sheetBits (args .sheet .now)))) (sheetBits (args .out .now)) (args .at))) (λ c. omega arith) (λ c. omega arith) (λ c κs. omega arith) cast-put-bit put-bit-requires (λ c. omega arith)
+    (tie.spec Inv-loop μ-loop (λ c. let args = c .before .before .args in (omega arith, refl, store-first (take (args .count) (drop (args .from) (sheetBits (args .sheet .now)))) (sheetBits (args .out .now)) (args .at))) (λ c. omega arith) (λ c. omega arith) (λ c κs. omega arith) put-in-byte-requires (λ c. omega arith)
     (λ c. omega arith) loop-again (λ c. c .before .loop .inv .1) returns)
