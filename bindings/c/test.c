@@ -1,0 +1,133 @@
+/* The header held against the archive: every function called with every sort of slice. Compiles as C and as C++. */
+#include <stdio.h>
+#include <stdlib.h>
+#include <string.h>
+
+#include "hours.h"
+
+/* What stands in a lent slice before a call, so that a write shows. */
+enum { PAINT = 0xC3 };
+
+static int failures = 0;
+
+static void check(bool holds, const char *what)
+{
+    if (!holds) {
+        printf("does not hold: %s\n", what);
+        failures++;
+    }
+}
+
+#define CHECK(condition) check(condition, #condition)
+
+static bool painted(const void *memory, size_t length)
+{
+    const unsigned char *bytes = (const unsigned char *)memory;
+
+    for (size_t i = 0; i < length; i++) {
+        if (bytes[i] != PAINT) {
+            return false;
+        }
+    }
+    return true;
+}
+
+/* One Normal Open rule, 00:00-24:00. */
+static const uint8_t always[] = {0x00, 0x01, 0x00, 0x00, 0x00, 0x00, 0x00, 0x00, 0x00, 0x00, 0x04, 0x00, 0x05, 0xA0, 0x00};
+
+static uint8_t out[sizeof always + 1];
+static uint64_t numbers[HOURS_FOLD_NUMBERS + 1];
+
+static void paint(void)
+{
+    memset(out, PAINT, sizeof out);
+    memset(numbers, PAINT, sizeof numbers);
+}
+
+static bool numbers_painted_from(size_t first)
+{
+    return painted(numbers + first, sizeof numbers - first * sizeof numbers[0]);
+}
+
+static void test_fold(void)
+{
+    paint();
+    CHECK(hours_fold(always, sizeof always, out, sizeof out, numbers, HOURS_FOLD_NUMBERS + 1));
+    CHECK(numbers[HOURS_FOLD_CODE] == HOURS_DONE);
+    CHECK(numbers[HOURS_FOLD_DRAINED] == 1);
+    CHECK(numbers[HOURS_FOLD_EMITTED] == 1);
+    CHECK(numbers[HOURS_FOLD_LEFT] == 0);
+    CHECK(numbers[HOURS_FOLD_BYTES] == sizeof always);
+    CHECK(numbers[HOURS_FOLD_PLACE] == 0);
+    CHECK(numbers_painted_from(HOURS_FOLD_NUMBERS));
+    CHECK(memcmp(out, always, sizeof always) == 0);
+    CHECK(out[sizeof always] == PAINT);
+
+    paint();
+    CHECK(hours_fold(always, sizeof always, out, sizeof always - 1, numbers, HOURS_FOLD_NUMBERS));
+    CHECK(numbers[HOURS_FOLD_CODE] == HOURS_NO_ROOM);
+    CHECK(numbers[HOURS_FOLD_PLACE] == sizeof always);
+    CHECK(painted(out, sizeof out));
+
+    paint();
+    CHECK(!hours_fold(always, sizeof always, out, sizeof out, numbers, HOURS_FOLD_NUMBERS - 1));
+    CHECK(painted(out, sizeof out) && numbers_painted_from(0));
+}
+
+static void test_lookup(void)
+{
+    paint();
+    CHECK(hours_lookup(always, sizeof always, 2000, 2, 29, 1439, numbers, HOURS_LOOKUP_NUMBERS));
+    CHECK(numbers[HOURS_LOOKUP_CODE] == HOURS_DONE);
+    CHECK(numbers[HOURS_LOOKUP_KIND] == HOURS_OPEN);
+    CHECK(numbers[HOURS_LOOKUP_COMMENT] == 0);
+    CHECK(numbers[HOURS_LOOKUP_PLACE] == 0);
+    CHECK(numbers_painted_from(HOURS_LOOKUP_NUMBERS));
+
+    CHECK(hours_lookup(always, sizeof always, 1900, 2, 29, 1439, numbers, HOURS_LOOKUP_NUMBERS));
+    CHECK(numbers[HOURS_LOOKUP_CODE] == HOURS_NO_DATE);
+
+    paint();
+    CHECK(!hours_lookup(always, sizeof always, 2000, 2, 29, 1439, numbers, HOURS_LOOKUP_NUMBERS - 1));
+    CHECK(numbers_painted_from(0));
+}
+
+static void test_write_back(void)
+{
+    paint();
+    CHECK(hours_write_back(always, sizeof always, out, sizeof out, numbers, HOURS_WRITE_BACK_NUMBERS));
+    CHECK(numbers[HOURS_WRITE_BACK_CODE] == HOURS_DONE);
+    CHECK(numbers[HOURS_WRITE_BACK_BYTES] == sizeof always);
+    CHECK(numbers[HOURS_WRITE_BACK_PLACE] == 0);
+    CHECK(numbers_painted_from(HOURS_WRITE_BACK_NUMBERS));
+    CHECK(memcmp(out, always, sizeof always) == 0);
+    CHECK(out[sizeof always] == PAINT);
+
+    paint();
+    CHECK(!hours_write_back(always, sizeof always, out, sizeof out, numbers, HOURS_WRITE_BACK_NUMBERS - 1));
+    CHECK(painted(out, sizeof out) && numbers_painted_from(0));
+}
+
+static void test_null(void)
+{
+    CHECK(hours_fold(NULL, 0, NULL, 0, numbers, HOURS_FOLD_NUMBERS));
+    CHECK(numbers[HOURS_FOLD_CODE] == HOURS_PAST_END);
+    CHECK(numbers[HOURS_FOLD_PLACE] == 0);
+
+    CHECK(hours_fold(always, sizeof always, NULL, 0, numbers, HOURS_FOLD_NUMBERS));
+    CHECK(numbers[HOURS_FOLD_CODE] == HOURS_NO_ROOM);
+    CHECK(numbers[HOURS_FOLD_PLACE] == sizeof always);
+
+    CHECK(!hours_fold(NULL, 0, NULL, 0, NULL, 0));
+    CHECK(!hours_lookup(NULL, 0, 2000, 2, 29, 0, NULL, 0));
+    CHECK(!hours_write_back(NULL, 0, NULL, 0, NULL, 0));
+}
+
+int main(void)
+{
+    test_fold();
+    test_lookup();
+    test_write_back();
+    test_null();
+    return failures == 0 ? EXIT_SUCCESS : EXIT_FAILURE;
+}

@@ -1,0 +1,45 @@
+#!/usr/bin/env bash
+# Compiles and runs the examples and tests of the C header and of the Rust crate. Fails unless both examples print what document 01 says.
+# `HOURS_ARCHIVE` names the folder of libhours.a; without it, that of `rt staticlib hours`, which makes the archive if it is missing.
+set -euo pipefail
+cd "$(dirname "$0")/.."
+
+strict=(-Wall -Wextra -Wpedantic -Werror -Iinclude)
+manifest=bindings/rust/Cargo.toml
+programs=target/bindings
+expected='code 0 drained 1 emitted 1 left 0 bytes 15 place 0
+00010000000000000000040005A000'
+
+expect() {
+    local name=$1 printed
+    shift
+    printed=$("$@")
+    if [ "$printed" != "$expected" ]; then
+        printf '%s printed:\n%s\nbut document 01 says:\n%s\n' "$name" "$printed" "$expected" >&2
+        exit 1
+    fi
+    echo "$name: printed as document 01 says"
+}
+
+if [ -z "${HOURS_ARCHIVE:-}" ] && [ ! -f target/staticlib/libhours.a ]; then
+    rt staticlib hours
+fi
+HOURS_ARCHIVE=$(realpath "${HOURS_ARCHIVE:-target/staticlib}")
+export HOURS_ARCHIVE
+archive=$HOURS_ARCHIVE/libhours.a
+mkdir -p "$programs"
+
+gcc -std=c11 "${strict[@]}" bindings/c/example.c "$archive" -o "$programs/example"
+expect 'the C example' "$programs/example"
+
+gcc -std=c11 "${strict[@]}" bindings/c/test.c "$archive" -o "$programs/test"
+"$programs/test"
+echo 'the C tests: passed'
+
+g++ -std=c++11 "${strict[@]}" -x c++ bindings/c/test.c -x none "$archive" -o "$programs/test++"
+"$programs/test++"
+echo 'the C tests as C++: passed'
+
+expect 'the Rust example' cargo run --quiet --manifest-path "$manifest" --example fold
+cargo test --quiet --manifest-path "$manifest"
+echo 'the Rust tests: passed'

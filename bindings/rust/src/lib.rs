@@ -1,0 +1,163 @@
+//! The fold of landing-site hours: a safe crate over the proved archive `libhours.a`.
+//!
+//! A packed sheet holds rules, one changing another. [`fold`] folds them up to the first one that can't be folded exactly and copies
+//! those from there on; [`lookup`] tells the state at a minute; [`write_back`] reads a sheet and writes it again. What each answers is
+//! proved for every byte string, date and buffer, so a sheet may hold anything. include/hours.h says the same for C.
+//!
+//! Nothing is kept between calls and nothing is allocated: threads may call at once. The stack must have [`STACK`] bytes left.
+//!
+//! ```
+//! // One Normal Open rule, 00:00-24:00.
+//! let sheet = [0, 1, 0, 0, 0, 0, 0, 0, 0, 0, 4, 0, 5, 0xA0, 0];
+//! let mut out = [0; 64];
+//!
+//! let folded = hours::fold(&sheet, &mut out)?;
+//! assert_eq!(out[..folded.bytes], sheet);
+//!
+//! let date = hours::Date { year: 2000, month: 2, day: 29 };
+//! assert_eq!(hours::lookup(&sheet, date, 720)?.kind, hours::Kind::Open);
+//! # Ok::<(), hours::Refusal>(())
+//! ```
+
+#![no_std]
+#![deny(missing_docs, unsafe_code)]
+
+#[allow(unsafe_code)]
+mod archive;
+mod refusal;
+
+pub use refusal::Refusal;
+
+/// Bytes of stack for a call: more than any took that was measured (oracle/README.md, "The bench").
+pub const STACK: usize = 2_000_000;
+
+/// What a fold did. The folded sheet stands in the first `bytes` bytes of the buffer.
+#[derive(Clone, Copy, Debug, PartialEq, Eq)]
+pub struct Folded {
+    /// Rules before the first one that can't be folded exactly.
+    pub drained: usize,
+    /// Rules that these were folded to.
+    pub emitted: usize,
+    /// Rules copied as they came, from the first one that can't be folded on.
+    pub left: usize,
+    /// Bytes written.
+    pub bytes: usize,
+}
+
+/// A Gregorian date, from year 1900 to 9999. Months and days count from 1.
+#[derive(Clone, Copy, Debug, PartialEq, Eq)]
+pub struct Date {
+    /// The year.
+    pub year: u16,
+    /// The month.
+    pub month: u8,
+    /// The day of the month.
+    pub day: u8,
+}
+
+/// What a moment is.
+#[derive(Clone, Copy, Debug, PartialEq, Eq)]
+pub enum Kind {
+    /// Open.
+    Open,
+    /// Closed.
+    Closed,
+    /// Not known.
+    Unknown,
+}
+
+impl Kind {
+    /// The kind of a number from 0 to 2. The archive tells no other.
+    fn of(number: u64) -> Self {
+        match number {
+            0 => Self::Open,
+            1 => Self::Closed,
+            2 => Self::Unknown,
+            _ => unreachable!("the archive tells no kind {number}"),
+        }
+    }
+}
+
+/// What a moment is, and the number of the comment on it, 0 for none.
+#[derive(Clone, Copy, Debug, PartialEq, Eq)]
+pub struct State {
+    /// Whether it is open.
+    pub kind: Kind,
+    /// The comment's number.
+    pub comment: u16,
+}
+
+/// Folds a sheet's rules up to the first one that can't be folded exactly, and copies the rules from there on.
+///
+/// The result stands at the front of `out`, and later bytes are unchanged. It may be longer than the sheet; an empty `out` is refused
+/// with the bytes needed.
+///
+/// # Errors
+///
+/// Any refusal by codes 1 to 7, the first reason met. `out` is then unchanged.
+pub fn fold(sheet: &[u8], out: &mut [u8]) -> Result<Folded, Refusal> {
+    let [code, drained, emitted, left, bytes, place] =
+        numbers(|lent| archive::fold(sheet, out, lent));
+
+    done(code, place)?;
+    Ok(Folded {
+        drained: size(drained),
+        emitted: size(emitted),
+        left: size(left),
+        bytes: size(bytes),
+    })
+}
+
+/// The state at a minute of a date, 0 to 1439, by a sheet without a rule that can't be folded exactly: that of the last span that
+/// covers the minute, else closed without a comment.
+///
+/// # Errors
+///
+/// Any refusal by codes 1 to 6, 8 and 9, the first reason met.
+pub fn lookup(sheet: &[u8], date: Date, minute: u16) -> Result<State, Refusal> {
+    let moment = [
+        date.year.into(),
+        date.month.into(),
+        date.day.into(),
+        minute.into(),
+    ];
+    let [code, kind, comment, place] = numbers(|lent| archive::lookup(sheet, moment, lent));
+
+    done(code, place)?;
+    Ok(State {
+        kind: Kind::of(kind),
+        comment: u16::try_from(comment).expect("a comment has 16 bits in a sheet"),
+    })
+}
+
+/// Reads a sheet and writes it again, to the front of `out`, and answers the bytes written; later bytes are unchanged. An accepted
+/// sheet comes back byte for byte.
+///
+/// # Errors
+///
+/// Any refusal by codes 1 to 4 and 7, the first reason met. `out` is then unchanged.
+pub fn write_back(sheet: &[u8], out: &mut [u8]) -> Result<usize, Refusal> {
+    let [code, bytes, place] = numbers(|lent| archive::write_back(sheet, out, lent));
+
+    done(code, place)?;
+    Ok(size(bytes))
+}
+
+/// The numbers that an export of the archive puts into a slice lent to it. The caller takes as many as the export tells.
+fn numbers<const COUNT: usize>(export: impl FnOnce(&mut [u64]) -> bool) -> [u64; COUNT] {
+    let mut lent = [0; COUNT];
+    assert!(export(&mut lent), "{COUNT} numbers are enough");
+    lent
+}
+
+fn done(code: u64, place: u64) -> Result<(), Refusal> {
+    match code {
+        0 => Ok(()),
+        _ => Err(Refusal::of(code, size(place))),
+    }
+}
+
+/// A count, or an index. The archive is x86-64 code, so a `usize` has 64 bits beside it.
+fn size(number: u64) -> usize {
+    number as usize
+}

@@ -1,0 +1,168 @@
+//! Document 01's worked days, and a refusal by each code. The sheets are those of crates/definition/specs/Worked.antt.
+
+mod common;
+
+use common::bytes;
+use hours::{Date, Folded, Kind, Refusal, State, fold, lookup, write_back};
+
+const PAINT: u8 = 0xC3;
+const ROOM: usize = 256;
+
+/// One Normal Open rule, 00:00-24:00.
+const ALWAYS: &str = "00010000000000000000040005A000";
+const P2: &str = "0002000000000000001004200007FE25821C020000000000000200890000FFC5A030C0";
+const P2_FOLDED: &str =
+    "0002000000000000002004000007FE500003FF12C10E0000000000000001008480007FE258168030C21C00";
+/// Additional Open, 10:00-12:00 with `open_end`.
+const P9: &str = "0001400000000000002004100007FE2C0003FF12C0B420";
+/// Fr-Th 10:00-18:00, then weeks 1-3 with a step of 2, which stops.
+const LEAVES: &str = "0002000000000000001005180007FE25821C00000000000008000082181096087000";
+const LEAVES_FOLDED: &str = "00020000000000000000044B04380000000000001000010430212C10E0";
+/// Intervals of weekday 1, week 9, month 8, year 16.
+const BOXES_1152: &str = "000100000020040100000476C1DB0000476E1DB800047701DC000047721DC800047741DD000047761DD800047781DE0000477A1DE80004110CC551DC208044100461804820044B043800";
+/// 33 entries on a point after the second rule.
+const ENTRIES_33: &str = "0002000000000000001004000007FE25821C0800000001600006008220882208822088220882208822240003FF120001FF890000FFC4B04380";
+
+const LEAP_DAY: Date = Date {
+    year: 2000,
+    month: 2,
+    day: 29,
+};
+
+/// A fold that is done, with bytes to spare, exactly enough, and one too few.
+fn folds(sheet: &str, result: &str, [drained, emitted, left]: [usize; 3]) {
+    let (sheet, result) = (bytes(sheet), bytes(result));
+    let needed = result.len();
+
+    let mut out = [PAINT; ROOM];
+    let folded = Folded {
+        drained,
+        emitted,
+        left,
+        bytes: needed,
+    };
+    assert_eq!(fold(&sheet, &mut out), Ok(folded));
+    assert_eq!(out[..needed], result);
+    assert!(out[needed..].iter().all(|byte| *byte == PAINT));
+
+    let mut full = vec![PAINT; needed];
+    assert_eq!(fold(&sheet, &mut full), Ok(folded));
+    assert_eq!(full, result);
+
+    let mut short = vec![PAINT; needed - 1];
+    assert_eq!(fold(&sheet, &mut short), Err(Refusal::NoRoom { needed }));
+    assert!(short.iter().all(|byte| *byte == PAINT));
+    assert_eq!(fold(&sheet, &mut []), Err(Refusal::NoRoom { needed }));
+}
+
+fn fold_refused(sheet: &str) -> Refusal {
+    let mut out = [PAINT; ROOM];
+    let refusal = fold(&bytes(sheet), &mut out).expect_err("the fold is refused");
+    assert_eq!(out, [PAINT; ROOM]);
+    refusal
+}
+
+/// A sheet that the reader refuses is refused by every function.
+fn unreadable(sheet: &str, refusal: Refusal) {
+    assert_eq!(fold_refused(sheet), refusal);
+    assert_eq!(lookup(&bytes(sheet), LEAP_DAY, 0), Err(refusal));
+
+    let mut out = [PAINT; ROOM];
+    assert_eq!(write_back(&bytes(sheet), &mut out), Err(refusal));
+    assert_eq!(out, [PAINT; ROOM]);
+}
+
+#[test]
+fn worked_days_fold() {
+    folds("0000", "0000", [0, 0, 0]);
+    folds(ALWAYS, ALWAYS, [1, 1, 0]);
+    folds(P2, P2_FOLDED, [2, 2, 0]);
+    folds(LEAVES, LEAVES_FOLDED, [1, 1, 1]);
+}
+
+#[test]
+fn an_accepted_sheet_is_written_back() {
+    for sheet in ["0000", ALWAYS, P2, P9, LEAVES, BOXES_1152, ENTRIES_33] {
+        let sheet = bytes(sheet);
+        let needed = sheet.len();
+
+        let mut out = [PAINT; ROOM];
+        assert_eq!(write_back(&sheet, &mut out), Ok(needed));
+        assert_eq!(out[..needed], sheet);
+        assert!(out[needed..].iter().all(|byte| *byte == PAINT));
+
+        let mut short = vec![PAINT; needed - 1];
+        assert_eq!(
+            write_back(&sheet, &mut short),
+            Err(Refusal::NoRoom { needed })
+        );
+        assert!(short.iter().all(|byte| *byte == PAINT));
+    }
+}
+
+#[test]
+fn unreadable_sheets_are_refused() {
+    unreadable("", Refusal::PastEnd { bit: 0 });
+    unreadable("00", Refusal::PastEnd { bit: 0 });
+    unreadable("0001C0000000000000000000", Refusal::Unlawful { bit: 16 });
+    unreadable(
+        "00010000000000000000040005A001",
+        Refusal::BadEnd { bit: 119 },
+    );
+    unreadable("000000", Refusal::BadEnd { bit: 16 });
+    unreadable("0041", Refusal::OverLimit { bit: 0 });
+}
+
+#[test]
+fn sheets_past_a_limit_of_the_fold_are_refused() {
+    for (sheet, refusal) in [
+        (BOXES_1152, Refusal::ManyBoxes { boxes: 1152 }),
+        (ENTRIES_33, Refusal::LongList { rule: 1 }),
+    ] {
+        assert_eq!(fold_refused(sheet), refusal);
+        assert_eq!(lookup(&bytes(sheet), LEAP_DAY, 0), Err(refusal));
+    }
+}
+
+#[test]
+fn the_state_at_a_minute_is_found() {
+    // A Tuesday: 10:00-12:00 and 13:00-18:00.
+    let sheet = bytes(P2);
+    for (minute, kind) in [
+        (599, Kind::Closed),
+        (600, Kind::Open),
+        (719, Kind::Open),
+        (720, Kind::Closed),
+        (779, Kind::Closed),
+        (780, Kind::Open),
+        (1079, Kind::Open),
+        (1080, Kind::Closed),
+        (1439, Kind::Closed),
+    ] {
+        let state = State { kind, comment: 0 };
+        assert_eq!(lookup(&sheet, LEAP_DAY, minute), Ok(state));
+    }
+}
+
+#[test]
+fn no_such_date_or_minute_is_refused() {
+    let sheet = bytes(ALWAYS);
+    let february = |year| Date { year, ..LEAP_DAY };
+
+    assert_eq!(lookup(&sheet, february(1900), 0), Err(Refusal::NoDate));
+    assert_eq!(lookup(&sheet, february(10000), 0), Err(Refusal::NoDate));
+    assert_eq!(lookup(&sheet, LEAP_DAY, 1440), Err(Refusal::NoDate));
+}
+
+#[test]
+fn a_state_that_the_rules_do_not_settle_is_refused() {
+    // 1 March 2000 is a Wednesday, on which P9 has its open end.
+    let march = Date {
+        month: 3,
+        day: 1,
+        ..LEAP_DAY
+    };
+
+    assert_eq!(lookup(&bytes(P9), march, 0), Err(Refusal::Unsettled));
+    assert_eq!(lookup(&bytes(LEAVES), LEAP_DAY, 0), Err(Refusal::Unsettled));
+}

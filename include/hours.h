@@ -1,0 +1,107 @@
+/* The fold of landing-site hours, for C and C++: what the archive libhours.a exports.
+ *
+ * `rt staticlib hours` proves it and writes target/staticlib/libhours.a, x86-64 code with the System V calling convention:
+ *
+ *     cc -Iinclude program.c target/staticlib/libhours.a
+ *
+ * What a packed sheet is, and what its fold is, stands in crates/definition/specs. Of all three functions:
+ *
+ * - Every byte string, date and length gets an answer; a sheet may hold anything.
+ * - The answer goes into `numbers`, in the order of the enumerations below, and the function returns `true`. A `numbers` that is too
+ *   short for it is answered `false`, and nothing is written anywhere. A longer one keeps its later numbers.
+ * - A slice is a pointer and the count of its elements. A pointer with a count of 0 is not followed, and may be null.
+ * - `out` and `numbers` must overlap neither each other nor `sheet`. So a sheet can't be folded in place.
+ * - Nothing is kept between calls, nothing allocated, and nothing called but memset. Threads may call at once, each with its own `out`
+ *   and `numbers`; they may share a `sheet` that nothing writes meanwhile.
+ * - The stack must have HOURS_STACK bytes left.
+ */
+#ifndef HOURS_H
+#define HOURS_H
+
+#include <stdbool.h>
+#include <stddef.h>
+#include <stdint.h>
+
+#ifdef __cplusplus
+extern "C" {
+#endif
+
+/* The code of an answer: done, or the first reason to refuse, in the order 1, 2 and 4 as met from the first bit on, then 3, 8, 5, 6,
+ * 9, 7. The place that goes with it stands in brackets; bits and rules are counted from 0, bits from the most significant one on. */
+enum hours_code {
+    HOURS_DONE = 0,       /* done [0] */
+    HOURS_PAST_END = 1,   /* a field runs past the end [its first bit] */
+    HOURS_UNLAWFUL = 2,   /* a field that isn't a count holds an unlawful value [its first bit] */
+    HOURS_BAD_END = 3,    /* a padding bit is set, or bytes follow [the first such bit, else the first bit after the padding] */
+    HOURS_OVER_LIMIT = 4, /* a count passes its limit: 64 rules, 16 items of each sort, 16 spans [its first bit] */
+    HOURS_MANY_BOXES = 5, /* the drained rules cut over 1,024 boxes [the number of boxes] */
+    HOURS_LONG_LIST = 6,  /* some point's list passes 32 entries after a drained rule [that rule's index] */
+    HOURS_NO_ROOM = 7,    /* `out` is shorter than the result [bytes needed] */
+    HOURS_NO_DATE = 8,    /* lookup only: no such date or minute [0] */
+    HOURS_UNSETTLED = 9   /* lookup only: a rule is left, or the point's list holds a span that isn't simple [0] */
+};
+
+/* Bytes of stack: more than any call took that was measured (oracle/README.md, "The bench"). */
+enum { HOURS_STACK = 2000000 };
+
+/* What a moment is. */
+enum hours_kind {
+    HOURS_OPEN = 0,
+    HOURS_CLOSED = 1,
+    HOURS_UNKNOWN = 2
+};
+
+/* The numbers of a fold, and how many they are. */
+enum hours_fold_number {
+    HOURS_FOLD_CODE,    /* an hours_code: 0 to 7 */
+    HOURS_FOLD_DRAINED, /* rules before the first one that can't be folded exactly */
+    HOURS_FOLD_EMITTED, /* rules that these were folded to */
+    HOURS_FOLD_LEFT,    /* rules copied as they came, from the first one that can't be folded on */
+    HOURS_FOLD_BYTES,   /* bytes written */
+    HOURS_FOLD_PLACE,   /* the code's place */
+    HOURS_FOLD_NUMBERS
+};
+
+/* The numbers of a lookup, and how many they are. */
+enum hours_lookup_number {
+    HOURS_LOOKUP_CODE,    /* an hours_code: 0 to 6, 8 or 9 */
+    HOURS_LOOKUP_KIND,    /* an hours_kind */
+    HOURS_LOOKUP_COMMENT, /* the comment's number, 0 for none */
+    HOURS_LOOKUP_PLACE,   /* the code's place */
+    HOURS_LOOKUP_NUMBERS
+};
+
+/* The numbers of a write-back, and how many they are. */
+enum hours_write_back_number {
+    HOURS_WRITE_BACK_CODE,  /* an hours_code: 0 to 4 or 7 */
+    HOURS_WRITE_BACK_BYTES, /* bytes written */
+    HOURS_WRITE_BACK_PLACE, /* the code's place */
+    HOURS_WRITE_BACK_NUMBERS
+};
+
+/* Folds a sheet's rules up to the first one that can't be folded exactly, and copies the rules from there on.
+ *
+ * Answers the HOURS_FOLD_NUMBERS numbers of hours_fold_number. On HOURS_DONE the folded sheet stands at the front of `out`, in as many
+ * bytes as HOURS_FOLD_BYTES says, and later bytes are unchanged. On any other code `out` is unchanged, and every number but code and
+ * place is 0. The result may be longer than the sheet; with an `out` of 0 bytes, HOURS_NO_ROOM tells the bytes needed. */
+bool hours_fold(const uint8_t *sheet, size_t sheet_length, uint8_t *out, size_t out_length, uint64_t *numbers, size_t numbers_length);
+
+/* The state at a minute (0 to 1439) of a Gregorian date (years 1900 to 9999, months and days from 1), by a sheet without a rule that
+ * can't be folded exactly.
+ *
+ * Answers the HOURS_LOOKUP_NUMBERS numbers of hours_lookup_number. On HOURS_DONE kind and comment are those of the last span that
+ * covers the minute, HOURS_CLOSED and 0 where none does. On any other code both are 0. */
+bool hours_lookup(const uint8_t *sheet, size_t sheet_length, uint64_t year, uint64_t month, uint64_t day, uint64_t minute,
+                  uint64_t *numbers, size_t numbers_length);
+
+/* Reads a sheet and writes it again: an accepted sheet comes back byte for byte.
+ *
+ * Answers the HOURS_WRITE_BACK_NUMBERS numbers of hours_write_back_number. On HOURS_DONE the sheet stands at the front of `out`, and
+ * later bytes are unchanged. On any other code `out` is unchanged, and the bytes written are 0. */
+bool hours_write_back(const uint8_t *sheet, size_t sheet_length, uint8_t *out, size_t out_length, uint64_t *numbers, size_t numbers_length);
+
+#ifdef __cplusplus
+}
+#endif
+
+#endif
