@@ -1,7 +1,7 @@
 -- What each way out of the check shows, in plain terms. Rests on the columns' laws.
 -- Assumes nothing.
-use mathlib.Core.Path.{_≡_, refl, sym}
-use mathlib.Core.Bool.{Bool, true, false, _&&_, not, true≢false}
+use mathlib.Core.Path.{_≡_}
+use mathlib.Core.Bool.{Bool, true, false, _&&_}
 use mathlib.Core.List.{List}
 use Prim.Native.Nat.{ℕ, suc, _+_, _*_, _≤_, _<_}
 use native.Mathlib.Omega.{arith}
@@ -11,14 +11,6 @@ use Rattle.laws.specs.Lists.{every}
 use Rattle.grid.specs.Group.{at, agree}
 use Rattle.paving.specs.Grid.{grid, chosen, agreeFrom}
 use Rattle.paving.proofs.Room.{marks-in, marks-out, marks-end, at-grid}
-
-and-yes : (b r s : Bool) → not b ≡ false → r ≡ s → r ≡ b && s
-and-yes true r s e h = h
-and-yes false r s e h = absurd (true≢false e)
-
-and-no : (b s : Bool) → not b ≡ true → false ≡ b && s
-and-no true s e = absurd (true≢false (sym e))
-and-no false s e = refl
 
 module _ (cells sizes marks : List ℕ) (v : ℕ) where
   pub check-leaf : (left node base : ℕ) → left ≡ 0 → eqb (getD cells node 0) v ≡ agree eqb v (chosen marks sizes left base) (grid cells sizes left node)
@@ -39,17 +31,14 @@ module _ (cells sizes marks : List ℕ) (v : ℕ) where
     unfolding agreeFrom
     columns-out r h m k = rw (marks-out marks base (getD sizes i 0) j (omega arith) m) k
 
-    columns-in : (b r : Bool) → j < n → getD marks (base + j) 0 ≡ 1 → b ≡ agree eqb v (chosen marks sizes i (base + n)) (grid cells sizes i (node * n + j))
+    pub columns-in : (b r : Bool) → j < n → getD marks (base + j) 0 ≡ 1 → b ≡ agree eqb v (chosen marks sizes i (base + n)) (grid cells sizes i (node * n + j))
         → r ≡ b && agreeFrom cells sizes i node marks base v (j + 1) → r ≡ agreeFrom cells sizes i node marks base v j
     unfolding agreeFrom every
     columns-in b r h m a k =
         rw (marks-in marks base (getD sizes i 0) j (omega arith) m, at-grid cells sizes i node j (omega arith), ← (rw e at a)) k
 
-    module _ (b : Bool) (h : j < n) (m : getD marks (base + j) 0 ≡ 1) (a : b ≡ agree eqb v (chosen marks sizes i (base + n)) (grid cells sizes i (node * n + j))) where
-      pub columns-fail : not b ≡ true → false ≡ agreeFrom cells sizes i node marks base v j
-      columns-fail e = columns-in b false h m a (and-no b (agreeFrom cells sizes i node marks base v (j + 1)) e)
+pub and-yes : (b r s : Bool) → b ≡ true → r ≡ s → r ≡ b && s
+and-yes b r s e h = rw e h
 
-      pub columns-pass : not b ≡ false → agreeFrom cells sizes i node marks base v (j + 1) ≡ agreeFrom cells sizes i node marks base v j
-      columns-pass e =
-          columns-in b (agreeFrom cells sizes i node marks base v (j + 1)) h m a
-          (and-yes b (agreeFrom cells sizes i node marks base v (j + 1)) (agreeFrom cells sizes i node marks base v (j + 1)) e refl)
+pub and-no : (b s : Bool) → b ≡ false → false ≡ b && s
+and-no b s e = rw e

@@ -3,8 +3,6 @@ pub mod Classes
 pub mod Agreeing
 pub mod Marks
 pub mod Popping
-pub mod Growing
-pub mod Matching
 pub mod Emptying
 pub mod Sweeping
 pub mod Points

@@ -1,14 +1,13 @@
 -- The columns of a node, one after the other, and the room for a child.
 -- Assumes nothing.
-use mathlib.Core.Path.{_≡_, refl, ap, _∙_}
-use mathlib.Core.Bool.{Bool, true, false, cond}
+use mathlib.Core.Path.{_≡_, ap, _∙_}
+use mathlib.Core.Bool.{cond}
 use mathlib.Core.List.{List, [], _∷_}
 use Prim.Native.Nat.{ℕ, zero, suc, _+_, _-_, _*_, _≤_, _<_}
 use native.Mathlib.Omega.{arith}
-use native.Mathlib.Nat.{le-refl, mul-le-mul-right, le-mul-of-pos-right, mul-pos, mul-assoc}
-use lib.Dec.{eqb}
+use native.Mathlib.Nat.{mul-le-mul-right, le-mul-of-pos-right, mul-pos, mul-assoc}
 use lib.ListN.{getD}
-use borrow.Author.Tests.{lt-ltb, eq-eqb, ne-eqb, eqb-true, eqb-false}
+use borrow.Author.Tests.{lt-ltb, eq-eqb, ne-eqb}
 use Rattle.laws.specs.Lists.{from, keep}
 use Rattle.grid.specs.Group.{at}
 use Rattle.paving.specs.Grid.{Node, Room, sizeOf, widthOf, grid, marksFrom, marked}
@@ -40,27 +39,10 @@ pub at-grid : (cells sizes : List ℕ) (i node x : ℕ) → x < getD sizes i 0 �
 unfolding grid
 at-grid cells sizes i node x h = ap (λ b. cond b (grid cells sizes i (node * getD sizes i 0 + x)) (λ q. 0)) (lt-ltb x (getD sizes i 0) h)
 
-pub size-pos : (sizes : List ℕ) (l : ℕ) → ((k : ℕ) → k < l → 1 ≤ getD sizes k 0) → 1 ≤ sizeOf sizes l
+size-pos : (sizes : List ℕ) (l : ℕ) → ((k : ℕ) → k < l → 1 ≤ getD sizes k 0) → 1 ≤ sizeOf sizes l
 unfolding sizeOf
 size-pos sizes zero h = omega arith
 size-pos sizes (suc l) h = mul-pos (h l (omega arith)) (size-pos sizes l (λ k lt. h k (omega arith)))
-
--- the cells of fewer dimensions are no more, and those of one dimension more a multiple
-pub size-below : (sizes : List ℕ) (left l : ℕ) → ((k : ℕ) → k < left → 1 ≤ getD sizes k 0) → l < left → sizeOf sizes (suc l) ≤ sizeOf sizes left
-unfolding sizeOf
-size-below sizes zero l h b = absurd (omega arith)
-size-below sizes (suc m) l h b = go (eqb l m) refl (size-below sizes m l (λ k lt. h k (omega arith)))
-  where
-    go : (a : Bool) → eqb l m ≡ a → (l < m → sizeOf sizes (suc l) ≤ sizeOf sizes m) → sizeOf sizes (suc l) ≤ sizeOf sizes (suc m)
-    go true e ih = let q : l ≡ m = eqb-true l m e in rw q (le-refl (getD sizes m 0 * sizeOf sizes m))
-    go false e ih =
-        let a = ih (omega (arith, eqb-false l m e)) in
-        let b : 1 * sizeOf sizes m ≤ getD sizes m 0 * sizeOf sizes m = mul-le-mul-right (sizeOf sizes m) (h m (omega arith)) in
-        omega (arith, a, b)
-
-pub size-step : (sizes : List ℕ) (l n s : ℕ) → n ≡ getD sizes l 0 → s ≡ sizeOf sizes l → n * s ≡ sizeOf sizes (l + 1)
-unfolding sizeOf
-size-step sizes l n s e f = let z : l + 1 ≡ suc l = omega arith in rw (z, e, f) refl
 
 module _ (len : ℕ) (sizes : List ℕ) where
   pub node-in : (l node : ℕ) → Node len sizes l node → node < len

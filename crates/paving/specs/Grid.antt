@@ -4,10 +4,10 @@ use mathlib.Core.Path.{_≡_}
 use mathlib.Core.Bool.{Bool, false, cond}
 use mathlib.Core.List.{List, [], _∷_}
 use mathlib.Core.Option.{Option, none, some}
-use Prim.Native.Nat.{ℕ, zero, suc, _+_, _-_, _*_, _/_, _≤_, _<_}
+use Prim.Native.Nat.{ℕ, zero, suc, _+_, _-_, _*_, _≤_, _<_}
 use lib.Dec.{eqb, ltb, leb}
 use lib.ListN.{length, getD, set}
-use Rattle.laws.specs.Lists.{from, every, anyOf, keep}
+use Rattle.laws.specs.Lists.{from, firstOf, every, anyOf, keep}
 use Rattle.grid.specs.Group.{Set, Map, at, Group, agree, pop, clear}
 use Rattle.paving.specs.declared.Popped.{Popped}
 use Rattle.paving.specs.declared.Popped.the-variants.{Value, Nothing}
@@ -64,10 +64,6 @@ inClass kinds k v = cond (ltb (getD kinds v 0) (lowestKind k)) false (leb (getD 
 unfoldable pub popAt : List ℕ → List ℕ → List ℕ → ℕ → ℕ → ℕ → Option (Group ℕ ℕ)
 popAt cells kinds sizes k l node = pop eqb (inClass kinds k) (axes sizes l) (grid cells sizes l node)
 
--- no cell from one on, before another, is of the class
-abbrev pub Unmatched : List ℕ → List ℕ → ℕ → ℕ → ℕ → Type 0
-Unmatched cells kinds k start end = (m : ℕ) → start ≤ m → m < end → inClass kinds k (getD cells m 0) ≡ false
-
 -- an answer with the set of the marks
 unfoldable pub popped : Popped → Set ℕ → Option (Group ℕ ℕ)
 popped (Value v) S = some (v, S)
@@ -80,19 +76,13 @@ module _ (cells sizes : List ℕ) (i node : ℕ) where
   agreeFrom marks base v j =
       every (λ x. agree eqb v (chosen marks sizes i (base + getD sizes i 0)) (at (grid cells sizes (suc i) node) x)) (marksFrom marks base (getD sizes i 0) j)
 
+  -- the first column's group
+  unfoldable pub popFrom : (ℕ → Bool) → ℕ → Option (Group ℕ ℕ)
+  popFrom ok j = firstOf (λ x. pop eqb ok (axes sizes i) (at (grid cells sizes (suc i) node) x)) (from j (getD sizes i 0 - j))
+
   -- is a column good for the value v and the marks of the later dimensions?
   unfoldable pub goodAt : List ℕ → ℕ → ℕ → ℕ → Bool
   goodAt marks base v x = agree eqb v (chosen marks sizes i (base + getD sizes i 0)) (at (grid cells sizes (suc i) node) x)
-
--- the node with l dimensions left that a cell lies below, and the set that grows from the cell
-unfoldable pub nodeOf : List ℕ → ℕ → ℕ → ℕ
-nodeOf sizes zero cell = cell
-nodeOf sizes (suc l) cell = nodeOf sizes l cell / getD sizes l 0
-
-unfoldable pub grownSet : List ℕ → List ℕ → ℕ → ℕ → Set ℕ
-grownSet cells sizes zero cell = []
-grownSet cells sizes (suc l) cell =
-    keep (λ x. agree eqb (getD cells cell 0) (grownSet cells sizes l cell) (at (grid cells sizes (suc l) (nodeOf sizes (suc l) cell)) x)) (from 0 (getD sizes l 0)) ∷ grownSet cells sizes l cell
 
 -- 1 or 0 at each place from base + j on for r columns, by a test
 unfoldable pub paint : (ℕ → Bool) → ℕ → ℕ → ℕ → List ℕ → List ℕ

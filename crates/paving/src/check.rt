@@ -25,10 +25,10 @@ pub fn check_predicate(
     }
     let dimension = left - 1;
     let width = wide(sizes[dimension]);
-    check_columns(cells, sizes, marks, value, dimension, node, base, width)
+    check_columns(cells, sizes, marks, value, dimension, node, base, width, 0)
 }
 
-// The same over the marked columns of a node.
+// The same over the marked columns of a node from one on.
 fn check_columns(
     cells: &[u16],
     sizes: &[u16],
@@ -38,22 +38,53 @@ fn check_columns(
     node: usize,
     base: usize,
     width: usize,
+    column: usize,
 ) -> bool
     requires { ⌜ Room (length (now cells)) (length (now marks)) (now sizes) (suc dimension) node base ⌝ }
     requires { ⌜ (width ≡ getD (now sizes) dimension 0) × (width < 65536) ⌝ }
-    ensures { λ r. ⌜ r ≡ agreeFrom (now (cells .entry)) (now (sizes .entry)) dimension node (now (marks .entry)) base value 0 ⌝ }
+    ensures { λ r. ⌜ r ≡ agreeFrom (now (cells .entry)) (now (sizes .entry)) dimension node (now (marks .entry)) base value column ⌝ }
 {
-    let mut column: usize = 0;
-    while column < width {
+    if column < width {
         if marks[base + column] == 1 {
-            let child = node * width + column;
-            if !check_predicate(cells, sizes, marks, value, dimension, child, base + width) {
-                return false;
+            if check_predicate(
+                cells,
+                sizes,
+                marks,
+                value,
+                dimension,
+                node * width + column,
+                base + width,
+            ) {
+                check_columns(
+                    cells,
+                    sizes,
+                    marks,
+                    value,
+                    dimension,
+                    node,
+                    base,
+                    width,
+                    column + 1,
+                )
+            } else {
+                false
             }
+        } else {
+            check_columns(
+                cells,
+                sizes,
+                marks,
+                value,
+                dimension,
+                node,
+                base,
+                width,
+                column + 1,
+            )
         }
-        column += 1;
+    } else {
+        true
     }
-    true
 }
 
 // Whether a column holds the value throughout the product that is marked in the later dimensions.
