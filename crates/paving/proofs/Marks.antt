@@ -86,13 +86,16 @@ module _ (cells sizes : List ℕ) (v i node base n j : ℕ) (e : n ≡ getD size
   unfolding paint
   grow-end s h = let z : n - j ≡ 0 = omega arith in rw z
 
-  pub grow-in : (s s₂ : List ℕ) (b : Bool) (w : ℕ) → j < n → b ≡ agree eqb v (chosen s sizes i (base + n)) (grid cells sizes i (node * n + j)) → w ≡ cond b 1 0
-      → s₂ ≡ paint (goodAt cells sizes i node (set s (base + j) w) base v) base (j + 1) (n - (j + 1)) (set s (base + j) w)
-      → s₂ ≡ paint (goodAt cells sizes i node s base v) base j (n - j) s
+  -- a column marked: what is left to paint from here gives what it gave before
+  pub grow-in : (s : List ℕ) (b : Bool) (w : ℕ) → j < n → b ≡ agree eqb v (chosen s sizes i (base + n)) (grid cells sizes i (node * n + j)) → w ≡ cond b 1 0
+      → paint (goodAt cells sizes i node (set s (base + j) w) base v) base (j + 1) (n - (j + 1)) (set s (base + j) w) ≡ paint (goodAt cells sizes i node s base v) base j (n - j) s
   unfolding paint
-  grow-in s s₂ b w h a q k =
+  grow-in s b w h a q =
       let z : n - j ≡ suc (n - (j + 1)) = omega arith in
       let u : w ≡ cond (goodAt cells sizes i node s base v j) 1 0 = q ∙ ap (λ x. cond x 1 0) (sym (good-here s b h a)) in
-      k ∙ ap (λ t. paint t base (j + 1) (n - (j + 1)) (set s (base + j) w)) (good-set s w h)
+      ap (λ t. paint t base (j + 1) (n - (j + 1)) (set s (base + j) w)) (good-set s w h)
       ∙ ap (λ x. paint (goodAt cells sizes i node s base v) base (j + 1) (n - (j + 1)) (set s (base + j) x)) u
       ∙ sym (ap (λ m. paint (goodAt cells sizes i node s base v) base j m s) z)
+
+pub paint-all : (t : ℕ → Bool) (base n : ℕ) (s : List ℕ) → paint t base 0 (n - 0) s ≡ paint t base 0 n s
+paint-all t base n s = let z : n - 0 ≡ n = omega arith in ap (λ m. paint t base 0 m s) z

@@ -13,7 +13,7 @@ use Rattle.laws.specs.Lists.{from, firstOf, anyOf, keep, OnSome}
 use Rattle.laws.proofs.Lists.{OnSome-firstOf}
 use Rattle.grid.specs.Group.{Set, at, Group, agree, grow, pop}
 use Rattle.grid.proofs.Part.{Part, pop-part}
-use Rattle.paving.specs.Grid.{widthOf, axes, grid, chosen, inClass, popAt, popped, popFrom, goodAt, paint, markSet, marked, answer}
+use Rattle.paving.specs.Grid.{widthOf, axes, grid, chosen, inClass, popAt, popped, firstCell, popFrom, goodAt, paint, markSet, marked, answer}
 use Rattle.paving.specs.declared.Popped.{Popped}
 use Rattle.paving.specs.declared.Popped.the-variants.{Value, Nothing}
 use Rattle.paving.proofs.Room.{from-cons, from-end, at-grid}
@@ -136,7 +136,7 @@ module _ (cells kinds sizes : List ℕ) (k : ℕ) where
         go none a b = (refl, b)
         go (some g) a b = absurd (let z : _≡_ {A = ℕ} 0 1 = cc in omega arith)
 
-    pub pop-node-some : (v : ℕ) (s₂ : List ℕ) → f ≡ Value v → base + n + widthOf sizes i ≤ length s → s₂ ≡ paint (goodAt cells sizes i node s₁ base v) base 0 (n - 0) s₁
+    pub pop-node-some : (v : ℕ) (s₂ : List ℕ) → f ≡ Value v → base + n + widthOf sizes i ≤ length s → s₂ ≡ paint (goodAt cells sizes i node s₁ base v) base 0 n s₁
         → (Value v ≡ answer (popAt cells kinds sizes k left node))
         × (s₂ ≡ marked sizes left base (popAt cells kinds sizes k left node) s)
     unfolding answer marked grow markSet goodAt
@@ -149,10 +149,9 @@ module _ (cells kinds sizes : List ℕ) (k : ℕ) where
         go (some g) p a c =
             let t : ℕ → Bool = λ x. agree eqb (g .0) (g .1) (at (grid cells sizes (suc i) node) x) in
             let w : v ≡ g .0 = cc in
-            let ch : chosen s₁ sizes i (base + getD sizes i 0) ≡ g .1 = rw (rw e at c) (chosen-mark sizes s i (base + getD sizes i 0) (g .1) p (rw e at len)) in
-            let z : n - 0 ≡ getD sizes i 0 = omega arith in (
+            let ch : chosen s₁ sizes i (base + getD sizes i 0) ≡ g .1 = rw (rw e at c) (chosen-mark sizes s i (base + getD sizes i 0) (g .1) p (rw e at len)) in (
               sym q ∙ a,
-              b ∙ ap (λ r. paint (goodAt cells sizes i node s₁ base v) base 0 r s₁) z
+              b ∙ ap (λ r. paint (goodAt cells sizes i node s₁ base v) base 0 r s₁) e
                   ∙ ap₂ (λ S u. paint (λ x. agree eqb u S (at (grid cells sizes (suc i) node) x)) base 0 (getD sizes i 0) s₁) ch w
                   ∙ paint-ext t (λ x. anyOf (eqb x) (keep t (from 0 (getD sizes i 0)))) base 0 (getD sizes i 0) s₁ (λ x lo hi. sym (has-keep t x 0 (getD sizes i 0) lo hi))
                   ∙ ap (paint (λ x. anyOf (eqb x) (keep t (from 0 (getD sizes i 0)))) base 0 (getD sizes i 0)) (rw e at c),
@@ -187,14 +186,67 @@ module _ (cells kinds sizes : List ℕ) (k : ℕ) where
           go none b c = absurd (let z : _≡_ {A = ℕ} 0 1 = cc in omega arith)
           go (some g) b c = (sym q ∙ b, c)
 
-      pub pop-columns-miss : (g : Popped) (s₂ : List ℕ) → f ≡ Nothing → g ≡ answer (popFrom cells sizes i node (inClass kinds k) (j + 1))
-          → s₂ ≡ marked sizes i (base + n) (popFrom cells sizes i node (inClass kinds k) (j + 1)) s₁
-          → (g ≡ answer (popFrom cells sizes i node (inClass kinds k) j)) × (s₂ ≡ marked sizes i (base + n) (popFrom cells sizes i node (inClass kinds k) j) s)
+      -- a column without a group: the search goes on as if it had begun behind it
+      pub pop-columns-miss : f ≡ Nothing → (popFrom cells sizes i node (inClass kinds k) (j + 1) ≡ popFrom cells sizes i node (inClass kinds k) j) × (s₁ ≡ s)
       unfolding answer marked
-      pop-columns-miss g s₂ q u w = rw step (go (popAt cells kinds sizes k i (node * n + j)) a m)
+      pop-columns-miss q = rw step (go (popAt cells kinds sizes k i (node * n + j)) a m)
         where
           go : (o : Option (Group ℕ ℕ)) → f ≡ answer o → s₁ ≡ marked sizes i (base + n) o s
-              → (g ≡ answer (elim o [ none ↦ popFrom cells sizes i node (inClass kinds k) (j + 1) | some g ↦ some g ]))
-              × (s₂ ≡ marked sizes i (base + n) (elim o [ none ↦ popFrom cells sizes i node (inClass kinds k) (j + 1) | some g ↦ some g ]) s)
-          go none b c = (u, w ∙ ap (marked sizes i (base + n) (popFrom cells sizes i node (inClass kinds k) (j + 1))) c)
+              → (popFrom cells sizes i node (inClass kinds k) (j + 1) ≡ elim o [ none ↦ popFrom cells sizes i node (inClass kinds k) (j + 1) | some g ↦ some g ])
+              × (s₁ ≡ s)
+          go none b c = (refl, c)
           go (some h) b c = absurd (let z : _≡_ {A = ℕ} 0 1 = cc in omega arith)
+
+-- what the search finds from some column on is what it finds from the first one on, where the columns passed have no group
+pub found-first : (sizes : List ℕ) (i base : ℕ) (o first : Option (Group ℕ ℕ)) (f : Popped) (s s₀ s₁ : List ℕ) → o ≡ first → s ≡ s₀
+    → (f ≡ answer o) × (s₁ ≡ marked sizes i base o s) → (f ≡ answer first) × (s₁ ≡ marked sizes i base first s₀)
+found-first sizes i base o first f s s₀ s₁ p q h = (h .0 ∙ ap answer p, h .1 ∙ ap₂ (marked sizes i base) p q)
+
+-- ## The cells of a node with one dimension left
+module _ (cells : List ℕ) (ok : ℕ → Bool) (at end : ℕ) where
+  module _ (b : Bool) (h : at < end) (a : b ≡ ok (getD cells at 0)) where
+    pub cells-hit : b ≡ true → Value (getD cells at 0) ≡ firstCell cells ok at (end - at)
+    unfolding firstCell
+    cells-hit q = let z : end - at ≡ suc (end - (at + 1)) = omega arith in rw (z, sym a ∙ q)
+
+    pub cells-miss : b ≡ false → firstCell cells ok (at + 1) (end - (at + 1)) ≡ firstCell cells ok at (end - at)
+    unfolding firstCell
+    cells-miss q = let z : end - at ≡ suc (end - (at + 1)) = omega arith in rw (z, sym a ∙ q)
+
+  pub cells-end : end ≤ at → Nothing ≡ firstCell cells ok at (end - at)
+  unfolding firstCell
+  cells-end h = let z : end - at ≡ 0 = omega arith in rw z
+
+module _ (cells kinds sizes : List ℕ) (k node base n : ℕ) (e : n ≡ getD sizes 0 0) (s : List ℕ) where
+  -- are the node's columns: a cell without dimensions left is popped by its value alone, and nothing is marked
+  cells-columns : (r j : ℕ) → r ≡ n - j
+      → (firstCell cells (inClass kinds k) (node * n + j) r ≡ answer (popFrom cells sizes 0 node (inClass kinds k) j))
+      × (s ≡ marked sizes 0 (base + n) (popFrom cells sizes 0 node (inClass kinds k) j) s)
+  unfolding firstCell
+  cells-columns zero j z = pop-columns-end cells kinds sizes k 0 node base n j e s (omega arith)
+  cells-columns (suc r) j z = go (inClass kinds k (getD cells (node * n + j) 0)) refl (cells-columns r (j + 1) (omega arith))
+    where
+      next : node * n + (j + 1) ≡ node * n + j + 1
+      next = omega arith
+
+      go : (b : Bool) → b ≡ inClass kinds k (getD cells (node * n + j) 0)
+          → (firstCell cells (inClass kinds k) (node * n + (j + 1)) r ≡ answer (popFrom cells sizes 0 node (inClass kinds k) (j + 1)))
+          × (s ≡ marked sizes 0 (base + n) (popFrom cells sizes 0 node (inClass kinds k) (j + 1)) s)
+          → (cond b (Value (getD cells (node * n + j) 0)) (firstCell cells (inClass kinds k) (node * n + j + 1) r) ≡ answer (popFrom cells sizes 0 node (inClass kinds k) j))
+          × (s ≡ marked sizes 0 (base + n) (popFrom cells sizes 0 node (inClass kinds k) j) s)
+      go true q ih =
+          let leaf = pop-leaf-yes cells kinds sizes k s 0 (node * n + j) (base + n) true refl q refl in
+          pop-columns-hit cells kinds sizes k 0 node base n j e (Value (getD cells (node * n + j) 0)) s s (omega arith) (leaf .0) (leaf .1) (getD cells (node * n + j) 0) refl
+      go false q ih =
+          let leaf = pop-leaf-no cells kinds sizes k s 0 (node * n + j) (base + n) false refl q refl in
+          let miss = pop-columns-miss cells kinds sizes k 0 node base n j e Nothing s s (omega arith) (leaf .0) (leaf .1) refl in
+          (rw (← miss .0, ← next) (ih .0), rw (← miss .0) (ih .1))
+
+pub pop-cells : (cells kinds sizes : List ℕ) (k i node base n : ℕ) (s : List ℕ) (r : Popped) → i ≡ 0 → n ≡ getD sizes i 0
+    → r ≡ firstCell cells (inClass kinds k) (node * n) (node * n + n - node * n)
+    → (r ≡ answer (popFrom cells sizes i node (inClass kinds k) 0)) × (s ≡ marked sizes i (base + n) (popFrom cells sizes i node (inClass kinds k) 0) s)
+pop-cells cells kinds sizes k i node base n s r z e h =
+    let all : node * n + n - node * n ≡ n - 0 = omega arith in
+    let first : node * n ≡ node * n + 0 = omega arith in
+    let w = cells-columns cells kinds sizes k node base n (rw z at e) s (n - 0) 0 refl in
+    rw z (h ∙ ap (firstCell cells (inClass kinds k) (node * n)) all ∙ ap (λ m. firstCell cells (inClass kinds k) m (n - 0)) first ∙ w .0, w .1)

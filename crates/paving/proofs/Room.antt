@@ -87,3 +87,9 @@ module _ (len places : ℕ) (sizes : List ℕ) where
 
   pub room-marks : (i node base n : ℕ) → n ≡ getD sizes i 0 → Room len places sizes (suc i) node base → base + n ≤ places
   room-marks i node base n e r = omega (arith, room-width i node base n e r)
+
+  -- all cells of a node's columns, if the columns are cells
+  pub room-row : (i node base n : ℕ) → n ≡ getD sizes i 0 → Room len places sizes (suc i) node base → node * n + n ≤ len
+  room-row i node base n e r =
+      let one = r .column .filled i (omega arith) in
+      omega (arith, room-node i (node * n + (n - 1)) (base + n) (room-child i node base n (n - 1) e (omega arith) r))

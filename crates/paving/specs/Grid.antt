@@ -69,6 +69,11 @@ unfoldable pub popped : Popped → Set ℕ → Option (Group ℕ ℕ)
 popped (Value v) S = some (v, S)
 popped Nothing S = none
 
+-- the first value that passes among r cells from one on
+unfoldable pub firstCell : List ℕ → (ℕ → Bool) → ℕ → ℕ → Popped
+firstCell cells ok at zero = Nothing
+firstCell cells ok at (suc r) = cond (ok (getD cells at 0)) (Value (getD cells at 0)) (firstCell cells ok (at + 1) r)
+
 -- ## The walks over the columns from j on of a node with suc i dimensions left
 module _ (cells sizes : List ℕ) (i node : ℕ) where
   -- have all marked columns the value v throughout?

@@ -4,6 +4,7 @@
 // from `base` on, those of the later dimensions after them.
 pub mod check;
 pub mod class;
+mod grow;
 pub mod pop;
 pub mod reset;
 

@@ -1,59 +1,27 @@
 // The first group of a class: found along the first dimension, grown from the last.
 use super::Popped;
-use super::check::is_val;
 use super::class::in_class;
+use super::grow::grow;
 use super::wide;
 ghost use mathlib.Core.Path.{_≡_};
-ghost use mathlib.Core.Bool.{cond};
-ghost use Prim.Native.Nat.{suc, _+_, _-_, _<_};
+ghost use Prim.Native.Nat.{suc, _+_, _-_, _≤_, _<_};
 ghost use lib.ListN.{length, getD};
-ghost use Rattle.paving.specs.Grid.{Room, inClass, popAt, answer, marked, popFrom, goodAt, paint};
+ghost use Rattle.paving.specs.Grid.{Room, inClass, popAt, answer, marked, firstCell, popFrom};
 
-fn bit(b: bool) -> u8
-    ensures { λ r. ⌜ r ≡ cond b 1 0 ⌝ }
+// The first value of a class among the cells from one on up to an end.
+fn first_cell(cells: &[u16], kinds: &[u8], class: u8, first: usize, end: usize) -> Popped
+    requires { ⌜ (first ≤ end) × (end ≤ length (now cells)) ⌝ }
+    ensures { λ r. ⌜ r ≡ firstCell (now (cells .entry)) (inClass (now (kinds .entry)) class) first (end - first) ⌝ }
 {
-    if b { 1 } else { 0 }
-}
-
-// Marks the columns of a node, from one on, that are good for the value and the marks of the later dimensions.
-fn grow(
-    cells: &[u16],
-    sizes: &[u16],
-    marks: &mut [u8],
-    value: u16,
-    dimension: usize,
-    node: usize,
-    base: usize,
-    width: usize,
-    column: usize,
-)
-    requires { ⌜ Room (length (now cells)) (length (now marks)) (now sizes) (suc dimension) node base ⌝ }
-    requires { ⌜ (width ≡ getD (now sizes) dimension 0) × (width < 65536) ⌝ }
-    ensures { λ _. ⌜ now (marks .exit) ≡ paint (goodAt (now (cells .entry)) (now (sizes .entry)) dimension node (now (marks .entry)) base value) base column (width - column) (now (marks .entry)) ⌝ }
-{
-    if column < width {
-        let good = is_val(
-            cells,
-            sizes,
-            marks,
-            value,
-            dimension,
-            node * width + column,
-            base + width,
-        );
-        marks[base + column] = bit(good);
-        grow(
-            cells,
-            sizes,
-            marks,
-            value,
-            dimension,
-            node,
-            base,
-            width,
-            column + 1,
-        );
+    let mut at = first;
+    while at < end {
+        let value = cells[at];
+        if in_class(kinds, class, value) {
+            return Popped::Value(value);
+        }
+        at += 1;
     }
+    Popped::Nothing
 }
 
 // The first group of a class below a node: its value, and its set as marks. Without one the marks stay.
@@ -90,18 +58,17 @@ pub fn pop_filter(
         node,
         base,
         width,
-        0,
     );
     match found {
         Popped::Value(value) => {
-            grow(cells, sizes, marks, value, dimension, node, base, width, 0);
+            grow(cells, sizes, marks, value, dimension, node, base, width);
             Popped::Value(value)
         }
         Popped::Nothing => Popped::Nothing,
     }
 }
 
-// The first group of the columns of a node from one on.
+// The first group of the columns of a node.
 fn pop_columns(
     cells: &[u16],
     kinds: &[u8],
@@ -112,14 +79,18 @@ fn pop_columns(
     node: usize,
     base: usize,
     width: usize,
-    column: usize,
 ) -> Popped
     requires { ⌜ Room (length (now cells)) (length (now marks)) (now sizes) (suc dimension) node base ⌝ }
     requires { ⌜ (width ≡ getD (now sizes) dimension 0) × (width < 65536) ⌝ }
-    ensures { λ r. ⌜ (r ≡ answer (popFrom (now (cells .entry)) (now (sizes .entry)) dimension node (inClass (now (kinds .entry)) class) column))
-        × (now (marks .exit) ≡ marked (now (sizes .entry)) dimension (base + width) (popFrom (now (cells .entry)) (now (sizes .entry)) dimension node (inClass (now (kinds .entry)) class) column) (now (marks .entry))) ⌝ }
+    ensures { λ r. ⌜ (r ≡ answer (popFrom (now (cells .entry)) (now (sizes .entry)) dimension node (inClass (now (kinds .entry)) class) 0))
+        × (now (marks .exit) ≡ marked (now (sizes .entry)) dimension (base + width) (popFrom (now (cells .entry)) (now (sizes .entry)) dimension node (inClass (now (kinds .entry)) class) 0) (now (marks .entry))) ⌝ }
 {
-    if column < width {
+    if dimension == 0 {
+        let first = node * width;
+        return first_cell(cells, kinds, class, first, first + width);
+    }
+    let mut column = 0;
+    while column < width {
         let found = pop_filter(
             cells,
             kinds,
@@ -131,21 +102,12 @@ fn pop_columns(
             base + width,
         );
         match found {
-            Popped::Value(value) => Popped::Value(value),
-            Popped::Nothing => pop_columns(
-                cells,
-                kinds,
-                sizes,
-                marks,
-                class,
-                dimension,
-                node,
-                base,
-                width,
-                column + 1,
-            ),
+            Popped::Value(value) => {
+                return Popped::Value(value);
+            }
+            Popped::Nothing => {}
         }
-    } else {
-        Popped::Nothing
+        column += 1;
     }
+    Popped::Nothing
 }

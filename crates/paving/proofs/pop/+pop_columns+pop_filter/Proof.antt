@@ -1,9 +1,14 @@
-use mathlib.Core.Path.{_≡_}
+-- The cycle of `paving::pop::pop_filter` and `pop_columns` meets its contracts. The invariant of the loop over the columns: what is found
+-- from here on is what is found in all of them, and the marks are as they were.
+-- Assumes nothing.
+use mathlib.Core.Path.{_≡_, refl, ap, _∙_}
 use Prim.Native.Nat.{suc, _+_, _*_, _-_, ℕ, _<_}
 use borrow.Author.Needs.{needs}
 use native.Mathlib.Omega.{arith}
-use Rattle.paving.proofs.Room.{room-at, room-len₂, room-node, room-child, room-marks, room-width}
-use Rattle.paving.proofs.Popping.{pop-leaf-yes, pop-leaf-no, pop-node-some, pop-node-none, pop-columns-end, pop-columns-hit, pop-columns-miss}
+use lib.ListN.{length}
+use Rattle.paving.specs.Grid.{inClass, popFrom}
+use Rattle.paving.proofs.Room.{room-at, room-len₂, room-node, room-child, room-marks, room-width, room-row}
+use Rattle.paving.proofs.Popping.{pop-leaf-yes, pop-leaf-no, pop-node-none, pop-node-some, pop-columns-end, pop-columns-hit, pop-columns-miss, found-first, pop-cells}
 use borrow.Fn.Kinds.{In}
 use borrow.Fn.PlainCycle.{Measures, is, falls, and}
 use Rattle.paving.proofs.pop.pop_columns.Reads as pop-columns
@@ -13,18 +18,17 @@ use Rattle.paving.proofs.pop.pop_filter.Reads as pop-filter
 use Rattle.paving.proofs.pop.pop_filter.Kinds as pop-filter-kinds
 use Rattle.paving.proofs.pop.+pop_columns+pop_filter.Lts-pop_filter as pop-filter-lts
 use Rattle.paving.proofs.class.in_class.Reads as in-class-reads
-use Rattle.paving.proofs.pop.grow.Reads as grow-reads
+use Rattle.paving.proofs.pop.first_cell.Reads as first-cell-reads
+use Rattle.paving.proofs.grow.grow.Reads as grow-reads
 use Rattle.paving.proofs.wide.Reads as wide-reads
 use Rattle.paving.proofs.pop.+pop_columns+pop_filter.{statement}
 use Rattle.paving.proofs.pop.+pop_columns+pop_filter.Tie.{close}
 
 abbrev μ-pop-columns : Measures 4 pop-columns-kinds.ps ℕ
-μ-pop-columns κs a =
-    a .1 .1 .1 .1 .1 .0 * 131072 + 1 + (a .1 .1 .1 .1 .1 .1 .1 .1 .0 - a .1 .1 .1 .1 .1 .1 .1 .1 .1 .0)
+μ-pop-columns κs a = a .1 .1 .1 .1 .1 .0 * 2 + 1
 
 abbrev μ-pop-filter : Measures 4 pop-filter-kinds.ps ℕ
-μ-pop-filter κs a =
-    a .1 .1 .1 .1 .1 .0 * 131072
+μ-pop-filter κs a = a .1 .1 .1 .1 .1 .0 * 2
 
 abbrev pop-columns-at : ℕ → In 4 pop-columns-kinds.ps
 pop-columns-at t =
@@ -42,23 +46,37 @@ abbrev pop-filter-below : ℕ → In 4 pop-filter-kinds.ps
 pop-filter-below t =
     and 4 pop-filter-kinds.ps (falls 4 pop-filter-kinds.ps _<_ μ-pop-filter t) pop-filter.Pre
 
+abbrev pop-columns-Inv-loop : pop-columns-lts.InvT-loop
+pop-columns-Inv-loop cells kinds sizes marks₀ class dimension node base width column₀ marks column =
+    (popFrom cells sizes dimension node (inClass kinds class) column ≡ popFrom cells sizes dimension node (inClass kinds class) 0) × (marks ≡ marks₀)
+
+abbrev pop-columns-μ-loop : pop-columns-lts.MeasureT-loop
+pop-columns-μ-loop cells kinds sizes marks₀ class dimension node base width column₀ marks column = width - column
+
 pub +pop-columns+pop-filter-spec : {M : Type 1} → statement M
-+pop-columns+pop-filter-spec = close μ-pop-columns μ-pop-filter (λ t. pop-columns-lts.spec (pop-filter-below t, pop-filter.Post, pop-columns-below t, pop-columns.Post)
++pop-columns+pop-filter-spec = close μ-pop-columns μ-pop-filter (λ t. pop-columns-lts.spec (first-cell-reads.Asked, first-cell-reads.Learnt, pop-filter-below t, pop-filter.Post)
     (pop-columns-at t)
     pop-columns.Post
-    (λ c. omega (arith, room-node _ _ _ _ _ _ (room-child _ _ _ _ _ _ _ _ (c .before .before .before .before .before .before .pre .1 .1 .0) (c .before .if1 .taken) (c .before .before .before .before .before .before .pre .1 .0)), c .before .before .before .before .before .before .good))
-    (λ c. omega (arith, room-node _ _ _ _ _ _ (room-child _ _ _ _ _ _ _ _ (c .before .before .before .before .before .before .pre .1 .1 .0) (c .before .if1 .taken) (c .before .before .before .before .before .before .pre .1 .0)), c .before .before .before .before .before .before .good))
-    (λ c. omega (arith, room-marks _ _ _ _ _ _ _ (c .before .before .before .before .before .before .pre .1 .1 .0) (c .before .before .before .before .before .before .pre .1 .0), c .before .before .before .before .before .before .good))
-    (λ c κs. (omega (arith, c .before .before .before .before .before .before .pre .0), room-child _ _ _ _ _ _ _ _ (c .before .before .before .before .before .before .pre .1 .1 .0) (c .before .if1 .taken) (c .before .before .before .before .before .before .pre .1 .0)))
+    pop-columns-Inv-loop
+    pop-columns-μ-loop
+    (λ c. omega (arith, room-row _ _ _ _ _ _ _ (c .before .before .before .before .before .pre .1 .1 .0) (c .before .before .before .before .before .pre .1 .0), c .before .before .before .before .before .good))
+    (λ c. omega (arith, room-row _ _ _ _ _ _ _ (c .before .before .before .before .before .pre .1 .1 .0) (c .before .before .before .before .before .pre .1 .0), c .before .before .before .before .before .good))
+    (λ c κs. (omega arith, omega (arith, room-row _ _ _ _ _ _ _ (c .before .before .before .before .before .pre .1 .1 .0) (c .before .before .before .before .before .pre .1 .0))))
+    (λ c. pop-cells _ _ _ _ _ _ _ _ _ _ (c .before .if1 .taken) (c .before .before .before .before .before .before .pre .1 .1 .0) (c .first-cell .ensures))
+    (λ c. (refl, refl))
+    (λ c. omega (arith, room-node _ _ _ _ _ _ (room-child _ _ _ _ _ _ _ _ (c .before .before .before .before .before .before .before .before .pre .1 .1 .0) (c .before .loop-test .taken) (c .before .before .before .before .before .before .before .before .pre .1 .0)), c .before .before .before .before .before .before .before .before .good))
+    (λ c. omega (arith, room-node _ _ _ _ _ _ (room-child _ _ _ _ _ _ _ _ (c .before .before .before .before .before .before .before .before .pre .1 .1 .0) (c .before .loop-test .taken) (c .before .before .before .before .before .before .before .before .pre .1 .0)), c .before .before .before .before .before .before .before .before .good))
+    (λ c. omega (arith, room-marks _ _ _ _ _ _ _ (c .before .before .before .before .before .before .before .before .pre .1 .1 .0) (c .before .before .before .before .before .before .before .before .pre .1 .0), c .before .before .before .before .before .before .before .before .good))
+    (λ c κs. (omega (arith, c .before .before .before .before .before .before .before .before .pre .0), room-len₂ _ _ _ _ _ _ _ (ap length (c .before .before .loop .inv .1)) (room-child _ _ _ _ _ _ _ _ (c .before .before .before .before .before .before .before .before .pre .1 .1 .0) (c .before .loop-test .taken) (c .before .before .before .before .before .before .before .before .pre .1 .0))))
     (λ c. search needs)
+    (λ c. c .before .before .before .before .before .pop-filter .kept .1 .1 .1 .0 ∙ ap length (c .before .before .before .before .before .before .before .before .loop .inv .1))
+    (λ c. found-first _ _ _ _ _ _ _ _ _ (c .before .before .before .before .before .before .before .before .loop .inv .0) (c .before .before .before .before .before .before .before .before .loop .inv .1) (pop-columns-hit _ _ _ _ _ _ _ _ _ (c .before .before .before .before .before .before .before .before .before .before .before .before .before .before .pre .1 .1 .0) _ _ _ (c .before .before .before .before .before .before .before .loop-test .taken) (c .before .before .before .before .before .pop-filter .ensures .0) (c .before .before .before .before .before .pop-filter .ensures .1) _ (c .before .found .given .1)))
     (λ c. search needs)
-    (λ c. search needs)
-    (λ c κs. (omega (arith, c .before .before .before .before .before .before .before .before .before .before .before .before .pre .0, c .before .before .before .before .before .before .before .if1 .taken), (room-len₂ _ _ _ _ _ _ _ (c .before .before .before .before .before .pop-filter .kept .1 .1 .1 .0) (c .before .before .before .before .before .before .before .before .before .before .before .before .pre .1 .0), c .before .before .before .before .before .before .before .before .before .before .before .before .pre .1 .1)))
-    (λ c. search needs)
-    (λ c. pop-columns-hit _ _ _ _ _ _ _ _ _ (c .before .before .before .before .before .before .before .before .before .before .before .before .pre .1 .1 .0) _ _ _ (c .before .before .before .before .before .before .before .if1 .taken) (c .before .before .before .before .before .pop-filter .ensures .0) (c .before .before .before .before .before .pop-filter .ensures .1) _ (c .before .found .given .1))
-    (λ c. search needs)
-    (λ c. pop-columns-miss _ _ _ _ _ _ _ _ _ (c .before .before .before .before .before .before .before .before .before .before .before .before .before .before .before .pre .1 .1 .0) _ _ _ (c .before .before .before .before .before .before .before .before .before .before .if1 .taken) (c .before .before .before .before .before .before .before .before .pop-filter .ensures .0) (c .before .before .before .before .before .before .before .before .pop-filter .ensures .1) _ _ (c .before .before .before .before .enum-told .given .1) (c .before .before .pop-columns .ensures .0) (c .before .before .pop-columns .ensures .1))
-    (λ c. pop-columns-end _ _ _ _ _ _ _ _ _ (c .before .before .before .before .before .pre .1 .1 .0) _ (c .if1 .left)))
+    (λ c. omega (arith, c .before .before .before .before .before .before .loop-test .taken, c .before .before .before .before .before .before .before .before .before .before .before .before .before .pre .1 .1 .1))
+    (λ c. omega (arith, c .before .before .before .before .before .before .loop-test .taken))
+    (λ c. let miss = pop-columns-miss _ _ _ _ _ _ _ _ _ (c .before .before .before .before .before .before .before .before .before .before .before .before .before .pre .1 .1 .0) _ _ _ (c .before .before .before .before .before .before .loop-test .taken) (c .before .before .before .before .pop-filter .ensures .0) (c .before .before .before .before .pop-filter .ensures .1) (c .enum-told .given .1) in (miss .0 ∙ c .before .before .before .before .before .before .before .loop .inv .0, miss .1 ∙ c .before .before .before .before .before .before .before .loop .inv .1))
+    (λ c. ap length (c .before .loop .inv .1))
+    (λ c. found-first _ _ _ _ _ _ _ _ _ (c .before .loop .inv .0) (c .before .loop .inv .1) (pop-columns-end _ _ _ _ _ _ _ _ _ (c .before .before .before .before .before .before .before .pre .1 .1 .0) _ (c .loop-test .left))))
     λ t. pop-filter-lts.spec (in-class-reads.Asked, in-class-reads.Learnt, wide-reads.Asked, wide-reads.Learnt, pop-columns-below t, pop-columns.Post, grow-reads.Asked, grow-reads.Learnt)
     (pop-filter-at t)
     pop-filter.Post
@@ -71,7 +89,7 @@ pub +pop-columns+pop-filter-spec : {M : Type 1} → statement M
     (λ c. search needs)
     (λ c. omega (arith, c .before .before .before .before .before .before .pre .1 .column .dims, c .before .if1 .left))
     (λ c κs. search needs)
-    (λ c κs. let a = c .before .before .before .before .before .before .before .before .args in let e : a .left ≡ suc (a .left - 1) = omega (arith, c .before .before .before .if1 .left) in (omega (arith, c .before .before .before .before .before .before .before .before .pre .0, c .before .wide .ensures), (room-at _ _ _ _ _ _ _ e (c .before .before .before .before .before .before .before .before .pre .1), c .before .wide .ensures)))
+    (λ c κs. let a = c .before .before .before .before .before .before .before .before .args in let e : a .left ≡ suc (a .left - 1) = omega (arith, c .before .before .before .if1 .left) in (omega (arith, c .before .before .before .before .before .before .before .before .pre .0), (room-at _ _ _ _ _ _ _ e (c .before .before .before .before .before .before .before .before .pre .1), c .before .wide .ensures)))
     (λ c. search needs)
     (λ c κs. let a = c .before .before .before .before .before .before .before .before .before .before .before .before .before .before .before .args in let e : a .left ≡ suc (a .left - 1) = omega (arith, c .before .before .before .before .before .before .before .before .before .before .if1 .left) in (room-len₂ _ _ _ _ _ _ _ (c .before .before .before .before .before .before .pop-columns .kept .1 .1 .1 .0) (room-at _ _ _ _ _ _ _ e (c .before .before .before .before .before .before .before .before .before .before .before .before .before .before .before .pre .1)), c .before .before .before .before .before .before .before .before .wide .ensures))
     (λ c. search needs)
