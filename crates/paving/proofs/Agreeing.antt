@@ -1,6 +1,6 @@
 -- What each way out of the check shows, in plain terms. Rests on the columns' laws.
 -- Assumes nothing.
-use mathlib.Core.Path.{_≡_}
+use mathlib.Core.Path.{_≡_, sym, ap, _∙_}
 use mathlib.Core.Bool.{Bool, true, false, _&&_}
 use mathlib.Core.List.{List}
 use Prim.Native.Nat.{ℕ, suc, _+_, _*_, _≤_, _<_}
@@ -27,18 +27,18 @@ module _ (cells sizes marks : List ℕ) (v : ℕ) where
     unfolding agreeFrom every
     columns-end h = rw (marks-end marks base (getD sizes i 0) j (omega arith))
 
-    pub columns-out : (r : Bool) → j < n → (getD marks (base + j) 0 ≡ 1 → ⊥) → r ≡ agreeFrom cells sizes i node marks base v (j + 1) → r ≡ agreeFrom cells sizes i node marks base v j
-    unfolding agreeFrom
-    columns-out r h m k = rw (marks-out marks base (getD sizes i 0) j (omega arith) m) k
+    module _ (h : j < n) where
+      pub columns-out : (getD marks (base + j) 0 ≡ 1 → ⊥) → agreeFrom cells sizes i node marks base v (j + 1) ≡ agreeFrom cells sizes i node marks base v j
+      unfolding agreeFrom
+      columns-out m = rw (marks-out marks base (getD sizes i 0) j (omega arith) m)
 
-    pub columns-in : (b r : Bool) → j < n → getD marks (base + j) 0 ≡ 1 → b ≡ agree eqb v (chosen marks sizes i (base + n)) (grid cells sizes i (node * n + j))
-        → r ≡ b && agreeFrom cells sizes i node marks base v (j + 1) → r ≡ agreeFrom cells sizes i node marks base v j
-    unfolding agreeFrom every
-    columns-in b r h m a k =
-        rw (marks-in marks base (getD sizes i 0) j (omega arith) m, at-grid cells sizes i node j (omega arith), ← (rw e at a)) k
+      module _ (m : getD marks (base + j) 0 ≡ 1) (b : Bool) (a : b ≡ agree eqb v (chosen marks sizes i (base + n)) (grid cells sizes i (node * n + j))) where
+        pub columns-in : agreeFrom cells sizes i node marks base v j ≡ b && agreeFrom cells sizes i node marks base v (j + 1)
+        unfolding agreeFrom every
+        columns-in = rw (marks-in marks base (getD sizes i 0) j (omega arith) m, at-grid cells sizes i node j (omega arith), ← (rw e at a))
 
-pub and-yes : (b r s : Bool) → b ≡ true → r ≡ s → r ≡ b && s
-and-yes b r s e h = rw e h
+        pub columns-yes : b ≡ true → agreeFrom cells sizes i node marks base v (j + 1) ≡ agreeFrom cells sizes i node marks base v j
+        columns-yes q = sym (columns-in ∙ ap (λ x. x && agreeFrom cells sizes i node marks base v (j + 1)) q)
 
-pub and-no : (b s : Bool) → b ≡ false → false ≡ b && s
-and-no b s e = rw e
+        pub columns-no : b ≡ false → false ≡ agreeFrom cells sizes i node marks base v j
+        columns-no q = sym (columns-in ∙ ap (λ x. x && agreeFrom cells sizes i node marks base v (j + 1)) q)

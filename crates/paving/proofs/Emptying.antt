@@ -82,6 +82,28 @@ module _ (cells sizes marks : List ℕ) (i node base n j : ℕ) (e : n ≡ getD 
       (clear-or eqb 0 (chosen marks sizes i (base + getD sizes i 0)) (eqb d (node * getD sizes i 0 + j)) (anyOf (λ x. eqb d (node * getD sizes i 0 + x)) (marksFrom marks base (getD sizes i 0) (j + 1)))
       (grid cells sizes i d) (grid c₁ sizes i d) (grid c₂ sizes i d) (rw e at (a d)) (k d))
 
+-- what empties the marked columns from j on of some cells empties all marked columns of the cells as they were at first
+unfoldable pub RestEmpties : List ℕ → List ℕ → List ℕ → List ℕ → ℕ → ℕ → ℕ → ℕ → Type 0
+RestEmpties first cells sizes marks i node base j = (c₂ : List ℕ) → ClearedFrom cells c₂ sizes i node marks base j → ClearedFrom first c₂ sizes i node marks base 0
+
+pub rest-begin : (cells sizes marks : List ℕ) (i node base : ℕ) → RestEmpties cells cells sizes marks i node base 0
+unfolding RestEmpties
+rest-begin cells sizes marks i node base c₂ k = k
+
+module _ (first cells sizes marks : List ℕ) (i node base n j : ℕ) (e : n ≡ getD sizes i 0) (r : RestEmpties first cells sizes marks i node base j) where
+  pub rest-end : n ≤ j → ClearedFrom first cells sizes i node marks base 0
+  unfolding RestEmpties
+  rest-end h = r cells (reset-end cells sizes marks i node base n j e h)
+
+  pub rest-out : (c₁ : List ℕ) → c₁ ≡ cells → j < n → (getD marks (base + j) 0 ≡ 1 → ⊥) → RestEmpties first c₁ sizes marks i node base (j + 1)
+  unfolding RestEmpties
+  rest-out c₁ p h m = rw p (λ c₂ k. r c₂ (reset-out cells sizes marks i node base n j e c₂ h m k))
+
+  pub rest-in : (c₁ c₃ : List ℕ) → c₃ ≡ c₁ → j < n → getD marks (base + j) 0 ≡ 1 → Cleared cells c₁ sizes i (node * n + j) (chosen marks sizes i (base + n))
+      → RestEmpties first c₃ sizes marks i node base (j + 1)
+  unfolding RestEmpties
+  rest-in c₁ c₃ p h m a = rw p (λ c₂ k. r c₂ (reset-in cells sizes marks i node base n j e c₁ c₂ h m a k))
+
 -- a number below m has one quotient and one rest
 pub number-eq : (m d c x y : ℕ) → x < m → y < m → eqb (d * m + x) (c * m + y) ≡ eqb d c && eqb x y
 number-eq m d c x y h k = go (eqb d c) refl (eqb x y) refl

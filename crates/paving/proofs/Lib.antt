@@ -4,6 +4,7 @@ pub mod Agreeing
 pub mod Marks
 pub mod Popping
 pub mod Emptying
+pub mod Rows
 pub mod Sweeping
 pub mod Points
 pub mod DayKinds

@@ -56,6 +56,28 @@ module _ (t : ℕ → Bool) (base : ℕ) where
           let q : x ≡ j = omega (arith, ltb-false j x e) in
           paint-low (j + 1) r s′ (base + x) (omega arith) ∙ rw q (getD-set-same s (base + j) (cond (t j) 1 0) 0 (omega arith))
 
+pub paint-ext : (t u : ℕ → Bool) (base j r : ℕ) (s : List ℕ) → ((x : ℕ) → j ≤ x → x < j + r → t x ≡ u x) → paint t base j r s ≡ paint u base j r s
+unfolding paint
+paint-ext t u base j zero s h = refl
+paint-ext t u base j (suc r) s h =
+    paint-ext t u base (j + 1) r (set s (base + j) (cond (t j) 1 0)) (λ x l k. h x (omega arith) (omega arith))
+    ∙ ap (λ b. paint u base (j + 1) r (set s (base + j) (cond b 1 0))) (h j (omega arith) (omega arith))
+
+-- ## Painting by a loop
+pub paint-all : (t : ℕ → Bool) (base n : ℕ) (s : List ℕ) → paint t base 0 (n - 0) s ≡ paint t base 0 n s
+paint-all t base n s = let z : n - 0 ≡ n = omega arith in ap (λ m. paint t base 0 m s) z
+
+pub paint-in : (t : ℕ → Bool) (base j n : ℕ) (s : List ℕ) (w : ℕ) → j < n → w ≡ cond (t j) 1 0 → paint t base (j + 1) (n - (j + 1)) (set s (base + j) w) ≡ paint t base j (n - j) s
+unfolding paint
+paint-in t base j n s w h q =
+    let z : n - j ≡ suc (n - (j + 1)) = omega arith in
+    ap (λ x. paint t base (j + 1) (n - (j + 1)) (set s (base + j) x)) q ∙ sym (ap (λ m. paint t base j m s) z)
+
+pub paint-end : (t : ℕ → Bool) (base j n : ℕ) (s : List ℕ) → n ≤ j → s ≡ paint t base j (n - j) s
+unfolding paint
+paint-end t base j n s h = let z : n - j ≡ 0 = omega arith in rw z
+
+-- ## What growing paints
 bit-test : (b : Bool) → eqb (cond b 1 0) 1 ≡ b
 bit-test true = refl
 bit-test false = refl
@@ -72,7 +94,7 @@ chosen-paint t s sizes i base h =
     (chosen-ext (paint t base 0 (n - 0) s) s sizes i (base + n) (λ k le. paint-high t base 0 (n - 0) s k (omega arith)))
 
 module _ (cells sizes : List ℕ) (v i node base n j : ℕ) (e : n ≡ getD sizes i 0) where
-  good-here : (s : List ℕ) (b : Bool) → j < n → b ≡ agree eqb v (chosen s sizes i (base + n)) (grid cells sizes i (node * n + j)) → goodAt cells sizes i node s base v j ≡ b
+  pub good-here : (s : List ℕ) (b : Bool) → j < n → b ≡ agree eqb v (chosen s sizes i (base + n)) (grid cells sizes i (node * n + j)) → goodAt cells sizes i node s base v j ≡ b
   unfolding goodAt
   good-here s b h a = rw (at-grid cells sizes i node j (omega arith), ← (rw e at a))
 
@@ -82,20 +104,9 @@ module _ (cells sizes : List ℕ) (v i node base n j : ℕ) (e : n ≡ getD size
       ap (λ S. λ x. agree eqb v S (at (grid cells sizes (suc i) node) x))
       (chosen-ext (set s (base + j) w) s sizes i (base + getD sizes i 0) (λ k le. getD-set-other s (base + j) k w 0 (omega arith)))
 
-  pub grow-end : (s : List ℕ) → n ≤ j → s ≡ paint (goodAt cells sizes i node s base v) base j (n - j) s
-  unfolding paint
-  grow-end s h = let z : n - j ≡ 0 = omega arith in rw z
-
   -- a column marked: what is left to paint from here gives what it gave before
   pub grow-in : (s : List ℕ) (b : Bool) (w : ℕ) → j < n → b ≡ agree eqb v (chosen s sizes i (base + n)) (grid cells sizes i (node * n + j)) → w ≡ cond b 1 0
       → paint (goodAt cells sizes i node (set s (base + j) w) base v) base (j + 1) (n - (j + 1)) (set s (base + j) w) ≡ paint (goodAt cells sizes i node s base v) base j (n - j) s
-  unfolding paint
   grow-in s b w h a q =
-      let z : n - j ≡ suc (n - (j + 1)) = omega arith in
-      let u : w ≡ cond (goodAt cells sizes i node s base v j) 1 0 = q ∙ ap (λ x. cond x 1 0) (sym (good-here s b h a)) in
       ap (λ t. paint t base (j + 1) (n - (j + 1)) (set s (base + j) w)) (good-set s w h)
-      ∙ ap (λ x. paint (goodAt cells sizes i node s base v) base (j + 1) (n - (j + 1)) (set s (base + j) x)) u
-      ∙ sym (ap (λ m. paint (goodAt cells sizes i node s base v) base j m s) z)
-
-pub paint-all : (t : ℕ → Bool) (base n : ℕ) (s : List ℕ) → paint t base 0 (n - 0) s ≡ paint t base 0 n s
-paint-all t base n s = let z : n - 0 ≡ n = omega arith in ap (λ m. paint t base 0 m s) z
+      ∙ paint-in (goodAt cells sizes i node s base v) base j n s w h (q ∙ ap (λ x. cond x 1 0) (sym (good-here s b h a)))

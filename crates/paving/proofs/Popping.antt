@@ -13,11 +13,11 @@ use Rattle.laws.specs.Lists.{from, firstOf, anyOf, keep, OnSome}
 use Rattle.laws.proofs.Lists.{OnSome-firstOf}
 use Rattle.grid.specs.Group.{Set, at, Group, agree, grow, pop}
 use Rattle.grid.proofs.Part.{Part, pop-part}
-use Rattle.paving.specs.Grid.{widthOf, axes, grid, chosen, inClass, popAt, popped, firstCell, popFrom, goodAt, paint, markSet, marked, answer}
+use Rattle.paving.specs.Grid.{widthOf, axes, grid, chosen, inClass, popAt, popped, popFrom, goodAt, paint, markSet, marked, answer}
 use Rattle.paving.specs.declared.Popped.{Popped}
 use Rattle.paving.specs.declared.Popped.the-variants.{Value, Nothing}
 use Rattle.paving.proofs.Room.{from-cons, from-end, at-grid}
-use Rattle.paving.proofs.Marks.{keep-ext, chosen-paint}
+use Rattle.paving.proofs.Marks.{keep-ext, paint-ext, chosen-paint}
 
 -- a column is among those that pass where it passes
 has-low : (t : ℕ → Bool) (x s r : ℕ) → x < s → anyOf (eqb x) (keep t (from s r)) ≡ false
@@ -40,13 +40,6 @@ has-keep t x s (suc r) l h = go (t s) refl (eqb x s) refl (has-keep t x (suc s) 
     go false p true q ih = rw (p, keep) (has-low t x (suc s) r (omega (arith, eqb-true x s q)) ∙ sym (ap t (eqb-true x s q) ∙ p))
     go true p false q ih = rw (p, keep, q) (ih (omega (arith, eqb-false x s q)) (omega arith))
     go false p false q ih = rw (p, keep) (ih (omega (arith, eqb-false x s q)) (omega arith))
-
-paint-ext : (t u : ℕ → Bool) (base j r : ℕ) (s : List ℕ) → ((x : ℕ) → j ≤ x → x < j + r → t x ≡ u x) → paint t base j r s ≡ paint u base j r s
-unfolding paint
-paint-ext t u base j zero s h = refl
-paint-ext t u base j (suc r) s h =
-    paint-ext t u base (j + 1) r (set s (base + j) (cond (t j) 1 0)) (λ x l k. h x (omega arith) (omega arith))
-    ∙ ap (λ b. paint u base (j + 1) r (set s (base + j) (cond b 1 0))) (h j (omega arith) (omega arith))
 
 paint-length : (t : ℕ → Bool) (base j r : ℕ) (s : List ℕ) → length (paint t base j r s) ≡ length s
 unfolding paint
@@ -201,52 +194,3 @@ module _ (cells kinds sizes : List ℕ) (k : ℕ) where
 pub found-first : (sizes : List ℕ) (i base : ℕ) (o first : Option (Group ℕ ℕ)) (f : Popped) (s s₀ s₁ : List ℕ) → o ≡ first → s ≡ s₀
     → (f ≡ answer o) × (s₁ ≡ marked sizes i base o s) → (f ≡ answer first) × (s₁ ≡ marked sizes i base first s₀)
 found-first sizes i base o first f s s₀ s₁ p q h = (h .0 ∙ ap answer p, h .1 ∙ ap₂ (marked sizes i base) p q)
-
--- ## The cells of a node with one dimension left
-module _ (cells : List ℕ) (ok : ℕ → Bool) (at end : ℕ) where
-  module _ (b : Bool) (h : at < end) (a : b ≡ ok (getD cells at 0)) where
-    pub cells-hit : b ≡ true → Value (getD cells at 0) ≡ firstCell cells ok at (end - at)
-    unfolding firstCell
-    cells-hit q = let z : end - at ≡ suc (end - (at + 1)) = omega arith in rw (z, sym a ∙ q)
-
-    pub cells-miss : b ≡ false → firstCell cells ok (at + 1) (end - (at + 1)) ≡ firstCell cells ok at (end - at)
-    unfolding firstCell
-    cells-miss q = let z : end - at ≡ suc (end - (at + 1)) = omega arith in rw (z, sym a ∙ q)
-
-  pub cells-end : end ≤ at → Nothing ≡ firstCell cells ok at (end - at)
-  unfolding firstCell
-  cells-end h = let z : end - at ≡ 0 = omega arith in rw z
-
-module _ (cells kinds sizes : List ℕ) (k node base n : ℕ) (e : n ≡ getD sizes 0 0) (s : List ℕ) where
-  -- are the node's columns: a cell without dimensions left is popped by its value alone, and nothing is marked
-  cells-columns : (r j : ℕ) → r ≡ n - j
-      → (firstCell cells (inClass kinds k) (node * n + j) r ≡ answer (popFrom cells sizes 0 node (inClass kinds k) j))
-      × (s ≡ marked sizes 0 (base + n) (popFrom cells sizes 0 node (inClass kinds k) j) s)
-  unfolding firstCell
-  cells-columns zero j z = pop-columns-end cells kinds sizes k 0 node base n j e s (omega arith)
-  cells-columns (suc r) j z = go (inClass kinds k (getD cells (node * n + j) 0)) refl (cells-columns r (j + 1) (omega arith))
-    where
-      next : node * n + (j + 1) ≡ node * n + j + 1
-      next = omega arith
-
-      go : (b : Bool) → b ≡ inClass kinds k (getD cells (node * n + j) 0)
-          → (firstCell cells (inClass kinds k) (node * n + (j + 1)) r ≡ answer (popFrom cells sizes 0 node (inClass kinds k) (j + 1)))
-          × (s ≡ marked sizes 0 (base + n) (popFrom cells sizes 0 node (inClass kinds k) (j + 1)) s)
-          → (cond b (Value (getD cells (node * n + j) 0)) (firstCell cells (inClass kinds k) (node * n + j + 1) r) ≡ answer (popFrom cells sizes 0 node (inClass kinds k) j))
-          × (s ≡ marked sizes 0 (base + n) (popFrom cells sizes 0 node (inClass kinds k) j) s)
-      go true q ih =
-          let leaf = pop-leaf-yes cells kinds sizes k s 0 (node * n + j) (base + n) true refl q refl in
-          pop-columns-hit cells kinds sizes k 0 node base n j e (Value (getD cells (node * n + j) 0)) s s (omega arith) (leaf .0) (leaf .1) (getD cells (node * n + j) 0) refl
-      go false q ih =
-          let leaf = pop-leaf-no cells kinds sizes k s 0 (node * n + j) (base + n) false refl q refl in
-          let miss = pop-columns-miss cells kinds sizes k 0 node base n j e Nothing s s (omega arith) (leaf .0) (leaf .1) refl in
-          (rw (← miss .0, ← next) (ih .0), rw (← miss .0) (ih .1))
-
-pub pop-cells : (cells kinds sizes : List ℕ) (k i node base n : ℕ) (s : List ℕ) (r : Popped) → i ≡ 0 → n ≡ getD sizes i 0
-    → r ≡ firstCell cells (inClass kinds k) (node * n) (node * n + n - node * n)
-    → (r ≡ answer (popFrom cells sizes i node (inClass kinds k) 0)) × (s ≡ marked sizes i (base + n) (popFrom cells sizes i node (inClass kinds k) 0) s)
-pop-cells cells kinds sizes k i node base n s r z e h =
-    let all : node * n + n - node * n ≡ n - 0 = omega arith in
-    let first : node * n ≡ node * n + 0 = omega arith in
-    let w = cells-columns cells kinds sizes k node base n (rw z at e) s (n - 0) 0 refl in
-    rw z (h ∙ ap (firstCell cells (inClass kinds k) (node * n)) all ∙ ap (λ m. firstCell cells (inClass kinds k) m (n - 0)) first ∙ w .0, w .1)

@@ -74,6 +74,18 @@ unfoldable pub firstCell : List ℕ → (ℕ → Bool) → ℕ → ℕ → Poppe
 firstCell cells ok at zero = Nothing
 firstCell cells ok at (suc r) = cond (ok (getD cells at 0)) (Value (getD cells at 0)) (firstCell cells ok (at + 1) r)
 
+-- has a cell, counted from the first one of a row, the value v? have all marked ones of the row, from j on?
+unfoldable pub cellIs : List ℕ → ℕ → ℕ → ℕ → Bool
+cellIs cells first v x = eqb (getD cells (first + x) 0) v
+
+unfoldable pub cellsAgree : List ℕ → List ℕ → ℕ → ℕ → ℕ → ℕ → ℕ → Bool
+cellsAgree cells marks first base n v j = every (cellIs cells first v) (marksFrom marks base n j)
+
+-- the marked cells of a row emptied, from j on for r columns
+unfoldable pub emptied : List ℕ → ℕ → ℕ → ℕ → ℕ → List ℕ → List ℕ
+emptied marks first base j zero cells = cells
+emptied marks first base j (suc r) cells = emptied marks first base (j + 1) r (cond (eqb (getD marks (base + j) 0) 1) (set cells (first + j) 0) cells)
+
 -- ## The walks over the columns from j on of a node with suc i dimensions left
 module _ (cells sizes : List ℕ) (i node : ℕ) where
   -- have all marked columns the value v throughout?

@@ -1,4 +1,5 @@
 // Whether a product of marked columns holds one value.
+use super::row::check_cells;
 use super::wide;
 ghost use mathlib.Core.Path.{_≡_};
 ghost use Prim.Native.Nat.{suc, _<_};
@@ -25,10 +26,10 @@ pub fn check_predicate(
     }
     let dimension = left - 1;
     let width = wide(sizes[dimension]);
-    check_columns(cells, sizes, marks, value, dimension, node, base, width, 0)
+    check_columns(cells, sizes, marks, value, dimension, node, base, width)
 }
 
-// The same over the marked columns of a node from one on.
+// The same over the marked columns of a node.
 fn check_columns(
     cells: &[u16],
     sizes: &[u16],
@@ -38,15 +39,18 @@ fn check_columns(
     node: usize,
     base: usize,
     width: usize,
-    column: usize,
 ) -> bool
     requires { ⌜ Room (length (now cells)) (length (now marks)) (now sizes) (suc dimension) node base ⌝ }
     requires { ⌜ (width ≡ getD (now sizes) dimension 0) × (width < 65536) ⌝ }
-    ensures { λ r. ⌜ r ≡ agreeFrom (now (cells .entry)) (now (sizes .entry)) dimension node (now (marks .entry)) base value column ⌝ }
+    ensures { λ r. ⌜ r ≡ agreeFrom (now (cells .entry)) (now (sizes .entry)) dimension node (now (marks .entry)) base value 0 ⌝ }
 {
-    if column < width {
+    if dimension == 0 {
+        return check_cells(cells, marks, value, node * width, base, width);
+    }
+    let mut column = 0;
+    while column < width {
         if marks[base + column] == 1 {
-            if check_predicate(
+            if !check_predicate(
                 cells,
                 sizes,
                 marks,
@@ -55,36 +59,12 @@ fn check_columns(
                 node * width + column,
                 base + width,
             ) {
-                check_columns(
-                    cells,
-                    sizes,
-                    marks,
-                    value,
-                    dimension,
-                    node,
-                    base,
-                    width,
-                    column + 1,
-                )
-            } else {
-                false
+                return false;
             }
-        } else {
-            check_columns(
-                cells,
-                sizes,
-                marks,
-                value,
-                dimension,
-                node,
-                base,
-                width,
-                column + 1,
-            )
         }
-    } else {
-        true
+        column += 1;
     }
+    true
 }
 
 // Whether a column holds the value throughout the product that is marked in the later dimensions.

@@ -1,16 +1,11 @@
 // Growing a group along one dimension.
 use super::check::is_val;
+use super::row::bit;
+use super::row::grow_cells;
 ghost use mathlib.Core.Path.{_≡_};
-ghost use mathlib.Core.Bool.{cond};
 ghost use Prim.Native.Nat.{suc, _<_};
 ghost use lib.ListN.{length, getD};
 ghost use Rattle.paving.specs.Grid.{Room, goodAt, paint};
-
-fn bit(b: bool) -> u8
-    ensures { λ r. ⌜ r ≡ cond b 1 0 ⌝ }
-{
-    if b { 1 } else { 0 }
-}
 
 // Marks the columns of a node that are good for the value and the marks of the later dimensions.
 pub fn grow(
@@ -27,6 +22,10 @@ pub fn grow(
     requires { ⌜ (width ≡ getD (now sizes) dimension 0) × (width < 65536) ⌝ }
     ensures { λ _. ⌜ now (marks .exit) ≡ paint (goodAt (now (cells .entry)) (now (sizes .entry)) dimension node (now (marks .entry)) base value) base 0 width (now (marks .entry)) ⌝ }
 {
+    if dimension == 0 {
+        grow_cells(cells, marks, value, node * width, base, width);
+        return;
+    }
     let mut column = 0;
     while column < width {
         let good = is_val(

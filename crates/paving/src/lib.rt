@@ -7,6 +7,7 @@ pub mod class;
 mod grow;
 pub mod pop;
 pub mod reset;
+mod row;
 
 ghost use mathlib.Core.Path.{_≡_};
 ghost use Prim.Native.Nat.{_<_};

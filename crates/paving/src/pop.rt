@@ -2,27 +2,12 @@
 use super::Popped;
 use super::class::in_class;
 use super::grow::grow;
+use super::row::first_cell;
 use super::wide;
 ghost use mathlib.Core.Path.{_≡_};
-ghost use Prim.Native.Nat.{suc, _+_, _-_, _≤_, _<_};
+ghost use Prim.Native.Nat.{suc, _+_, _<_};
 ghost use lib.ListN.{length, getD};
-ghost use Rattle.paving.specs.Grid.{Room, inClass, popAt, answer, marked, firstCell, popFrom};
-
-// The first value of a class among the cells from one on up to an end.
-fn first_cell(cells: &[u16], kinds: &[u8], class: u8, first: usize, end: usize) -> Popped
-    requires { ⌜ (first ≤ end) × (end ≤ length (now cells)) ⌝ }
-    ensures { λ r. ⌜ r ≡ firstCell (now (cells .entry)) (inClass (now (kinds .entry)) class) first (end - first) ⌝ }
-{
-    let mut at = first;
-    while at < end {
-        let value = cells[at];
-        if in_class(kinds, class, value) {
-            return Popped::Value(value);
-        }
-        at += 1;
-    }
-    Popped::Nothing
-}
+ghost use Rattle.paving.specs.Grid.{Room, inClass, popAt, answer, marked, popFrom};
 
 // The first group of a class below a node: its value, and its set as marks. Without one the marks stay.
 pub fn pop_filter(

@@ -1,4 +1,5 @@
 // Emptying a product of marked columns.
+use super::row::reset_cells;
 use super::wide;
 ghost use mathlib.Core.Path.{_≡_};
 ghost use Prim.Native.Nat.{suc, _<_};
@@ -16,10 +17,10 @@ pub fn reset(cells: &mut [u16], sizes: &[u16], marks: &[u8], left: usize, node: 
     }
     let dimension = left - 1;
     let width = wide(sizes[dimension]);
-    reset_columns(cells, sizes, marks, dimension, node, base, width, 0);
+    reset_columns(cells, sizes, marks, dimension, node, base, width);
 }
 
-// The same for the marked columns of a node from one on.
+// The same for the marked columns of a node.
 fn reset_columns(
     cells: &mut [u16],
     sizes: &[u16],
@@ -28,13 +29,17 @@ fn reset_columns(
     node: usize,
     base: usize,
     width: usize,
-    column: usize,
 )
     requires { ⌜ Room (length (now cells)) (length (now marks)) (now sizes) (suc dimension) node base ⌝ }
     requires { ⌜ (width ≡ getD (now sizes) dimension 0) × (width < 65536) ⌝ }
-    ensures { λ _. ⌜ ClearedFrom (now (cells .entry)) (now (cells .exit)) (now (sizes .entry)) dimension node (now (marks .entry)) base column ⌝ }
+    ensures { λ _. ⌜ ClearedFrom (now (cells .entry)) (now (cells .exit)) (now (sizes .entry)) dimension node (now (marks .entry)) base 0 ⌝ }
 {
-    if column < width {
+    if dimension == 0 {
+        reset_cells(cells, marks, node * width, base, width);
+        return;
+    }
+    let mut column = 0;
+    while column < width {
         if marks[base + column] == 1 {
             reset(
                 cells,
@@ -44,27 +49,7 @@ fn reset_columns(
                 node * width + column,
                 base + width,
             );
-            reset_columns(
-                cells,
-                sizes,
-                marks,
-                dimension,
-                node,
-                base,
-                width,
-                column + 1,
-            );
-        } else {
-            reset_columns(
-                cells,
-                sizes,
-                marks,
-                dimension,
-                node,
-                base,
-                width,
-                column + 1,
-            );
         }
+        column += 1;
     }
 }

@@ -1,9 +1,16 @@
-use mathlib.Core.Path.{_≡_}
+-- The cycle of `paving::check::check_predicate` and `check_columns` meets its contracts. The invariant of the loop over the columns:
+-- whether what is left from here agrees is whether all does.
+-- Assumes nothing.
+use mathlib.Core.Path.{_≡_, refl, _∙_}
+use mathlib.Core.Logic.{⊎-elim}
 use Prim.Native.Nat.{suc, _+_, _*_, _-_, ℕ, _<_}
 use borrow.Author.Needs.{needs}
+use borrow.Author.Tests.{not-true, not-false}
 use native.Mathlib.Omega.{arith}
-use Rattle.paving.proofs.Room.{room-at, room-node, room-child, room-marks}
-use Rattle.paving.proofs.Agreeing.{check-leaf, check-node, columns-end, columns-out, columns-in, and-yes, and-no}
+use Rattle.paving.specs.Grid.{agreeFrom}
+use Rattle.paving.proofs.Room.{room-at, room-node, room-child, room-marks, room-row}
+use Rattle.paving.proofs.Agreeing.{check-leaf, check-node, columns-end, columns-out, columns-yes, columns-no}
+use Rattle.paving.proofs.Rows.{check-cells}
 use borrow.Fn.Kinds.{In}
 use borrow.Fn.PlainCycle.{Measures, is, falls, and}
 use Rattle.paving.proofs.check.check_columns.Reads as check-columns
@@ -12,17 +19,16 @@ use Rattle.paving.proofs.check.+check_columns+check_predicate.Lts-check
 use Rattle.paving.proofs.check.check_predicate.Reads as check-predicate
 use Rattle.paving.proofs.check.check_predicate.Kinds as check-predicate-kinds
 use Rattle.paving.proofs.check.+check_columns+check_predicate.Lts-check_predicate as check-predicate-lts
+use Rattle.paving.proofs.row.check_cells.Reads as check-cells-reads
 use Rattle.paving.proofs.wide.Reads as wide-reads
 use Rattle.paving.proofs.check.+check_columns+check_predicate.{statement}
 use Rattle.paving.proofs.check.+check_columns+check_predicate.Tie.{close}
 
 abbrev μ-check-columns : Measures 3 check-columns-kinds.ps ℕ
-μ-check-columns κs a =
-    a .1 .1 .1 .1 .0 * 131072 + 1 + (a .1 .1 .1 .1 .1 .1 .1 .0 - a .1 .1 .1 .1 .1 .1 .1 .1 .0)
+μ-check-columns κs a = a .1 .1 .1 .1 .0 * 2 + 1
 
 abbrev μ-check-predicate : Measures 3 check-predicate-kinds.ps ℕ
-μ-check-predicate κs a =
-    a .1 .1 .1 .1 .0 * 131072
+μ-check-predicate κs a = a .1 .1 .1 .1 .0 * 2
 
 abbrev check-columns-at : ℕ → In 3 check-columns-kinds.ps
 check-columns-at t =
@@ -52,41 +58,45 @@ check-predicate-below t =
     (falls 3 check-predicate-kinds.ps _<_ μ-check-predicate t)
     check-predicate.Pre
 
--- src/lib.rt:40:16
-check-predicate-shared-slice-read-result :
-    (t : ℕ) → check-predicate-lts.Need-shared-slice-read-result (wide-reads.Asked, wide-reads.Learnt, check-columns-below t, check-columns.Post) (check-predicate-at t) check-predicate.Post
-check-predicate-shared-slice-read-result t c =
-    room-node _ _ _ _ _ _ (c .before .before .before .before .before .pre .1)
+abbrev check-columns-Inv-loop : check-columns-lts.InvT-loop
+check-columns-Inv-loop cells sizes marks value dimension node base width column₀ column =
+    agreeFrom cells sizes dimension node marks base value column ≡ agreeFrom cells sizes dimension node marks base value 0
+
+abbrev check-columns-μ-loop : check-columns-lts.MeasureT-loop
+check-columns-μ-loop cells sizes marks value dimension node base width column₀ column = width - column
 
 pub +check-columns+check-predicate-spec : {M : Type 1} → statement M
 +check-columns+check-predicate-spec =
-    close μ-check-columns μ-check-predicate (λ t. check-columns-lts.spec (check-predicate-below t, check-predicate.Post, check-columns-below t, check-columns.Post)
+    close μ-check-columns μ-check-predicate (λ t. check-columns-lts.spec (check-cells-reads.Asked, check-cells-reads.Learnt, check-predicate-below t, check-predicate.Post)
     (check-columns-at t)
     check-columns.Post
-    (λ c. omega (arith, room-marks _ _ _ _ _ _ _ (c .before .before .before .before .pre .1 .1 .0) (c .before .before .before .before .pre .1 .0), c .before .before .before .before .good))
-    (λ c. omega (arith, room-marks _ _ _ _ _ _ _ (c .before .before .before .before .before .pre .1 .1 .0) (c .before .before .before .before .before .pre .1 .0)))
-    (λ c. omega (arith, room-node _ _ _ _ _ _ (room-child _ _ _ _ _ _ _ _ (c .before .before .before .before .before .before .pre .1 .1 .0) (c .before .before .if1 .taken) (c .before .before .before .before .before .before .pre .1 .0)), c .before .before .before .before .before .before .good))
-    (λ c. omega (arith, room-node _ _ _ _ _ _ (room-child _ _ _ _ _ _ _ _ (c .before .before .before .before .before .before .pre .1 .1 .0) (c .before .before .if1 .taken) (c .before .before .before .before .before .before .pre .1 .0)), c .before .before .before .before .before .before .good))
+    check-columns-Inv-loop
+    check-columns-μ-loop
+    (λ c. omega (arith, room-row _ _ _ _ _ _ _ (c .before .before .before .before .pre .1 .1 .0) (c .before .before .before .before .pre .1 .0), c .before .before .before .before .good))
+    (λ c κs. (omega (arith, room-row _ _ _ _ _ _ _ (c .before .before .before .before .pre .1 .1 .0) (c .before .before .before .before .pre .1 .0)), omega (arith, room-marks _ _ _ _ _ _ _ (c .before .before .before .before .pre .1 .1 .0) (c .before .before .before .before .pre .1 .0))))
+    (λ c. check-cells _ _ _ _ _ _ _ _ _ (c .before .if1 .taken) (c .before .before .before .before .before .pre .1 .1 .0) (c .check-cells .ensures))
+    (λ c. refl)
     (λ c. omega (arith, room-marks _ _ _ _ _ _ _ (c .before .before .before .before .before .before .pre .1 .1 .0) (c .before .before .before .before .before .before .pre .1 .0), c .before .before .before .before .before .before .good))
-    (λ c κs. (omega (arith, c .before .before .before .before .before .before .pre .0), room-child _ _ _ _ _ _ _ _ (c .before .before .before .before .before .before .pre .1 .1 .0) (c .before .before .if1 .taken) (c .before .before .before .before .before .before .pre .1 .0)))
-    (λ c. search needs)
-    (λ c κs. (omega (arith, c .before .before .before .before .before .before .before .before .pre .0, c .before .before .before .before .if1 .taken), c .before .before .before .before .before .before .before .before .pre .1))
-    (λ c. search needs)
-    (λ c κs. (omega (arith, c .before .before .before .before .before .before .pre .0, c .before .before .if1 .taken), c .before .before .before .before .before .before .pre .1))
-    (λ c. columns-in _ _ _ _ _ _ _ _ _ (c .before .before .before .before .before .before .before .before .before .pre .1 .1 .0) _ _ (c .before .before .before .before .before .if1 .taken) (c .before .before .before .if2 .taken) (c .before .before .check-predicate .ensures) (and-yes _ _ _ (c .before .if3 .taken) (c .check-columns .ensures)))
-    (λ c. columns-in _ _ _ _ _ _ _ _ _ (c .before .before .before .before .before .before .before .before .pre .1 .1 .0) _ _ (c .before .before .before .before .if1 .taken) (c .before .before .if2 .taken) (c .before .check-predicate .ensures) (and-no _ _ (c .if3 .left)))
-    (λ c. columns-out _ _ _ _ _ _ _ _ _ (c .before .before .before .before .before .before .before .pre .1 .1 .0) _ (c .before .before .before .if1 .taken) (c .before .if2 .left) (c .check-columns2 .ensures))
-    (λ c. columns-end _ _ _ _ _ _ _ _ _ (c .before .before .before .before .pre .1 .1 .0) (c .if1 .left)))
+    (λ c. omega (arith, room-marks _ _ _ _ _ _ _ (c .before .before .before .before .before .before .before .pre .1 .1 .0) (c .before .before .before .before .before .before .before .pre .1 .0)))
+    (λ c. omega (arith, room-node _ _ _ _ _ _ (room-child _ _ _ _ _ _ _ _ (c .before .before .before .before .before .before .before .before .pre .1 .1 .0) (c .before .before .loop-test .taken) (c .before .before .before .before .before .before .before .before .pre .1 .0)), c .before .before .before .before .before .before .before .before .good))
+    (λ c. omega (arith, room-node _ _ _ _ _ _ (room-child _ _ _ _ _ _ _ _ (c .before .before .before .before .before .before .before .before .pre .1 .1 .0) (c .before .before .loop-test .taken) (c .before .before .before .before .before .before .before .before .pre .1 .0)), c .before .before .before .before .before .before .before .before .good))
+    (λ c. omega (arith, room-marks _ _ _ _ _ _ _ (c .before .before .before .before .before .before .before .before .pre .1 .1 .0) (c .before .before .before .before .before .before .before .before .pre .1 .0), c .before .before .before .before .before .before .before .before .good))
+    (λ c κs. (omega (arith, c .before .before .before .before .before .before .before .before .pre .0), room-child _ _ _ _ _ _ _ _ (c .before .before .before .before .before .before .before .before .pre .1 .1 .0) (c .before .before .loop-test .taken) (c .before .before .before .before .before .before .before .before .pre .1 .0)))
+    (λ c. columns-no _ _ _ _ _ _ _ _ _ (c .before .before .before .before .before .before .before .before .before .before .pre .1 .1 .0) (c .before .before .before .before .loop-test .taken) (c .before .before .if2 .taken) _ (c .before .check-predicate .ensures) (not-true _ (c .if3 .taken)) ∙ c .before .before .before .before .before .loop .inv)
+    (λ c. omega (arith, c .before .before .loop-test .taken, c .before .before .before .before .before .before .before .before .pre .1 .1 .1))
+    (λ c. omega (arith, c .before .before .loop-test .taken))
+    (λ c. ⊎-elim (λ w. columns-yes _ _ _ _ _ _ _ _ _ (c .before .before .before .before .before .before .before .before .pre .1 .1 .0) (c .before .before .loop-test .taken) (w .0 .taken) _ (w .1 .ensures) (not-false _ (w .2 .left))) (λ w. columns-out _ _ _ _ _ _ _ _ _ (c .before .before .before .before .before .before .before .before .pre .1 .1 .0) (c .before .before .loop-test .taken) (w .left)) (c .if2 .came) ∙ c .before .before .before .loop .inv)
+    (λ c. columns-end _ _ _ _ _ _ _ _ _ (c .before .before .before .before .before .before .pre .1 .1 .0) (c .loop-test .left) ∙ c .before .loop .inv))
     λ t. check-predicate-lts.spec
     (wide-reads.Asked, wide-reads.Learnt, check-columns-below t, check-columns.Post)
     (check-predicate-at t)
     check-predicate.Post
     (λ c. omega (arith, room-node _ _ _ _ _ _ (c .before .before .before .before .pre .1), c .before .before .before .before .good))
-    (check-predicate-shared-slice-read-result t)
+    (λ c. room-node _ _ _ _ _ _ (c .before .before .before .before .before .pre .1))
     (λ c. check-leaf _ _ _ _ _ _ _ (c .before .if1 .taken))
     (λ c. search needs)
     (λ c. search needs)
     (λ c. omega (arith, c .before .before .before .before .before .pre .1 .column .dims, c .before .if1 .left))
     (λ c κs. search needs)
-    (λ c κs. let a = c .before .before .before .before .before .before .args in let e : a .left ≡ suc (a .left - 1) = omega (arith, c .before .before .if1 .left) in (omega (arith, c .before .before .before .before .before .before .pre .0, c .wide .ensures), (room-at _ _ _ _ _ _ _ e (c .before .before .before .before .before .before .pre .1), c .wide .ensures)))
+    (λ c κs. let a = c .before .before .before .before .before .before .args in let e : a .left ≡ suc (a .left - 1) = omega (arith, c .before .before .if1 .left) in (omega (arith, c .before .before .before .before .before .before .pre .0), (room-at _ _ _ _ _ _ _ e (c .before .before .before .before .before .before .pre .1), c .wide .ensures)))
     (λ c. let a = c .before .before .before .before .before .before .before .args in let e : a .left ≡ suc (a .left - 1) = omega (arith, c .before .before .before .if1 .left) in check-node _ _ _ _ _ _ _ _ _ e (c .check-columns .ensures))

@@ -1,13 +1,14 @@
 -- `paving::grow::grow` meets its contract. The loop's invariant: painting what is left from here gives what painting all gives.
 -- Assumes nothing.
 use mathlib.Core.Path.{_≡_, refl, _∙_}
-use Prim.Native.Nat.{_-_, _≤_}
+use Prim.Native.Nat.{_-_}
 use native.Mathlib.Omega.{arith}
 use borrow.Author.Needs.{needs}
 use lib.ListN.{length, length-set}
 use Rattle.paving.specs.Grid.{goodAt, paint}
-use Rattle.paving.proofs.Room.{room-len₂, room-node, room-child, room-marks}
-use Rattle.paving.proofs.Marks.{grow-end, grow-in, paint-all}
+use Rattle.paving.proofs.Room.{room-len₂, room-node, room-child, room-marks, room-row}
+use Rattle.paving.proofs.Marks.{paint-all, paint-end, grow-in}
+use Rattle.paving.proofs.Rows.{grow-cells}
 use Rattle.paving.proofs.grow.grow.Statement.{statement}
 use Rattle.paving.proofs.grow.grow.Tie as tie
 
@@ -19,47 +20,59 @@ Inv-loop cells sizes marks₀ value dimension node base width column₀ marks co
 abbrev μ-loop : tie.MeasureT-loop
 μ-loop cells sizes marks₀ value dimension node base width column₀ marks column = width - column
 
+mul-grow-cells : tie.Need-mul-grow-cells Inv-loop μ-loop
+mul-grow-cells c =
+    let start = c .before .before .before .before .before in
+    omega (arith, room-row _ _ _ _ _ _ _ (start .pre .1 .0) (start .pre .0), start .good)
+
+grow-cells-requires : tie.Need-grow-cells-requires Inv-loop μ-loop
+grow-cells-requires c κs =
+    let start = c .before .before .before .before .before in
+    (omega (arith, room-row _ _ _ _ _ _ _ (start .pre .1 .0) (start .pre .0)), omega (arith, room-marks _ _ _ _ _ _ _ (start .pre .1 .0) (start .pre .0)))
+
+returns : tie.Need-returns Inv-loop μ-loop
+returns c =
+    let start = c .before .before .before .before .before .before .before .before in
+    grow-cells _ _ _ _ _ _ _ _ _ (c .before .before .before .before .if1 .taken) (start .pre .1 .0) (c .before .before .grow-cells .ensures)
+
 mul-is-val : tie.Need-mul-is-val Inv-loop μ-loop
 mul-is-val c =
-    let start = c .before .before .before .before .before .before in
+    let start = c .before .before .before .before .before .before .before in
     omega (arith, room-node _ _ _ _ _ _ (room-child _ _ _ _ _ _ _ _ (start .pre .1 .0) (c .before .loop-test .taken) (start .pre .0)), start .good)
 
 add-is-val : tie.Need-add-is-val Inv-loop μ-loop
 add-is-val c =
-    let start = c .before .before .before .before .before .before in
+    let start = c .before .before .before .before .before .before .before in
     omega (arith, room-node _ _ _ _ _ _ (room-child _ _ _ _ _ _ _ _ (start .pre .1 .0) (c .before .loop-test .taken) (start .pre .0)), start .good)
 
 add-is-val-2 : tie.Need-add-is-val-2 Inv-loop μ-loop
 add-is-val-2 c =
-    let start = c .before .before .before .before .before .before in
+    let start = c .before .before .before .before .before .before .before in
     omega (arith, room-marks _ _ _ _ _ _ _ (start .pre .1 .0) (start .pre .0), start .good)
 
 is-val-requires : tie.Need-is-val-requires Inv-loop μ-loop
 is-val-requires c κs =
-    let start = c .before .before .before .before .before .before in
+    let start = c .before .before .before .before .before .before .before in
     room-child _ _ _ _ _ _ _ _ (start .pre .1 .0) (c .before .loop-test .taken) (room-len₂ _ _ _ _ _ _ _ (c .before .before .loop .inv .0) (start .pre .0))
 
 add-marks : tie.Need-add-marks Inv-loop μ-loop
 add-marks c =
-    let start = c .before .before .before .before .before .before .before .before in
+    let start = c .before .before .before .before .before .before .before .before .before in
     omega (arith, room-marks _ _ _ _ _ _ _ (start .pre .1 .0) (start .pre .0), start .good)
 
 slice-write-marks : tie.Need-slice-write-marks Inv-loop μ-loop
 slice-write-marks c =
-    let start = c .before .before .before .before .before .before .before .before in
+    let start = c .before .before .before .before .before .before .before .before .before in
     omega (arith, room-marks _ _ _ _ _ _ _ (start .pre .1 .0) (start .pre .0), c .before .before .before .before .loop .inv .0)
 
 loop-again : tie.Need-loop-again Inv-loop μ-loop
 loop-again c =
-    let start = c .before .before .before .before .before .before .before .before in
+    let start = c .before .before .before .before .before .before .before .before .before in
     let old = c .before .before .before .before .loop in
     (simp length-set (old .inv .0), grow-in _ _ _ _ _ _ _ _ (start .pre .1 .0) _ _ _ (omega arith) (c .before .is-val .ensures) (c .bit .ensures) ∙ old .inv .1)
-
-returns : tie.Need-returns Inv-loop μ-loop
-returns c = grow-end _ _ _ _ _ _ _ _ (c .before .before .before .before .before .pre .1 .0) _ (omega arith) ∙ c .before .loop .inv .1
 
 pub grow-spec : {M : Type 1} → statement M
 grow-spec =
     tie.close
-    (tie.spec Inv-loop μ-loop (λ c. (refl, paint-all _ _ _ _)) mul-is-val add-is-val add-is-val-2 is-val-requires (λ c κs. search needs) add-marks slice-write-marks
-    (λ c. omega arith) (λ c. omega arith) loop-again (λ c. c .before .loop .inv .0) returns)
+    (tie.spec Inv-loop μ-loop mul-grow-cells grow-cells-requires (λ c. c .before .before .grow-cells .kept .1 .0) returns (λ c. (refl, paint-all _ _ _ _)) mul-is-val add-is-val add-is-val-2 is-val-requires
+    (λ c κs. search needs) add-marks slice-write-marks (λ c. omega arith) (λ c. omega arith) loop-again (λ c. c .before .loop .inv .0) (λ c. paint-end _ _ _ _ _ (omega arith) ∙ c .before .loop .inv .1))

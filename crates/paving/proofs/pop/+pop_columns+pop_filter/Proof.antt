@@ -8,7 +8,8 @@ use native.Mathlib.Omega.{arith}
 use lib.ListN.{length}
 use Rattle.paving.specs.Grid.{inClass, popFrom}
 use Rattle.paving.proofs.Room.{room-at, room-len₂, room-node, room-child, room-marks, room-width, room-row}
-use Rattle.paving.proofs.Popping.{pop-leaf-yes, pop-leaf-no, pop-node-none, pop-node-some, pop-columns-end, pop-columns-hit, pop-columns-miss, found-first, pop-cells}
+use Rattle.paving.proofs.Popping.{pop-leaf-yes, pop-leaf-no, pop-node-none, pop-node-some, pop-columns-end, pop-columns-hit, pop-columns-miss, found-first}
+use Rattle.paving.proofs.Rows.{pop-cells}
 use borrow.Fn.Kinds.{In}
 use borrow.Fn.PlainCycle.{Measures, is, falls, and}
 use Rattle.paving.proofs.pop.pop_columns.Reads as pop-columns
@@ -18,7 +19,7 @@ use Rattle.paving.proofs.pop.pop_filter.Reads as pop-filter
 use Rattle.paving.proofs.pop.pop_filter.Kinds as pop-filter-kinds
 use Rattle.paving.proofs.pop.+pop_columns+pop_filter.Lts-pop_filter as pop-filter-lts
 use Rattle.paving.proofs.class.in_class.Reads as in-class-reads
-use Rattle.paving.proofs.pop.first_cell.Reads as first-cell-reads
+use Rattle.paving.proofs.row.first_cell.Reads as first-cell-reads
 use Rattle.paving.proofs.grow.grow.Reads as grow-reads
 use Rattle.paving.proofs.wide.Reads as wide-reads
 use Rattle.paving.proofs.pop.+pop_columns+pop_filter.{statement}

@@ -1,9 +1,15 @@
-use mathlib.Core.Path.{_≡_}
+-- The cycle of `paving::reset::reset` and `reset_columns` meets its contracts. The invariant of the loop over the columns: what empties
+-- the marked columns that are left empties, in all, those of the cells as they came.
+-- Assumes nothing.
+use mathlib.Core.Path.{_≡_, refl, ap, _∙_}
+use mathlib.Core.Logic.{⊎-elim}
 use Prim.Native.Nat.{suc, _+_, _*_, _-_, ℕ, _<_}
 use borrow.Author.Needs.{needs}
 use native.Mathlib.Omega.{arith}
-use Rattle.paving.proofs.Room.{room-at, room-len, room-node, room-child, room-marks}
-use Rattle.paving.proofs.Emptying.{reset-leaf, reset-node, reset-end, reset-out, reset-in}
+use lib.ListN.{length}
+use Rattle.paving.proofs.Room.{room-at, room-len, room-node, room-child, room-marks, room-row}
+use Rattle.paving.proofs.Emptying.{RestEmpties, reset-leaf, reset-node, rest-begin, rest-end, rest-out, rest-in}
+use Rattle.paving.proofs.Rows.{reset-cells}
 use borrow.Fn.Kinds.{In}
 use borrow.Fn.PlainCycle.{Measures, is, falls, and}
 use Rattle.paving.proofs.reset.reset.Reads as reset
@@ -12,17 +18,16 @@ use Rattle.paving.proofs.reset.+reset+reset_columns.Lts-reset as reset-
 use Rattle.paving.proofs.reset.reset_columns.Reads as reset-columns
 use Rattle.paving.proofs.reset.reset_columns.Kinds as reset-columns-kinds
 use Rattle.paving.proofs.reset.+reset+reset_columns.Lts-reset_columns as reset-columns-lts
+use Rattle.paving.proofs.row.reset_cells.Reads as reset-cells-reads
 use Rattle.paving.proofs.wide.Reads as wide-reads
 use Rattle.paving.proofs.reset.+reset+reset_columns.{statement}
 use Rattle.paving.proofs.reset.+reset+reset_columns.Tie.{close}
 
 abbrev μ-reset : Measures 3 reset-kinds.ps ℕ
-μ-reset κs a =
-    a .1 .1 .1 .0 * 131072
+μ-reset κs a = a .1 .1 .1 .0 * 2
 
 abbrev μ-reset-columns : Measures 3 reset-columns-kinds.ps ℕ
-μ-reset-columns κs a =
-    a .1 .1 .1 .0 * 131072 + 1 + (a .1 .1 .1 .1 .1 .1 .0 - a .1 .1 .1 .1 .1 .1 .1 .0)
+μ-reset-columns κs a = a .1 .1 .1 .0 * 2 + 1
 
 abbrev reset-at : ℕ → In 3 reset-kinds.ps
 reset-at t = and 3 reset-kinds.ps (is 3 reset-kinds.ps μ-reset t) reset.Pre
@@ -42,6 +47,13 @@ reset-columns-below t =
     (falls 3 reset-columns-kinds.ps _<_ μ-reset-columns t)
     reset-columns.Pre
 
+abbrev reset-columns-Inv-loop : reset-columns-lts.InvT-loop
+reset-columns-Inv-loop cells₀ sizes marks dimension node base width column₀ cells column =
+    (length cells ≡ length cells₀) × RestEmpties cells₀ cells sizes marks dimension node base column
+
+abbrev reset-columns-μ-loop : reset-columns-lts.MeasureT-loop
+reset-columns-μ-loop cells₀ sizes marks dimension node base width column₀ cells column = width - column
+
 pub +reset+reset-columns-spec : {M : Type 1} → statement M
 +reset+reset-columns-spec = close μ-reset μ-reset-columns (λ t. reset-lts.spec (wide-reads.Asked, wide-reads.Learnt, reset-columns-below t, reset-columns.Post)
     (reset-at t)
@@ -54,25 +66,28 @@ pub +reset+reset-columns-spec : {M : Type 1} → statement M
     (λ c. search needs)
     (λ c. omega (arith, c .before .before .before .before .before .pre .1 .column .dims, c .before .if1 .left))
     (λ c κs. search needs)
-    (λ c κs. let a = c .before .before .before .before .before .before .before .args in let e : a .left ≡ suc (a .left - 1) = omega (arith, c .before .before .before .if1 .left) in (omega (arith, c .before .before .before .before .before .before .before .pre .0, c .before .wide .ensures), (room-at _ _ _ _ _ _ _ e (c .before .before .before .before .before .before .before .pre .1), c .before .wide .ensures)))
+    (λ c κs. let a = c .before .before .before .before .before .before .before .args in let e : a .left ≡ suc (a .left - 1) = omega (arith, c .before .before .before .if1 .left) in (omega (arith, c .before .before .before .before .before .before .before .pre .0), (room-at _ _ _ _ _ _ _ e (c .before .before .before .before .before .before .before .pre .1), c .before .wide .ensures)))
     (λ c. search needs)
     (λ c. let a = c .before .before .before .before .before .before .before .before .before .before .args in let e : a .left ≡ suc (a .left - 1) = omega (arith, c .before .before .before .before .before .before .if1 .left) in reset-node _ _ _ _ _ _ _ _ e (c .before .before .reset-columns .ensures)))
     λ t. reset-columns-lts.spec
-    (reset-below t, reset.Post, reset-columns-below t, reset-columns.Post)
+    (reset-cells-reads.Asked, reset-cells-reads.Learnt, reset-below t, reset.Post)
     (reset-columns-at t)
     reset-columns.Post
-    (λ c. omega (arith, room-marks _ _ _ _ _ _ _ (c .before .before .before .before .pre .1 .1 .0) (c .before .before .before .before .pre .1 .0), c .before .before .before .before .good))
-    (λ c. omega (arith, room-marks _ _ _ _ _ _ _ (c .before .before .before .before .before .pre .1 .1 .0) (c .before .before .before .before .before .pre .1 .0)))
-    (λ c. omega (arith, room-node _ _ _ _ _ _ (room-child _ _ _ _ _ _ _ _ (c .before .before .before .before .before .before .before .pre .1 .1 .0) (c .before .before .before .if1 .taken) (c .before .before .before .before .before .before .before .pre .1 .0)), c .before .before .before .before .before .before .before .good))
-    (λ c. omega (arith, room-node _ _ _ _ _ _ (room-child _ _ _ _ _ _ _ _ (c .before .before .before .before .before .before .before .pre .1 .1 .0) (c .before .before .before .if1 .taken) (c .before .before .before .before .before .before .before .pre .1 .0)), c .before .before .before .before .before .before .before .good))
-    (λ c. omega (arith, room-marks _ _ _ _ _ _ _ (c .before .before .before .before .before .before .before .pre .1 .1 .0) (c .before .before .before .before .before .before .before .pre .1 .0), c .before .before .before .before .before .before .before .good))
-    (λ c κs. (omega (arith, c .before .before .before .before .before .before .before .pre .0), room-child _ _ _ _ _ _ _ _ (c .before .before .before .before .before .before .before .pre .1 .1 .0) (c .before .before .before .if1 .taken) (c .before .before .before .before .before .before .before .pre .1 .0)))
-    (λ c. search needs)
-    (λ c κs. (omega (arith, c .before .before .before .before .before .before .before .before .before .before .before .pre .0, c .before .before .before .before .before .before .before .if1 .taken), (room-len _ _ _ _ _ _ _ (c .before .before .before .reset .kept .0) (c .before .before .before .before .before .before .before .before .before .before .before .pre .1 .0), c .before .before .before .before .before .before .before .before .before .before .before .pre .1 .1)))
-    (λ c. search needs)
-    (λ c κs. (omega (arith, c .before .before .before .before .before .before .before .pre .0, c .before .before .before .if1 .taken), c .before .before .before .before .before .before .before .pre .1))
-    (λ c. search needs)
-    (λ c. reset-in _ _ _ _ _ _ _ _ (c .before .before .before .before .before .before .before .before .before .before .before .before .before .before .pre .1 .1 .0) _ _ (c .before .before .before .before .before .before .before .before .before .before .if1 .taken) (c .before .before .before .before .before .before .before .before .if2 .taken) (c .before .before .before .before .before .before .reset .ensures) (c .before .before .reset-columns .ensures))
-    (λ c. search needs)
-    (λ c. reset-out _ _ _ _ _ _ _ _ (c .before .before .before .before .before .before .before .before .before .before .pre .1 .1 .0) _ (c .before .before .before .before .before .before .if1 .taken) (c .before .before .before .before .if2 .left) (c .before .before .reset-columns2 .ensures))
-    (λ c. reset-end _ _ _ _ _ _ _ _ (c .before .before .before .before .pre .1 .1 .0) (c .if1 .left))
+    reset-columns-Inv-loop
+    reset-columns-μ-loop
+    (λ c. omega (arith, room-row _ _ _ _ _ _ _ (c .before .before .before .before .before .pre .1 .1 .0) (c .before .before .before .before .before .pre .1 .0), c .before .before .before .before .before .good))
+    (λ c κs. (omega (arith, room-row _ _ _ _ _ _ _ (c .before .before .before .before .before .pre .1 .1 .0) (c .before .before .before .before .before .pre .1 .0)), omega (arith, room-marks _ _ _ _ _ _ _ (c .before .before .before .before .before .pre .1 .1 .0) (c .before .before .before .before .before .pre .1 .0))))
+    (λ c. c .before .before .reset-cells .kept .0)
+    (λ c. reset-cells _ _ _ _ _ _ _ _ (c .before .before .before .before .if1 .taken) (c .before .before .before .before .before .before .before .before .pre .1 .1 .0) (room-row _ _ _ _ _ _ _ (c .before .before .before .before .before .before .before .before .pre .1 .1 .0) (c .before .before .before .before .before .before .before .before .pre .1 .0)) (c .before .before .reset-cells .ensures))
+    (λ c. (refl, rest-begin _ _ _ _ _ _))
+    (λ c. omega (arith, room-marks _ _ _ _ _ _ _ (c .before .before .before .before .before .before .pre .1 .1 .0) (c .before .before .before .before .before .before .pre .1 .0), c .before .before .before .before .before .before .good))
+    (λ c. omega (arith, room-marks _ _ _ _ _ _ _ (c .before .before .before .before .before .before .before .pre .1 .1 .0) (c .before .before .before .before .before .before .before .pre .1 .0)))
+    (λ c. omega (arith, room-node _ _ _ _ _ _ (room-child _ _ _ _ _ _ _ _ (c .before .before .before .before .before .before .before .before .before .pre .1 .1 .0) (c .before .before .before .loop-test .taken) (c .before .before .before .before .before .before .before .before .before .pre .1 .0)), c .before .before .before .before .before .before .before .before .before .good))
+    (λ c. omega (arith, room-node _ _ _ _ _ _ (room-child _ _ _ _ _ _ _ _ (c .before .before .before .before .before .before .before .before .before .pre .1 .1 .0) (c .before .before .before .loop-test .taken) (c .before .before .before .before .before .before .before .before .before .pre .1 .0)), c .before .before .before .before .before .before .before .before .before .good))
+    (λ c. omega (arith, room-marks _ _ _ _ _ _ _ (c .before .before .before .before .before .before .before .before .before .pre .1 .1 .0) (c .before .before .before .before .before .before .before .before .before .pre .1 .0), c .before .before .before .before .before .before .before .before .before .good))
+    (λ c κs. (omega (arith, c .before .before .before .before .before .before .before .before .before .pre .0), room-len _ _ _ _ _ _ _ (c .before .before .before .before .loop .inv .0) (room-child _ _ _ _ _ _ _ _ (c .before .before .before .before .before .before .before .before .before .pre .1 .1 .0) (c .before .before .before .loop-test .taken) (c .before .before .before .before .before .before .before .before .before .pre .1 .0))))
+    (λ c. omega (arith, c .before .before .loop-test .taken, c .before .before .before .before .before .before .before .before .pre .1 .1 .1))
+    (λ c. omega (arith, c .before .before .loop-test .taken))
+    (λ c. ⊎-elim (λ w. (ap length (w .5) ∙ w .2 .kept .0 ∙ c .before .before .before .loop .inv .0, rest-in _ _ _ _ _ _ _ _ _ (c .before .before .before .before .before .before .before .before .pre .1 .1 .0) (c .before .before .before .loop .inv .1) _ _ (w .5) (c .before .before .loop-test .taken) (w .0 .taken) (w .2 .ensures))) (λ w. (ap length (w .1) ∙ c .before .before .before .loop .inv .0, rest-out _ _ _ _ _ _ _ _ _ (c .before .before .before .before .before .before .before .before .pre .1 .1 .0) (c .before .before .before .loop .inv .1) _ (w .1) (c .before .before .loop-test .taken) (w .0 .left))) (c .if2 .came))
+    (λ c. c .before .loop .inv .0)
+    (λ c. rest-end _ _ _ _ _ _ _ _ _ (c .before .before .before .before .before .before .pre .1 .1 .0) (c .before .loop .inv .1) (c .loop-test .left))

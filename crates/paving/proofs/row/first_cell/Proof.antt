@@ -1,13 +1,13 @@
--- `paving::pop::first_cell` meets its contract. The loop's invariant: the first that passes from here on is the first of all.
+-- `paving::row::first_cell` meets its contract. The loop's invariant: the first that passes from here on is the first of all.
 -- Assumes nothing.
 use mathlib.Core.Path.{_≡_, refl, _∙_}
 use Prim.Native.Nat.{_-_, _≤_}
 use native.Mathlib.Omega.{arith}
 use borrow.Author.Needs.{needs}
 use Rattle.paving.specs.Grid.{inClass, firstCell}
-use Rattle.paving.proofs.Popping.{cells-hit, cells-miss, cells-end}
-use Rattle.paving.proofs.pop.first_cell.Statement.{statement}
-use Rattle.paving.proofs.pop.first_cell.Tie as tie
+use Rattle.paving.proofs.Rows.{cells-hit, cells-miss, cells-end}
+use Rattle.paving.proofs.row.first_cell.Statement.{statement}
+use Rattle.paving.proofs.row.first_cell.Tie as tie
 
 abbrev Inv-loop : tie.InvT-loop
 Inv-loop cells kinds class first end at₀ at = (at ≤ end) × (firstCell cells (inClass kinds class) at (end - at) ≡ firstCell cells (inClass kinds class) first (end - first))
