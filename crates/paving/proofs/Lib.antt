@@ -5,6 +5,7 @@ pub mod Marks
 pub mod Popping
 pub mod Emptying
 pub mod Rows
+pub mod Skipping
 pub mod Sweeping
 pub mod Points
 pub mod DayKinds

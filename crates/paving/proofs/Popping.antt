@@ -102,7 +102,7 @@ module _ (cells kinds sizes : List ℕ) (k : ℕ) where
   pop-leaf-no marks left node base b e h q = rw (e, sym h ∙ q, pop) (refl, refl)
 
   module _ (i node : ℕ) where
-    pop-unfold : popAt cells kinds sizes k (suc i) node
+    pub pop-unfold : popAt cells kinds sizes k (suc i) node
         ≡ grow eqb (from 0 (getD sizes i 0)) (grid cells sizes (suc i) node) (popFrom cells sizes i node (inClass kinds k) 0)
     unfolding popAt pop axes popFrom
     pop-unfold =

@@ -6,7 +6,7 @@ use mathlib.Core.List.{List, [], _∷_}
 use Prim.Native.Nat.{ℕ, zero, suc, _+_, _-_, _*_, _≤_, _<_}
 use native.Mathlib.Omega.{arith}
 use native.Mathlib.Nat.{mul-le-mul-right, le-mul-of-pos-right, mul-pos, mul-assoc}
-use lib.ListN.{getD}
+use lib.ListN.{length, getD}
 use borrow.Author.Tests.{lt-ltb, eq-eqb, ne-eqb}
 use Rattle.laws.specs.Lists.{from, keep}
 use Rattle.grid.specs.Group.{at}
@@ -39,7 +39,7 @@ pub at-grid : (cells sizes : List ℕ) (i node x : ℕ) → x < getD sizes i 0 �
 unfolding grid
 at-grid cells sizes i node x h = ap (λ b. cond b (grid cells sizes i (node * getD sizes i 0 + x)) (λ q. 0)) (lt-ltb x (getD sizes i 0) h)
 
-size-pos : (sizes : List ℕ) (l : ℕ) → ((k : ℕ) → k < l → 1 ≤ getD sizes k 0) → 1 ≤ sizeOf sizes l
+pub size-pos : (sizes : List ℕ) (l : ℕ) → ((k : ℕ) → k < l → 1 ≤ getD sizes k 0) → 1 ≤ sizeOf sizes l
 unfolding sizeOf
 size-pos sizes zero h = omega arith
 size-pos sizes (suc l) h = mul-pos (h l (omega arith)) (size-pos sizes l (λ k lt. h k (omega arith)))
@@ -93,3 +93,15 @@ module _ (len places : ℕ) (sizes : List ℕ) where
   room-row i node base n e r =
       let one = r .column .filled i (omega arith) in
       omega (arith, room-node i (node * n + (n - 1)) (base + n) (room-child i node base n (n - 1) e (omega arith) r))
+
+  -- the sizes of a node and of its children
+  pub room-size : (l node base : ℕ) → Room len places sizes l node base → sizeOf sizes l ≤ len
+  room-size l node base r =
+      let a : 1 * sizeOf sizes l ≤ (node + 1) * sizeOf sizes l = mul-le-mul-right (sizeOf sizes l) (omega arith) in
+      omega (arith, a, r .column .below)
+
+  pub room-place : (i node base n : ℕ) → n ≡ getD sizes i 0 → Room len places sizes (suc i) node base → (i ≤ length sizes) × ((k : ℕ) → k < i → 1 ≤ getD sizes k 0) × (sizeOf sizes i ≤ len)
+  room-place i node base n e r =
+      let one = r .column .filled i (omega arith) in
+      let first = room-child i node base n 0 e (omega arith) r in
+      (first .column .dims, first .column .filled, room-size i (node * n + 0) (base + n) first)

@@ -5,33 +5,72 @@ use mathlib.Core.Bool.{Bool, true, false, _&&_, cond}
 use mathlib.Core.List.{List}
 use Prim.Native.Nat.{ℕ, zero, suc, _+_, _-_, _*_, _≤_, _<_}
 use native.Mathlib.Omega.{arith}
-use lib.Dec.{eqb}
+use lib.Dec.{eqb, ltb}
 use lib.ListN.{length, getD, set, length-set}
-use borrow.Author.Tests.{eq-eqb, ne-eqb, eqb-true, eqb-false}
+use borrow.Author.Tests.{eq-eqb, ne-eqb, ltb-true, ltb-false, eqb-true, eqb-false}
 use Rattle.laws.specs.Lists.{every}
-use Rattle.paving.specs.Grid.{inClass, firstCell, cellIs, cellsAgree, emptied, agreeFrom, popFrom, goodAt, paint, marked, answer, ClearedFrom}
+use Rattle.paving.specs.Grid.{inClass, NoneFrom, firstCell, cellIs, cellsAgree, emptied, agreeFrom, popFrom, goodAt, paint, marked, answer, ClearedFrom}
 use Rattle.paving.specs.declared.Popped.{Popped}
 use Rattle.paving.specs.declared.Popped.the-variants.{Value, Nothing}
 use Rattle.paving.proofs.Room.{marks-in, marks-out, marks-end}
 use Rattle.paving.proofs.Agreeing.{check-leaf, columns-end, columns-out, columns-in}
 use Rattle.paving.proofs.Marks.{good-here, paint-ext, paint-in}
-use Rattle.paving.proofs.Popping.{pop-leaf-yes, pop-leaf-no, pop-columns-end, pop-columns-hit, pop-columns-miss}
+use Rattle.paving.proofs.Popping.{pop-leaf-yes, pop-leaf-no, pop-columns-end, pop-columns-hit, pop-columns-miss, found-first}
 use Rattle.paving.proofs.Emptying.{reset-leaf, reset-end, reset-out, reset-in}
 
 -- ## The first cell of a class
 module _ (cells : List ℕ) (ok : ℕ → Bool) (at end : ℕ) where
   module _ (b : Bool) (h : at < end) (a : b ≡ ok (getD cells at 0)) where
-    pub cells-hit : b ≡ true → Value (getD cells at 0) ≡ firstCell cells ok at (end - at)
+    cells-hit : b ≡ true → Value (getD cells at 0) ≡ firstCell cells ok at (end - at)
     unfolding firstCell
     cells-hit q = let z : end - at ≡ suc (end - (at + 1)) = omega arith in rw (z, sym a ∙ q)
 
-    pub cells-miss : b ≡ false → firstCell cells ok (at + 1) (end - (at + 1)) ≡ firstCell cells ok at (end - at)
+    cells-miss : b ≡ false → firstCell cells ok (at + 1) (end - (at + 1)) ≡ firstCell cells ok at (end - at)
     unfolding firstCell
     cells-miss q = let z : end - at ≡ suc (end - (at + 1)) = omega arith in rw (z, sym a ∙ q)
 
-  pub cells-end : end ≤ at → Nothing ≡ firstCell cells ok at (end - at)
+  cells-end : end ≤ at → Nothing ≡ firstCell cells ok at (end - at)
   unfolding firstCell
   cells-end h = let z : end - at ≡ 0 = omega arith in rw z
+
+module _ (cells : List ℕ) (ok : ℕ → Bool) where
+  pub none-begin : (first : ℕ) → NoneFrom cells ok first first
+  unfolding NoneFrom
+  none-begin first = λ q l h. absurd (omega arith)
+
+  pub none-join : (first at end : ℕ) → NoneFrom cells ok first at → NoneFrom cells ok at end → NoneFrom cells ok first end
+  unfolding NoneFrom
+  none-join first at end a b = λ q l h. go q l h (ltb q at) refl
+    where
+      go : (q : ℕ) → first ≤ q → q < end → (c : Bool) → ltb q at ≡ c → ok (getD cells q 0) ≡ false
+      go q l h true t = a q l (ltb-true q at t)
+      go q l h false t = b q (omega (arith, ltb-false q at t)) h
+
+  pub none-more : (first at : ℕ) (b : Bool) → NoneFrom cells ok first at → b ≡ ok (getD cells at 0) → b ≡ false → NoneFrom cells ok first (at + 1)
+  unfolding NoneFrom
+  none-more first at b a e q = none-join first at (at + 1) a (λ x l h. let z : x ≡ at = omega arith in rw z (sym e ∙ q))
+
+  -- passing cells that do not pass
+  cells-skip : (d first end : ℕ) → first + d ≤ end → NoneFrom cells ok first (first + d) → firstCell cells ok (first + d) (end - (first + d)) ≡ firstCell cells ok first (end - first)
+  unfolding NoneFrom
+  cells-skip zero first end h a = let z : first + 0 ≡ first = omega arith in ap (λ m. firstCell cells ok m (end - m)) z
+  cells-skip (suc d) first end h a =
+      let z : first + suc d ≡ first + 1 + d = omega arith in
+      ap (λ m. firstCell cells ok m (end - m)) z
+      ∙ cells-skip d (first + 1) end (omega arith) (λ q l k. a q (omega arith) (omega arith))
+      ∙ cells-miss cells ok first end false (omega arith) (sym (a first (omega arith) (omega arith))) refl
+
+  module _ (first at end : ℕ) (l : first ≤ at) (h : at ≤ end) (a : NoneFrom cells ok first at) where
+    skipped : firstCell cells ok at (end - at) ≡ firstCell cells ok first (end - first)
+    skipped =
+        let z : first + (at - first) ≡ at = omega arith in
+        ap (λ m. firstCell cells ok m (end - m)) (sym z) ∙ cells-skip (at - first) first end (omega arith) (rw z a)
+
+    pub first-hit : at < end → (at < end → ok (getD cells at 0) ≡ true) → Value (getD cells at 0) ≡ firstCell cells ok first (end - first)
+    first-hit k t = cells-hit cells ok at end true k (sym (t k)) refl ∙ skipped
+
+    pub first-none : end ≤ at → Nothing ≡ firstCell cells ok first (end - first)
+    first-none k = cells-end cells ok at end k ∙ skipped
 
 module _ (cells kinds sizes : List ℕ) (k node base n : ℕ) (e : n ≡ getD sizes 0 0) (s : List ℕ) where
   -- the row's cells are the node's columns: a cell has no dimensions left, it is popped by its value alone, and nothing is marked
@@ -58,14 +97,14 @@ module _ (cells kinds sizes : List ℕ) (k node base n : ℕ) (e : n ≡ getD si
           let miss = pop-columns-miss cells kinds sizes k 0 node base n j e Nothing s s (omega arith) (leaf .0) (leaf .1) refl in
           (rw (← miss .0, ← next) (ih .0), rw (← miss .0) (ih .1))
 
-pub pop-cells : (cells kinds sizes : List ℕ) (k i node base n : ℕ) (s : List ℕ) (r : Popped) → i ≡ 0 → n ≡ getD sizes i 0
-    → r ≡ firstCell cells (inClass kinds k) (node * n) (node * n + n - node * n)
+pub pop-cells : (cells kinds sizes : List ℕ) (k i node base n j : ℕ) (s : List ℕ) (r : Popped) → i ≡ 0 → n ≡ getD sizes i 0
+    → popFrom cells sizes i node (inClass kinds k) j ≡ popFrom cells sizes i node (inClass kinds k) 0 → r ≡ firstCell cells (inClass kinds k) (node * n + j) (node * n + n - (node * n + j))
     → (r ≡ answer (popFrom cells sizes i node (inClass kinds k) 0)) × (s ≡ marked sizes i (base + n) (popFrom cells sizes i node (inClass kinds k) 0) s)
-pop-cells cells kinds sizes k i node base n s r z e h =
-    let all : node * n + n - node * n ≡ n - 0 = omega arith in
-    let first : node * n ≡ node * n + 0 = omega arith in
-    let w = cells-columns cells kinds sizes k node base n (rw z at e) s (n - 0) 0 refl in
-    rw z (h ∙ ap (firstCell cells (inClass kinds k) (node * n)) all ∙ ap (λ m. firstCell cells (inClass kinds k) m (n - 0)) first ∙ w .0, w .1)
+pop-cells cells kinds sizes k i node base n j s r z e p h =
+    let all : node * n + n - (node * n + j) ≡ n - j = omega arith in
+    let w = cells-columns cells kinds sizes k node base n (rw z at e) s (n - j) j refl in
+    found-first sizes i (base + n) (popFrom cells sizes i node (inClass kinds k) j) (popFrom cells sizes i node (inClass kinds k) 0) r s s s p refl
+    (rw z (h ∙ ap (firstCell cells (inClass kinds k) (node * n + j)) all ∙ w .0, w .1))
 
 -- ## Whether the marked cells agree
 module _ (cells marks : List ℕ) (first base n v j : ℕ) where

@@ -69,6 +69,10 @@ unfoldable pub popped : Popped → Set ℕ → Option (Group ℕ ℕ)
 popped (Value v) S = some (v, S)
 popped Nothing S = none
 
+-- no cell from one on up to an end passes
+unfoldable pub NoneFrom : List ℕ → (ℕ → Bool) → ℕ → ℕ → Type 0
+NoneFrom cells ok first end = (q : ℕ) → first ≤ q → q < end → ok (getD cells q 0) ≡ false
+
 -- the first value that passes among r cells from one on
 unfoldable pub firstCell : List ℕ → (ℕ → Bool) → ℕ → ℕ → Popped
 firstCell cells ok at zero = Nothing

@@ -5,9 +5,10 @@
 pub mod check;
 pub mod class;
 mod grow;
+pub mod place;
 pub mod pop;
 pub mod reset;
-mod row;
+pub mod row;
 
 ghost use mathlib.Core.Path.{_≡_};
 ghost use Prim.Native.Nat.{_<_};

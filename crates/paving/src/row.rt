@@ -2,25 +2,39 @@
 use super::Popped;
 use super::class::in_class;
 ghost use mathlib.Core.Path.{_≡_};
-ghost use mathlib.Core.Bool.{cond};
-ghost use Prim.Native.Nat.{_+_, _-_, _≤_};
-ghost use lib.ListN.{length};
-ghost use Rattle.paving.specs.Grid.{inClass, firstCell, cellIs, cellsAgree, emptied, paint};
+ghost use mathlib.Core.Bool.{true, cond};
+ghost use Prim.Native.Nat.{_+_, _-_, _≤_, _<_};
+ghost use lib.ListN.{length, getD};
+ghost use Rattle.paving.specs.Grid.{inClass, NoneFrom, firstCell, cellIs, cellsAgree, emptied, paint};
 
-// The first value of a class among the cells from one on up to an end.
+// The first cell of a class from one on up to an end, or the end.
+pub fn next_cell(cells: &[u16], kinds: &[u8], class: u8, first: usize, end: usize) -> usize
+    requires { ⌜ (first ≤ end) × (end ≤ length (now cells)) ⌝ }
+    ensures { λ r. ⌜ (first ≤ r) × (r ≤ end)
+        × NoneFrom (now (cells .entry)) (inClass (now (kinds .entry)) class) first r
+        × (r < end → inClass (now (kinds .entry)) class (getD (now (cells .entry)) r 0) ≡ true) ⌝ }
+{
+    let mut at = first;
+    while at < end {
+        if in_class(kinds, class, cells[at]) {
+            return at;
+        }
+        at += 1;
+    }
+    at
+}
+
+// Its value, if there is one.
 pub fn first_cell(cells: &[u16], kinds: &[u8], class: u8, first: usize, end: usize) -> Popped
     requires { ⌜ (first ≤ end) × (end ≤ length (now cells)) ⌝ }
     ensures { λ r. ⌜ r ≡ firstCell (now (cells .entry)) (inClass (now (kinds .entry)) class) first (end - first) ⌝ }
 {
-    let mut at = first;
-    while at < end {
-        let value = cells[at];
-        if in_class(kinds, class, value) {
-            return Popped::Value(value);
-        }
-        at += 1;
+    let at = next_cell(cells, kinds, class, first, end);
+    if at < end {
+        Popped::Value(cells[at])
+    } else {
+        Popped::Nothing
     }
-    Popped::Nothing
 }
 
 // Whether every marked cell of a row is the value.

@@ -86,7 +86,8 @@ fn put_page(
     )
 }
 
-// Pops and empties group after group of one class, and appends each.
+// Pops and empties group after group of one class, and appends each. What comes before the first cell of a group is of the class no more:
+// the search for the next one begins there.
 pub fn pop_class(
     cells: &mut [u16],
     kinds: &[u8],
@@ -108,9 +109,12 @@ pub fn pop_class(
         × TakenOut (now (sizes .entry)) left (now (cells .entry)) (now (marks .entry)) (now (cells .exit)) (now (marks .exit))
         (swept (now (cells .entry)) (now (kinds .entry)) (now (sizes .entry)) class left .0) (swept (now (cells .entry)) (now (kinds .entry)) (now (sizes .entry)) class left .1) ⌝ }
 {
+    let boxes = paving::place::size_of(sizes, left);
+    let mut first = 0;
     let mut next = start;
     loop {
-        let found = paving::pop::pop_filter(cells, kinds, sizes, marks, class, left, 0, 0);
+        first = paving::row::next_cell(cells, kinds, class, first, boxes);
+        let found = paving::pop::pop_filter(cells, kinds, sizes, marks, class, left, 0, 0, first);
         match found {
             paving::Popped::Value(value) => {
                 paving::reset::reset(cells, sizes, marks, left, 0, 0);

@@ -7,9 +7,10 @@ use borrow.Author.Needs.{needs}
 use native.Mathlib.Omega.{arith}
 use lib.ListN.{length}
 use Rattle.paving.specs.Grid.{inClass, popFrom}
-use Rattle.paving.proofs.Room.{room-at, room-len₂, room-node, room-child, room-marks, room-width, room-row}
+use Rattle.paving.proofs.Room.{room-at, room-len₂, room-node, room-child, room-marks, room-width, room-row, room-place}
 use Rattle.paving.proofs.Popping.{pop-leaf-yes, pop-leaf-no, pop-node-none, pop-node-some, pop-columns-end, pop-columns-hit, pop-columns-miss, found-first}
 use Rattle.paving.proofs.Rows.{pop-cells}
+use Rattle.paving.proofs.Skipping.{skips}
 use borrow.Fn.Kinds.{In}
 use borrow.Fn.PlainCycle.{Measures, is, falls, and}
 use Rattle.paving.proofs.pop.pop_columns.Reads as pop-columns
@@ -20,6 +21,7 @@ use Rattle.paving.proofs.pop.pop_filter.Kinds as pop-filter-kinds
 use Rattle.paving.proofs.pop.+pop_columns+pop_filter.Lts-pop_filter as pop-filter-lts
 use Rattle.paving.proofs.class.in_class.Reads as in-class-reads
 use Rattle.paving.proofs.row.first_cell.Reads as first-cell-reads
+use Rattle.paving.proofs.place.column_of.Reads as column-of-reads
 use Rattle.paving.proofs.grow.grow.Reads as grow-reads
 use Rattle.paving.proofs.wide.Reads as wide-reads
 use Rattle.paving.proofs.pop.+pop_columns+pop_filter.{statement}
@@ -48,53 +50,54 @@ pop-filter-below t =
     and 4 pop-filter-kinds.ps (falls 4 pop-filter-kinds.ps _<_ μ-pop-filter t) pop-filter.Pre
 
 abbrev pop-columns-Inv-loop : pop-columns-lts.InvT-loop
-pop-columns-Inv-loop cells kinds sizes marks₀ class dimension node base width column₀ marks column =
+pop-columns-Inv-loop cells kinds sizes marks₀ class dimension node base width first child column₀ marks column =
     (popFrom cells sizes dimension node (inClass kinds class) column ≡ popFrom cells sizes dimension node (inClass kinds class) 0) × (marks ≡ marks₀)
 
 abbrev pop-columns-μ-loop : pop-columns-lts.MeasureT-loop
-pop-columns-μ-loop cells kinds sizes marks₀ class dimension node base width column₀ marks column = width - column
+pop-columns-μ-loop cells kinds sizes marks₀ class dimension node base width first child column₀ marks column = width - column
 
 pub +pop-columns+pop-filter-spec : {M : Type 1} → statement M
-+pop-columns+pop-filter-spec = close μ-pop-columns μ-pop-filter (λ t. pop-columns-lts.spec (first-cell-reads.Asked, first-cell-reads.Learnt, pop-filter-below t, pop-filter.Post)
++pop-columns+pop-filter-spec = close μ-pop-columns μ-pop-filter (λ t. pop-columns-lts.spec (column-of-reads.Asked, column-of-reads.Learnt, first-cell-reads.Asked, first-cell-reads.Learnt, pop-filter-below t, pop-filter.Post)
     (pop-columns-at t)
     pop-columns.Post
     pop-columns-Inv-loop
     pop-columns-μ-loop
-    (λ c. omega (arith, room-row _ _ _ _ _ _ _ (c .before .before .before .before .before .pre .1 .1 .0) (c .before .before .before .before .before .pre .1 .0), c .before .before .before .before .before .good))
-    (λ c. omega (arith, room-row _ _ _ _ _ _ _ (c .before .before .before .before .before .pre .1 .1 .0) (c .before .before .before .before .before .pre .1 .0), c .before .before .before .before .before .good))
-    (λ c κs. (omega arith, omega (arith, room-row _ _ _ _ _ _ _ (c .before .before .before .before .before .pre .1 .1 .0) (c .before .before .before .before .before .pre .1 .0))))
-    (λ c. pop-cells _ _ _ _ _ _ _ _ _ _ (c .before .if1 .taken) (c .before .before .before .before .before .before .pre .1 .1 .0) (c .first-cell .ensures))
-    (λ c. (refl, refl))
-    (λ c. omega (arith, room-node _ _ _ _ _ _ (room-child _ _ _ _ _ _ _ _ (c .before .before .before .before .before .before .before .before .pre .1 .1 .0) (c .before .loop-test .taken) (c .before .before .before .before .before .before .before .before .pre .1 .0)), c .before .before .before .before .before .before .before .before .good))
-    (λ c. omega (arith, room-node _ _ _ _ _ _ (room-child _ _ _ _ _ _ _ _ (c .before .before .before .before .before .before .before .before .pre .1 .1 .0) (c .before .loop-test .taken) (c .before .before .before .before .before .before .before .before .pre .1 .0)), c .before .before .before .before .before .before .before .before .good))
-    (λ c. omega (arith, room-marks _ _ _ _ _ _ _ (c .before .before .before .before .before .before .before .before .pre .1 .1 .0) (c .before .before .before .before .before .before .before .before .pre .1 .0), c .before .before .before .before .before .before .before .before .good))
-    (λ c κs. (omega (arith, c .before .before .before .before .before .before .before .before .pre .0), room-len₂ _ _ _ _ _ _ _ (ap length (c .before .before .loop .inv .1)) (room-child _ _ _ _ _ _ _ _ (c .before .before .before .before .before .before .before .before .pre .1 .1 .0) (c .before .loop-test .taken) (c .before .before .before .before .before .before .before .before .pre .1 .0))))
+    (λ c. omega (arith, room-row _ _ _ _ _ _ _ (c .before .before .before .before .pre .1 .1 .0) (c .before .before .before .before .pre .1 .0), c .before .before .before .before .good))
+    (λ c κs. let place = room-place _ _ _ _ _ _ _ (c .before .before .before .before .pre .1 .1 .0) (c .before .before .before .before .pre .1 .0) in (place .0, place .1, omega (arith, place .2, c .before .before .before .before .good)))
+    (λ c. omega (arith, room-row _ _ _ _ _ _ _ (c .before .before .before .before .before .before .pre .1 .1 .0) (c .before .before .before .before .before .before .pre .1 .0), c .before .column-of .ensures .0, c .before .before .before .before .before .before .good))
+    (λ c. omega (arith, room-row _ _ _ _ _ _ _ (c .before .before .before .before .before .before .pre .1 .1 .0) (c .before .before .before .before .before .before .pre .1 .0), c .before .before .before .before .before .before .good))
+    (λ c κs. (omega (arith, c .before .column-of .ensures .0), omega (arith, room-row _ _ _ _ _ _ _ (c .before .before .before .before .before .before .pre .1 .1 .0) (c .before .before .before .before .before .before .pre .1 .0))))
+    (λ c. pop-cells _ _ _ _ _ _ _ _ _ _ _ (c .before .if1 .taken) (c .before .before .before .before .before .before .before .pre .1 .1 .0) (skips _ _ _ _ _ (c .before .before .before .before .before .before .before .pre .1 .1 .2) _ _ _ _ (c .before .before .before .before .before .before .before .pre .1 .1 .0) (c .before .before .column-of .ensures .0) (c .before .before .column-of .ensures .1)) (c .first-cell .ensures))
+    (λ c. (skips _ _ _ _ _ (c .before .before .before .before .before .before .pre .1 .1 .2) _ _ _ _ (c .before .before .before .before .before .before .pre .1 .1 .0) (c .before .column-of .ensures .0) (c .before .column-of .ensures .1), refl))
+    (λ c. omega (arith, room-node _ _ _ _ _ _ (room-child _ _ _ _ _ _ _ _ (c .before .before .before .before .before .before .before .before .before .pre .1 .1 .0) (c .before .loop-test .taken) (c .before .before .before .before .before .before .before .before .before .pre .1 .0)), c .before .before .before .before .before .before .before .before .before .good))
+    (λ c. omega (arith, room-marks _ _ _ _ _ _ _ (c .before .before .before .before .before .before .before .before .before .pre .1 .1 .0) (c .before .before .before .before .before .before .before .before .before .pre .1 .0), c .before .before .before .before .before .before .before .before .before .good))
+    (λ c κs. (omega (arith, c .before .before .before .before .before .before .before .before .before .pre .0), (room-len₂ _ _ _ _ _ _ _ (ap length (c .before .before .loop .inv .1)) (room-child _ _ _ _ _ _ _ _ (c .before .before .before .before .before .before .before .before .before .pre .1 .1 .0) (c .before .loop-test .taken) (c .before .before .before .before .before .before .before .before .before .pre .1 .0)), c .before .before .before .before .before .before .before .before .before .pre .1 .1 .2)))
     (λ c. search needs)
     (λ c. c .before .before .before .before .before .pop-filter .kept .1 .1 .1 .0 ∙ ap length (c .before .before .before .before .before .before .before .before .loop .inv .1))
-    (λ c. found-first _ _ _ _ _ _ _ _ _ (c .before .before .before .before .before .before .before .before .loop .inv .0) (c .before .before .before .before .before .before .before .before .loop .inv .1) (pop-columns-hit _ _ _ _ _ _ _ _ _ (c .before .before .before .before .before .before .before .before .before .before .before .before .before .before .pre .1 .1 .0) _ _ _ (c .before .before .before .before .before .before .before .loop-test .taken) (c .before .before .before .before .before .pop-filter .ensures .0) (c .before .before .before .before .before .pop-filter .ensures .1) _ (c .before .found .given .1)))
+    (λ c. found-first _ _ _ _ _ _ _ _ _ (c .before .before .before .before .before .before .before .before .loop .inv .0) (c .before .before .before .before .before .before .before .before .loop .inv .1) (pop-columns-hit _ _ _ _ _ _ _ _ _ (c .before .before .before .before .before .before .before .before .before .before .before .before .before .before .before .pre .1 .1 .0) _ _ _ (c .before .before .before .before .before .before .before .loop-test .taken) (c .before .before .before .before .before .pop-filter .ensures .0) (c .before .before .before .before .before .pop-filter .ensures .1) _ (c .before .found .given .1)))
     (λ c. search needs)
-    (λ c. omega (arith, c .before .before .before .before .before .before .loop-test .taken, c .before .before .before .before .before .before .before .before .before .before .before .before .before .pre .1 .1 .1))
+    (λ c. omega (arith, c .before .before .before .before .before .before .loop-test .taken, c .before .before .before .before .before .before .before .before .before .before .before .before .before .before .pre .1 .1 .1))
     (λ c. omega (arith, c .before .before .before .before .before .before .loop-test .taken))
-    (λ c. let miss = pop-columns-miss _ _ _ _ _ _ _ _ _ (c .before .before .before .before .before .before .before .before .before .before .before .before .before .pre .1 .1 .0) _ _ _ (c .before .before .before .before .before .before .loop-test .taken) (c .before .before .before .before .pop-filter .ensures .0) (c .before .before .before .before .pop-filter .ensures .1) (c .enum-told .given .1) in (miss .0 ∙ c .before .before .before .before .before .before .before .loop .inv .0, miss .1 ∙ c .before .before .before .before .before .before .before .loop .inv .1))
+    (λ c. let miss = pop-columns-miss _ _ _ _ _ _ _ _ _ (c .before .before .before .before .before .before .before .before .before .before .before .before .before .before .pre .1 .1 .0) _ _ _ (c .before .before .before .before .before .before .loop-test .taken) (c .before .before .before .before .pop-filter .ensures .0) (c .before .before .before .before .pop-filter .ensures .1) (c .enum-told .given .1) in (miss .0 ∙ c .before .before .before .before .before .before .before .loop .inv .0, miss .1 ∙ c .before .before .before .before .before .before .before .loop .inv .1))
     (λ c. ap length (c .before .loop .inv .1))
-    (λ c. found-first _ _ _ _ _ _ _ _ _ (c .before .loop .inv .0) (c .before .loop .inv .1) (pop-columns-end _ _ _ _ _ _ _ _ _ (c .before .before .before .before .before .before .before .pre .1 .1 .0) _ (c .loop-test .left))))
+    (λ c. found-first _ _ _ _ _ _ _ _ _ (c .before .loop .inv .0) (c .before .loop .inv .1) (pop-columns-end _ _ _ _ _ _ _ _ _ (c .before .before .before .before .before .before .before .before .pre .1 .1 .0) _ (c .loop-test .left))))
     λ t. pop-filter-lts.spec (in-class-reads.Asked, in-class-reads.Learnt, wide-reads.Asked, wide-reads.Learnt, pop-columns-below t, pop-columns.Post, grow-reads.Asked, grow-reads.Learnt)
     (pop-filter-at t)
     pop-filter.Post
-    (λ c. omega (arith, room-node _ _ _ _ _ _ (c .before .before .before .before .before .pre .1), c .before .before .before .before .before .good))
-    (λ c. room-node _ _ _ _ _ _ (c .before .before .before .before .before .before .pre .1))
+    (λ c. omega (arith, room-node _ _ _ _ _ _ (c .before .before .before .before .before .pre .1 .0), c .before .before .before .before .before .good))
+    (λ c. room-node _ _ _ _ _ _ (c .before .before .before .before .before .before .pre .1 .0))
     (λ c κs. search needs)
     (λ c. pop-leaf-yes _ _ _ _ _ _ _ _ _ (c .before .before .before .if1 .taken) (c .before .in-class .ensures) (c .if2 .taken))
     (λ c. pop-leaf-no _ _ _ _ _ _ _ _ _ (c .before .before .before .if1 .taken) (c .before .in-class .ensures) (c .if2 .left))
     (λ c. search needs)
     (λ c. search needs)
-    (λ c. omega (arith, c .before .before .before .before .before .before .pre .1 .column .dims, c .before .if1 .left))
+    (λ c. omega (arith, c .before .before .before .before .before .before .pre .1 .0 .column .dims, c .before .if1 .left))
     (λ c κs. search needs)
-    (λ c κs. let a = c .before .before .before .before .before .before .before .before .args in let e : a .left ≡ suc (a .left - 1) = omega (arith, c .before .before .before .if1 .left) in (omega (arith, c .before .before .before .before .before .before .before .before .pre .0), (room-at _ _ _ _ _ _ _ e (c .before .before .before .before .before .before .before .before .pre .1), c .before .wide .ensures)))
+    (λ c κs. let a = c .before .before .before .before .before .before .before .before .args in let e : a .left ≡ suc (a .left - 1) = omega (arith, c .before .before .before .if1 .left) in (omega (arith, c .before .before .before .before .before .before .before .before .pre .0), (room-at _ _ _ _ _ _ _ e (c .before .before .before .before .before .before .before .before .pre .1 .0), (c .before .wide .ensures .0, c .before .wide .ensures .1, c .before .before .before .before .before .before .before .before .pre .1 .1))))
     (λ c. search needs)
-    (λ c κs. let a = c .before .before .before .before .before .before .before .before .before .before .before .before .before .before .before .args in let e : a .left ≡ suc (a .left - 1) = omega (arith, c .before .before .before .before .before .before .before .before .before .before .if1 .left) in (room-len₂ _ _ _ _ _ _ _ (c .before .before .before .before .before .before .pop-columns .kept .1 .1 .1 .0) (room-at _ _ _ _ _ _ _ e (c .before .before .before .before .before .before .before .before .before .before .before .before .before .before .before .pre .1)), c .before .before .before .before .before .before .before .before .wide .ensures))
+    (λ c κs. let a = c .before .before .before .before .before .before .before .before .before .before .before .before .before .before .before .args in let e : a .left ≡ suc (a .left - 1) = omega (arith, c .before .before .before .before .before .before .before .before .before .before .if1 .left) in (room-len₂ _ _ _ _ _ _ _ (c .before .before .before .before .before .before .pop-columns .kept .1 .1 .1 .0) (room-at _ _ _ _ _ _ _ e (c .before .before .before .before .before .before .before .before .before .before .before .before .before .before .before .pre .1 .0)), c .before .before .before .before .before .before .before .before .wide .ensures))
     (λ c. search needs)
     (λ c. search needs)
-    (λ c. let a = c .before .before .before .before .before .before .before .before .before .before .before .before .before .before .before .before .before .before .args in let e : a .left ≡ suc (a .left - 1) = omega (arith, c .before .before .before .before .before .before .before .before .before .before .before .before .before .if1 .left) in pop-node-some _ _ _ _ _ _ _ _ _ e (c .before .before .before .before .before .before .before .before .before .before .before .wide .ensures .0) _ _ _ (c .before .before .before .before .before .before .before .before .before .pop-columns .ensures .0) (c .before .before .before .before .before .before .before .before .before .pop-columns .ensures .1) _ _ (c .before .before .before .before .before .found .given .1) (room-width _ _ _ _ _ _ _ (c .before .before .before .before .before .before .before .before .before .before .before .wide .ensures .0) (room-at _ _ _ _ _ _ _ e (c .before .before .before .before .before .before .before .before .before .before .before .before .before .before .before .before .before .before .pre .1))) (c .before .before .grow .ensures))
+    (λ c. let a = c .before .before .before .before .before .before .before .before .before .before .before .before .before .before .before .before .before .before .args in let e : a .left ≡ suc (a .left - 1) = omega (arith, c .before .before .before .before .before .before .before .before .before .before .before .before .before .if1 .left) in pop-node-some _ _ _ _ _ _ _ _ _ e (c .before .before .before .before .before .before .before .before .before .before .before .wide .ensures .0) _ _ _ (c .before .before .before .before .before .before .before .before .before .pop-columns .ensures .0) (c .before .before .before .before .before .before .before .before .before .pop-columns .ensures .1) _ _ (c .before .before .before .before .before .found .given .1) (room-width _ _ _ _ _ _ _ (c .before .before .before .before .before .before .before .before .before .before .before .wide .ensures .0) (room-at _ _ _ _ _ _ _ e (c .before .before .before .before .before .before .before .before .before .before .before .before .before .before .before .before .before .before .pre .1 .0))) (c .before .before .grow .ensures))
     (λ c. search needs)
     (λ c. let a = c .before .before .before .before .before .before .before .before .before .before .before .before .before .args in let e : a .left ≡ suc (a .left - 1) = omega (arith, c .before .before .before .before .before .before .before .before .if1 .left) in pop-node-none _ _ _ _ _ _ _ _ _ e (c .before .before .before .before .before .before .wide .ensures .0) _ _ _ (c .before .before .before .before .pop-columns .ensures .0) (c .before .before .before .before .pop-columns .ensures .1) (c .enum-told .given .1))
