@@ -1,4 +1,6 @@
+pub mod Narrowing
 pub mod Walk
+pub mod Run
 pub mod Covering
 pub mod Drawing
 pub mod Meaning

@@ -95,6 +95,10 @@ module _ (sizes counts rows cuts ranges : List ℕ) where
     unfolding drawAll leavesOf overRanges flatMap
     out-none i rest e z = rw (e, z, from-end (getD counts i 0 - 0) (getD counts i 0) (omega arith))
 
+    pub out-last : (rest : ℕ) (s₁ : Drawn) → left ≡ 1 → s₁ ≡ drawAll rule replaces s (leavesOf sizes counts rows cuts ranges 1 node rest)
+        → s₁ ≡ drawAll rule replaces s (leavesOf sizes counts rows cuts ranges left node rest)
+    out-last rest s₁ e h = rw e h
+
     pub out-ranges : (i rest count : ℕ) (s₁ s₂ : Drawn) → left ≡ suc i → (rest ≡ 0 → ⊥) → rest ≤ count → count ≡ getD counts i 0
         → s₁ ≡ drawAll rule replaces s (overColumns sizes counts rows cuts ranges i (leaves sizes counts rows cuts ranges i) node (count - rest) 0)
         → s₂ ≡ drawAll rule replaces s₁ (leavesOf sizes counts rows cuts ranges left node (rest - 1))
@@ -105,23 +109,22 @@ module _ (sizes counts rows cuts ranges : List ℕ) where
         rw (e, from-cons (getD counts i 0 - rest) (getD counts i 0) (omega arith), draw-append, ← (rw c at h), ← m) (rw e at k)
 
   -- the columns before the first that is covered add nothing
-  pub columns-skip : (i : ℕ) (below : ℕ → List ℕ) (node width r x y : ℕ) → width ≡ getD sizes i 0 → NextCovered rows cuts ranges i r width x y
+  pub columns-skip : (i : ℕ) (below : ℕ → List ℕ) (node width r x y : ℕ) → width ≡ getD sizes i 0 → x ≤ y → y ≤ width → ((k : ℕ) → x ≤ k → k < y → covered rows cuts ranges i r k ≡ false)
       → overColumns sizes counts rows cuts ranges i below node r x ≡ overColumns sizes counts rows cuts ranges i below node r y
   unfolding overColumns flatMap
-  columns-skip i below node width r x y e found = go (y - x) x (omega arith) (omega (arith, found .from-first))
+  columns-skip i below node width r x y e a b passed = go (y - x) x (omega arith) (omega arith)
     where
       go : (n p : ℕ) → x ≤ p → p + n ≡ y → overColumns sizes counts rows cuts ranges i below node r p ≡ overColumns sizes counts rows cuts ranges i below node r y
       go zero p l q = let z : p ≡ y = omega arith in rw z refl
-      go (suc n) p l q = rw (from-cons p (getD sizes i 0) (omega (arith, found .to-end)), found .passed p l (omega arith)) (go n (p + 1) (omega arith) (omega arith))
-
-  pub columns-end : (rule : ℕ) (replaces : Bool) (i : ℕ) (below : ℕ → List ℕ) (node width r y : ℕ) (s : Drawn) → width ≡ getD sizes i 0 → width ≤ y
-      → s ≡ drawAll rule replaces s (overColumns sizes counts rows cuts ranges i below node r y)
-  unfolding drawAll overColumns flatMap
-  columns-end rule replaces i below node width r y s e h = rw (from-end y (getD sizes i 0) (omega arith))
+      go (suc n) p l q = rw (from-cons p (getD sizes i 0) (omega arith), passed p l (omega arith)) (go n (p + 1) (omega arith) (omega arith))
 
   module _ (rule : ℕ) (replaces : Bool) (i node width r x y : ℕ) (e : width ≡ getD sizes i 0) (found : NextCovered rows cuts ranges i r width x y) (s : Drawn) where
+    skip : overColumns sizes counts rows cuts ranges i (leaves sizes counts rows cuts ranges i) node r x ≡ overColumns sizes counts rows cuts ranges i (leaves sizes counts rows cuts ranges i) node r y
+    skip = columns-skip i (leaves sizes counts rows cuts ranges i) node width r x y e (found .from-first) (found .to-end) (found .passed)
+
     pub out-end : width ≤ y → s ≡ drawAll rule replaces s (overColumns sizes counts rows cuts ranges i (leaves sizes counts rows cuts ranges i) node r x)
-    out-end h = rw (columns-skip i (leaves sizes counts rows cuts ranges i) node width r x y e found) (columns-end rule replaces i (leaves sizes counts rows cuts ranges i) node width r y s e h)
+    unfolding drawAll overColumns flatMap
+    out-end h = rw (skip, from-end y (getD sizes i 0) (omega arith))
 
     pub out-in : (rest : ℕ) (s₁ s₂ : Drawn) → y < width → rest ≡ countOf counts i
         → s₁ ≡ drawAll rule replaces s (leavesOf sizes counts rows cuts ranges i (node * width + y) rest)
@@ -129,28 +132,4 @@ module _ (sizes counts rows cuts ranges : List ℕ) where
         → s₂ ≡ drawAll rule replaces s (overColumns sizes counts rows cuts ranges i (leaves sizes counts rows cuts ranges i) node r x)
     unfolding overColumns flatMap
     out-in rest s₁ s₂ h c a k =
-        rw (
-          columns-skip i (leaves sizes counts rows cuts ranges i) node width r x y e found,
-          from-cons y (getD sizes i 0) (omega arith),
-          draw-append,
-          found .reached h,
-          ← all-ranges i (node * getD sizes i 0 + y),
-          ← (rw (c, e) at a),
-        ) k
-
-  pub out-last : (rule : ℕ) (replaces : Bool) (i node r x : ℕ) (s s₂ : Drawn) → i ≡ 0
-      → s₂ ≡ drawAll rule replaces s (overColumns sizes counts rows cuts ranges 0 (leaves sizes counts rows cuts ranges 0) node r x)
-      → s₂ ≡ drawAll rule replaces s (overColumns sizes counts rows cuts ranges i (leaves sizes counts rows cuts ranges i) node r x)
-  out-last rule replaces i node r x s s₂ e h = rw e h
-
-  -- the boxes of a node of the last dimension that a range covers, from a column on
-  abbrev pub boxesFrom : ℕ → ℕ → ℕ → List ℕ
-  boxesFrom node r x = overColumns sizes counts rows cuts ranges 0 (leaves sizes counts rows cuts ranges 0) node r x
-
-  -- a rule drawn at one of them, and at those from the next on
-  pub draw-next : (rule : ℕ) (replaces : Bool) (node width r y z : ℕ) (s s₁ : Drawn) → width ≡ getD sizes 0 0 → covered rows cuts ranges 0 r y ≡ true → y < width
-      → s₁ ≡ drawOne rule replaces s (node * width + y) → NextCovered rows cuts ranges 0 r width (y + 1) z
-      → drawAll rule replaces s₁ (boxesFrom node r z) ≡ drawAll rule replaces s (boxesFrom node r y)
-  unfolding overColumns flatMap drawAll leaves
-  draw-next rule replaces node width r y z s s₁ e t h a later =
-      rw (← columns-skip 0 (leaves sizes counts rows cuts ranges 0) node width r (y + 1) z e later, from-cons y (getD sizes 0 0) (omega arith), t, a, e) refl
+        rw (skip, from-cons y (getD sizes i 0) (omega arith), draw-append, found .reached h, ← all-ranges i (node * getD sizes i 0 + y), ← (rw (c, e) at a)) k

@@ -9,6 +9,7 @@ use lib.ListN.{length, getD, set}
 use Rattle.laws.specs.Lists.{from}
 use Rattle.grid.specs.Cut.{Range, holds}
 use Rattle.definition.specs.Sheet.{limits1}
+use Rattle.paving_update.specs.Search.{Rising}
 
 -- ## Tables
 -- how many rules a list has at most
@@ -30,6 +31,10 @@ pub record Lawful (sizes counts rows cuts ranges : List ℕ) : Type 0 where
   pub all-ranges : length sizes * rangePlaces ≤ length ranges
   pub row : (i : ℕ) → i < length sizes → getD rows i 0 + getD sizes i 0 < length cuts
   pub count : (i : ℕ) → i < length sizes → getD counts i 0 * 2 ≤ rangePlaces
+
+-- the cuts of a dimension at which its columns start rise
+abbrev pub RisingRow : List ℕ → List ℕ → List ℕ → ℕ → Type 0
+RisingRow sizes rows cuts i = Rising cuts (getD rows i 0) (getD rows i 0 + getD sizes i 0)
 
 -- a cut, a range
 unfoldable pub cutOf : List ℕ → List ℕ → ℕ → ℕ → ℕ

@@ -1,11 +1,9 @@
-use mathlib.Core.Path.{_≡_, ap, _∙_}
+use mathlib.Core.Path.{_≡_}
 use Prim.Native.Nat.{ℕ, suc, _+_, _-_, _*_, _<_}
-use lib.ListN.{getD}
-use denote.Ref.{now}
 use borrow.Author.Needs.{needs}
 use native.Mathlib.Omega.{arith}
 use Rattle.paving.proofs.Room.{node-in, node-child}
-use Rattle.paving_update.proofs.Walk.{count-some, columns-in, count-few, list-in, node-len, node-at, out-leaf, out-none, out-ranges, out-end, out-in, out-last}
+use Rattle.paving_update.proofs.Walk.{count-some, columns-in, count-few, list-in, node-len, node-at, out-leaf, out-none, out-last, out-ranges, out-end, out-in}
 use borrow.Fn.Kinds.{In}
 use borrow.Fn.PlainCycle.{Measures, is, falls, and}
 use Rattle.paving_update.proofs.update.Reads as update
@@ -17,7 +15,8 @@ use Rattle.paving_update.proofs.+update+update_columns.Lts-update_colum
 use Rattle.paving.proofs.wide.Reads as wide-reads
 use Rattle.paving_update.proofs.count_of.Reads as count-of-reads
 use Rattle.paving_update.proofs.next_covered.Reads as next-covered-reads
-use Rattle.paving_update.proofs.draw_columns.Reads as draw-columns-reads
+use Rattle.paving_update.proofs.last_rises.Reads as last-rises-reads
+use Rattle.paving_update.proofs.draw_ranges.Reads as draw-ranges-reads
 use Rattle.paving_update.proofs.draw.Reads as draw-reads
 use Rattle.paving_update.proofs.+update+update_columns.{statement}
 use Rattle.paving_update.proofs.+update+update_columns.Tie.{close}
@@ -53,39 +52,40 @@ update-columns-below t =
     update-columns.Pre
 
 pub +update+update-columns-spec : {M : Type 1} → statement M
-+update+update-columns-spec = close μ-update μ-update-columns (λ t. update-lts.spec (draw-reads.Asked, draw-reads.Learnt, wide-reads.Asked, wide-reads.Learnt, update-columns-below t, update-columns.Post, update-below t, update.Post)
++update+update-columns-spec = close μ-update μ-update-columns (λ t. update-lts.spec (draw-reads.Asked, draw-reads.Learnt, last-rises-reads.Asked, last-rises-reads.Learnt, draw-ranges-reads.Asked, draw-ranges-reads.Learnt, wide-reads.Asked, wide-reads.Learnt, update-columns-below t, update-columns.Post, update-below t, update.Post)
     (update-at t)
     update.Post
     (λ c κs. list-in _ _ _ _ (c .before .before .before .before .before .before .before .before .pre .1 .1 .0))
     (λ c. search needs)
     (λ c. out-leaf _ _ _ _ _ _ _ _ _ _ _ _ (c .before .before .before .before .if1 .taken) (c .before .before .draw .ensures))
     (λ c. let a = c .before .before .before .before .before .before .before .before .args in let e : a .left ≡ suc (a .left - 1) = omega (arith, c .before .if1 .left) in out-none _ _ _ _ _ _ _ _ _ _ _ _ e (c .if2 .taken))
+    (λ c κs. let p = c .before .before .before .before .before .before .before .before .pre .1 in (p .1 .0 .dims, p .0 .all-rows, λ e. p .0 .row 0 (omega (arith, e, p .1 .0 .dims))))
+    (λ c κs. let a = c .before .before .before .before .before .before .before .before .before .before .before .args in let p = c .before .before .before .before .before .before .before .before .before .before .before .pre .1 in let last = c .before .before .last-rises .ensures (c .before .if3 .taken) in (p .0, (node-at _ _ _ _ _ (last .0) (p .1 .0), (last .1, omega (arith, count-some (a .counts .now) (a .left) 0 (last .0), p .1 .1)))))
+    (λ c. search needs)
+    (λ c. out-last _ _ _ _ _ _ _ _ _ _ _ _ (c .before .before .before .before .before .last-rises .ensures (c .before .before .before .before .if3 .taken) .0) (c .before .before .draw-ranges .ensures))
     (λ c. search needs)
     (λ c. search needs)
-    (λ c. omega (arith, c .before .before .before .before .before .before .before .before .before .pre .1 .0 .all-counts, c .before .before .before .before .before .before .before .before .before .pre .1 .1 .0 .dims, c .before .before .if1 .left))
+    (λ c. omega (arith, c .before .before .before .before .before .before .before .before .before .before .before .pre .1 .0 .all-counts, c .before .before .before .before .before .before .before .before .before .before .before .pre .1 .1 .0 .dims, c .before .before .before .before .if1 .left))
     (λ c κs. search needs)
     (λ c. search needs)
-    (λ c. omega (arith, c .before .before .before .before .before .before .before .before .before .before .before .pre .1 .1 .0 .dims, c .before .before .before .before .if1 .left))
+    (λ c. omega (arith, c .before .before .before .before .before .before .before .before .before .before .before .before .before .pre .1 .1 .0 .dims, c .before .before .before .before .before .before .if1 .left))
     (λ c κs. search needs)
-    (λ c. let a = c .before .before .before .before .before .before .before .before .before .before .before .before .before .args in let e : a .left ≡ suc (a .left - 1) = omega (arith, c .before .before .before .before .before .before .if1 .left) in omega (arith, count-some (a .counts .now) (a .left) (a .left - 1) e, c .before .before .before .wide .ensures .0, c .before .before .before .before .before .before .before .before .before .before .before .before .before .pre .1 .1 .1))
-    (λ c κs. let a = c .before .before .before .before .before .before .before .before .before .before .before .before .before .args in let p = c .before .before .before .before .before .before .before .before .before .before .before .before .before .pre .1 in let e : a .left ≡ suc (a .left - 1) = omega (arith, c .before .before .before .before .before .before .if1 .left) in (omega (arith, c .before .before .before .before .before .before .before .before .before .before .before .before .before .pre .0, c .before .wide2 .ensures .1, c .before .before .before .before .before .before .if1 .left), (p .0, (node-at _ _ _ _ _ e (p .1 .0), (c .before .wide2 .ensures .0, c .before .wide2 .ensures .1, omega (arith, c .before .before .before .wide .ensures .0, c .before .before .before .before .before .if2 .left, count-some (a .counts .now) (a .left) (a .left - 1) e, p .1 .1), omega arith)))))
+    (λ c. let a = c .before .before .before .before .before .before .before .before .before .before .before .before .before .before .before .args in let e : a .left ≡ suc (a .left - 1) = omega (arith, c .before .before .before .before .before .before .before .before .if1 .left) in omega (arith, count-some (a .counts .now) (a .left) (a .left - 1) e, c .before .before .before .wide .ensures .0, c .before .before .before .before .before .before .before .before .before .before .before .before .before .before .before .pre .1 .1 .1))
+    (λ c κs. let a = c .before .before .before .before .before .before .before .before .before .before .before .before .before .before .before .args in let p = c .before .before .before .before .before .before .before .before .before .before .before .before .before .before .before .pre .1 in let e : a .left ≡ suc (a .left - 1) = omega (arith, c .before .before .before .before .before .before .before .before .if1 .left) in (omega (arith, c .before .before .before .before .before .before .before .before .before .before .before .before .before .before .before .pre .0, c .before .wide2 .ensures .1, c .before .before .before .before .before .before .before .before .if1 .left), (p .0, (node-at _ _ _ _ _ e (p .1 .0), (c .before .wide2 .ensures .0, c .before .wide2 .ensures .1, omega (arith, c .before .before .before .wide .ensures .0, c .before .before .before .before .before .before .before .if2 .left, count-some (a .counts .now) (a .left) (a .left - 1) e, p .1 .1), omega arith)))))
     (λ c. search needs)
-    (λ c κs. let p = c .before .before .before .before .before .before .before .before .before .before .before .before .before .before .before .before .before .pre .1 in (omega (arith, c .before .before .before .before .before .before .before .before .before .before .before .before .before .before .before .before .before .pre .0, c .before .before .before .before .before .before .before .before .before .if2 .left), (p .0, (node-len _ _ _ _ _ (c .before .before .before .update-columns .kept .0) (p .1 .0), omega (arith, p .1 .1)))))
+    (λ c κs. let p = c .before .before .before .before .before .before .before .before .before .before .before .before .before .before .before .before .before .before .before .pre .1 in (omega (arith, c .before .before .before .before .before .before .before .before .before .before .before .before .before .before .before .before .before .before .before .pre .0, c .before .before .before .before .before .before .before .before .before .before .before .if2 .left), (p .0, (node-len _ _ _ _ _ (c .before .before .before .update-columns .kept .0) (p .1 .0), omega (arith, p .1 .1)))))
     (λ c. search needs)
-    (λ c. let a = c .before .before .before .before .before .before .before .before .before .before .before .before .before .before .before .before .before .before .before .before .args in let e : a .left ≡ suc (a .left - 1) = omega (arith, c .before .before .before .before .before .before .before .before .before .before .before .before .before .if1 .left) in out-ranges _ _ _ _ _ _ _ _ _ _ _ _ _ _ _ e (c .before .before .before .before .before .before .before .before .before .before .before .before .if2 .left) (omega (arith, count-some (a .counts .now) (a .left) (a .left - 1) e, c .before .before .before .before .before .before .before .before .before .before .wide .ensures .0, c .before .before .before .before .before .before .before .before .before .before .before .before .before .before .before .before .before .before .before .before .pre .1 .1 .1)) (c .before .before .before .before .before .before .before .before .before .before .wide .ensures .0) (c .before .before .before .before .before .before .update-columns .ensures) (c .before .before .update .ensures)))
-    λ t. update-columns-lts.spec (draw-columns-reads.Asked, draw-columns-reads.Learnt, next-covered-reads.Asked, next-covered-reads.Learnt, count-of-reads.Asked, count-of-reads.Learnt, update-below t, update.Post, update-columns-below t, update-columns.Post)
+    (λ c. let a = c .before .before .before .before .before .before .before .before .before .before .before .before .before .before .before .before .before .before .before .before .before .before .args in let e : a .left ≡ suc (a .left - 1) = omega (arith, c .before .before .before .before .before .before .before .before .before .before .before .before .before .before .before .if1 .left) in out-ranges _ _ _ _ _ _ _ _ _ _ _ _ _ _ _ e (c .before .before .before .before .before .before .before .before .before .before .before .before .before .before .if2 .left) (omega (arith, count-some (a .counts .now) (a .left) (a .left - 1) e, c .before .before .before .before .before .before .before .before .before .before .wide .ensures .0, c .before .before .before .before .before .before .before .before .before .before .before .before .before .before .before .before .before .before .before .before .before .before .pre .1 .1 .1)) (c .before .before .before .before .before .before .before .before .before .before .wide .ensures .0) (c .before .before .before .before .before .before .update-columns .ensures) (c .before .before .update .ensures)))
+    λ t. update-columns-lts.spec (next-covered-reads.Asked, next-covered-reads.Learnt, count-of-reads.Asked, count-of-reads.Learnt, update-below t, update.Post, update-columns-below t, update-columns.Post)
     (update-columns-at t)
     update-columns.Post
-    (λ c κs. let a = c .before .before .before .before .before .before .before .before .args in let p = c .before .before .before .before .before .before .before .before .pre .1 in let e = c .before .if1 .taken in let w = p .1 .1 .0 in let r = p .1 .1 .2 in (p .0, (node-at _ _ _ _ _ (ap suc e) (p .1 .0), (w ∙ ap (λ i. getD (now (a .sizes)) i 0) e, rw e at r, p .1 .1 .3))))
+    (λ c κs. let p = c .before .before .before .before .before .before .pre .1 in columns-in _ _ _ _ _ (p .0) _ _ _ _ (omega (arith, p .1 .0 .dims)) (p .1 .1 .0) (p .1 .1 .2) (p .1 .1 .3))
+    (λ c κs. omega (arith, c .before .before .before .before .before .before .before .before .pre .1 .0 .all-counts, c .before .before .before .before .before .before .before .before .pre .1 .1 .0 .dims))
+    (λ c. let p = c .before .before .before .before .before .before .before .before .before .before .pre .1 in omega (arith, node-in _ _ _ _ (node-child _ _ _ _ _ _ (p .1 .1 .0) (c .before .before .if1 .taken) (p .1 .0)), c .before .before .before .before .before .before .before .before .before .before .good))
+    (λ c. let p = c .before .before .before .before .before .before .before .before .before .before .pre .1 in omega (arith, node-in _ _ _ _ (node-child _ _ _ _ _ _ (p .1 .1 .0) (c .before .before .if1 .taken) (p .1 .0)), c .before .before .before .before .before .before .before .before .before .before .good))
+    (λ c κs. let a = c .before .before .before .before .before .before .before .before .before .before .args in let p = c .before .before .before .before .before .before .before .before .before .before .pre .1 in let few = count-few _ _ _ _ _ (p .0) (a .dimension) (omega (arith, p .1 .0 .dims)) in (omega (arith, c .before .before .before .before .before .before .before .before .before .before .pre .0, few, c .before .count-of .ensures), (p .0, (node-child _ _ _ _ _ _ (p .1 .1 .0) (c .before .before .if1 .taken) (p .1 .0), omega (arith, c .before .count-of .ensures)))))
     (λ c. search needs)
-    (λ c. out-last _ _ _ _ _ _ _ _ _ _ _ _ _ (c .before .before .before .before .if1 .taken) (c .before .before .draw-columns .ensures))
-    (λ c κs. let p = c .before .before .before .before .before .before .before .pre .1 in columns-in _ _ _ _ _ (p .0) _ _ _ _ (omega (arith, p .1 .0 .dims)) (p .1 .1 .0) (p .1 .1 .2) (p .1 .1 .3))
-    (λ c κs. omega (arith, c .before .before .before .before .before .before .before .before .before .pre .1 .0 .all-counts, c .before .before .before .before .before .before .before .before .before .pre .1 .1 .0 .dims))
-    (λ c. let p = c .before .before .before .before .before .before .before .before .before .before .before .pre .1 in omega (arith, node-in _ _ _ _ (node-child _ _ _ _ _ _ (p .1 .1 .0) (c .before .before .if2 .taken) (p .1 .0)), c .before .before .before .before .before .before .before .before .before .before .before .good))
-    (λ c. let p = c .before .before .before .before .before .before .before .before .before .before .before .pre .1 in omega (arith, node-in _ _ _ _ (node-child _ _ _ _ _ _ (p .1 .1 .0) (c .before .before .if2 .taken) (p .1 .0)), c .before .before .before .before .before .before .before .before .before .before .before .good))
-    (λ c κs. let a = c .before .before .before .before .before .before .before .before .before .before .before .args in let p = c .before .before .before .before .before .before .before .before .before .before .before .pre .1 in let few = count-few _ _ _ _ _ (p .0) (a .dimension) (omega (arith, p .1 .0 .dims)) in (omega (arith, c .before .before .before .before .before .before .before .before .before .before .before .pre .0, few, c .before .count-of .ensures), (p .0, (node-child _ _ _ _ _ _ (p .1 .1 .0) (c .before .before .if2 .taken) (p .1 .0), omega (arith, c .before .count-of .ensures)))))
+    (λ c κs. let p = c .before .before .before .before .before .before .before .before .before .before .before .before .before .before .pre .1 in (omega (arith, c .before .before .before .before .before .before .before .before .before .before .before .before .before .before .pre .0, c .before .before .before .before .before .before .if1 .taken, c .before .before .before .before .before .before .before .next-covered .ensures .from-first), (p .0, (node-len _ _ _ _ _ (c .before .before .before .update .kept .0) (p .1 .0), (p .1 .1 .0, p .1 .1 .1, p .1 .1 .2, omega (arith, c .before .before .before .before .before .before .if1 .taken))))))
     (λ c. search needs)
-    (λ c κs. let p = c .before .before .before .before .before .before .before .before .before .before .before .before .before .before .before .pre .1 in (omega (arith, c .before .before .before .before .before .before .before .before .before .before .before .before .before .before .before .pre .0, c .before .before .before .before .before .before .if2 .taken, c .before .before .before .before .before .before .before .next-covered .ensures .from-first), (p .0, (node-len _ _ _ _ _ (c .before .before .before .update .kept .0) (p .1 .0), (p .1 .1 .0, p .1 .1 .1, p .1 .1 .2, omega (arith, c .before .before .before .before .before .before .if2 .taken))))))
-    (λ c. search needs)
-    (λ c. out-in _ _ _ _ _ _ _ _ _ _ _ _ _ (c .before .before .before .before .before .before .before .before .before .before .before .before .before .before .before .before .before .before .pre .1 .1 .1 .0) (c .before .before .before .before .before .before .before .before .before .before .next-covered .ensures) _ _ _ _ (c .before .before .before .before .before .before .before .before .before .if2 .taken) (c .before .before .before .before .before .before .before .before .count-of .ensures) (c .before .before .before .before .before .before .update .ensures) (c .before .before .update-columns .ensures))
-    (λ c. out-end _ _ _ _ _ _ _ _ _ _ _ _ _ (c .before .before .before .before .before .before .before .before .before .pre .1 .1 .1 .0) (c .before .next-covered .ensures) _ (c .if2 .left))
+    (λ c. out-in _ _ _ _ _ _ _ _ _ _ _ _ _ (c .before .before .before .before .before .before .before .before .before .before .before .before .before .before .before .before .before .pre .1 .1 .1 .0) (c .before .before .before .before .before .before .before .before .before .before .next-covered .ensures) _ _ _ _ (c .before .before .before .before .before .before .before .before .before .if1 .taken) (c .before .before .before .before .before .before .before .before .count-of .ensures) (c .before .before .before .before .before .before .update .ensures) (c .before .before .update-columns .ensures))
+    (λ c. out-end _ _ _ _ _ _ _ _ _ _ _ _ _ (c .before .before .before .before .before .before .before .before .pre .1 .1 .1 .0) (c .before .next-covered .ensures) _ (c .if1 .left))

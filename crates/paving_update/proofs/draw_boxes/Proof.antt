@@ -1,0 +1,33 @@
+-- `paving_update::draw_boxes` meets its contract. The loop's invariant: drawing at the boxes that remain gives the answer.
+-- Assumes nothing.
+use mathlib.Core.Path.{_≡_, refl, _∙_}
+use Prim.Native.Nat.{_-_, _≤_}
+use native.Mathlib.Omega.{arith}
+use borrow.Author.Needs.{needs}
+use lib.ListN.{length}
+use Rattle.laws.specs.Lists.{from}
+use Rattle.paving_update.specs.Update.{drawn, drawAll}
+use Rattle.paving_update.proofs.Run.{boxes-more, boxes-end}
+use Rattle.paving_update.proofs.draw_boxes.Statement.{statement}
+use Rattle.paving_update.proofs.draw_boxes.Tie as tie
+
+abbrev Inv-loop : tie.InvT-loop
+Inv-loop lists₀ rule replaces over first end now₀ node₀ lists now node =
+    (node ≤ end) × (length lists ≡ length lists₀) × (drawAll rule replaces (drawn lists now) (from node (end - node)) ≡ drawAll rule replaces (drawn lists₀ over) (from first (end - first)))
+
+abbrev μ-loop : tie.MeasureT-loop
+μ-loop lists₀ rule replaces over first end now₀ node₀ lists now node = end - node
+
+pub draw-boxes-spec : {M : Type 1} → statement M
+draw-boxes-spec =
+    tie.close
+    (tie.spec
+    Inv-loop
+    μ-loop
+    (λ c. (c .before .pre .0, refl, refl))
+    (λ c κs. omega (arith, c .before .loop-test .taken, c .before .before .loop .inv .1, c .before .before .before .before .pre .1))
+    (λ c. search needs)
+    (λ c. search needs)
+    (λ c. (omega (arith, c .before .before .before .before .loop-test .taken), c .before .before .draw .kept .0 ∙ c .before .before .before .before .before .loop .inv .1, boxes-more _ _ _ _ _ _ (c .before .before .before .before .loop-test .taken) (c .before .before .draw .ensures) ∙ c .before .before .before .before .before .loop .inv .2))
+    (λ c. c .before .loop .inv .1)
+    (λ c. boxes-end _ _ _ _ _ (c .loop-test .left) ∙ c .before .loop .inv .2))

@@ -1,0 +1,37 @@
+-- `paving_update::draw_ranges` meets its contract. The loop's invariant: drawing for the ranges that remain gives the answer.
+-- Assumes nothing.
+use mathlib.Core.Path.{_≡_, refl, _∙_}
+use Prim.Native.Nat.{_-_, _≤_}
+use native.Mathlib.Omega.{arith}
+use borrow.Author.Needs.{needs}
+use lib.ListN.{length}
+use Rattle.paving_update.specs.Update.{drawn, drawAll}
+use Rattle.paving_update.proofs.Walk.{node-len}
+use Rattle.paving_update.proofs.Run.{rangesFrom, ranges-more, ranges-end, ranges-drawn}
+use Rattle.paving_update.proofs.draw_ranges.Statement.{statement}
+use Rattle.paving_update.proofs.draw_ranges.Tie as tie
+
+abbrev Inv-loop : tie.InvT-loop
+Inv-loop lists₀ sizes counts rows cuts ranges rule replaces over node rest count now₀ range₀ lists now range =
+    (range ≤ count) × (length lists ≡ length lists₀)
+    × (drawAll rule replaces (drawn lists now) (rangesFrom sizes counts rows cuts ranges node range) ≡ drawAll rule replaces (drawn lists₀ over) (rangesFrom sizes counts rows cuts ranges node (count - rest)))
+
+abbrev μ-loop : tie.MeasureT-loop
+μ-loop lists₀ sizes counts rows cuts ranges rule replaces over node rest count now₀ range₀ lists now range = count - range
+
+pub draw-ranges-spec : {M : Type 1} → statement M
+draw-ranges-spec =
+    tie.close
+    (tie.spec
+    Inv-loop
+    μ-loop
+    (λ c. omega (arith, c .before .before .before .before .before .before .before .pre .0 .all-counts, c .before .before .before .before .before .before .before .pre .1 .0 .dims))
+    (λ c κs. search needs)
+    (λ c. omega (arith, c .wide .ensures .0, c .before .before .before .before .before .before .before .before .pre .1 .1 .1))
+    (λ c. (omega arith, refl, refl))
+    (λ c κs. let p = c .before .before .before .before .before .before .before .before .before .before .before .pre in (p .0, (node-len _ _ _ _ _ (c .before .before .loop .inv .1) (p .1 .0), (p .1 .1 .0, omega (arith, c .before .loop-test .taken, c .before .before .before .wide .ensures .0)))))
+    (λ c. search needs)
+    (λ c. search needs)
+    (λ c. (omega (arith, c .before .before .before .before .loop-test .taken), c .before .before .draw-range .kept .0 ∙ c .before .before .before .before .before .loop .inv .1, ranges-more _ _ _ _ _ _ _ _ _ (c .before .before .before .before .before .before .wide .ensures .0) _ _ _ (c .before .before .before .before .loop-test .taken) (c .before .before .draw-range .ensures) ∙ c .before .before .before .before .before .loop .inv .2))
+    (λ c. c .before .loop .inv .1)
+    (λ c. ranges-drawn _ _ _ _ _ _ _ _ _ (c .before .before .wide .ensures .0) _ _ _ (ranges-end _ _ _ _ _ _ _ _ _ (c .before .before .wide .ensures .0) _ _ (c .loop-test .left) ∙ c .before .loop .inv .2)))
