@@ -1,40 +1,15 @@
 // Update: a rule drawn over the boxes that its ranges cover, once for each combination of one covering range per dimension.
 // The walk over a rule's ranges and the walk into a node's columns call each other; a box's list is its count and its rules' numbers.
+mod last;
 pub mod search;
 
 ghost use mathlib.Core.Path.{_≡_};
 ghost use Prim.Native.Nat.{suc, _+_, _-_, _*_, _≤_, _<_, _/_};
-ghost use mathlib.Core.Bool.{true};
 ghost use lib.ListN.{length, getD};
-ghost use Rattle.laws.specs.Lists.{from};
 ghost use Rattle.paving.specs.Grid.{Node};
-ghost use Rattle.paving_update.specs.Update.{rangePlaces, listPlaces, Lawful, RisingRow, covered, NextCovered, countOf, leaves, leavesOf, overColumns, drawn, drawOne, drawAll};
+ghost use Rattle.paving_update.specs.Update.{rangePlaces, listPlaces, Lawful, covered, NextCovered, countOf, leaves, leavesOf, overColumns, drawn, drawAll};
 
 const RANGE_PLACES: usize = 64;
-
-const LIST_PLACES: usize = 33;
-
-const LIST_LIMIT: u16 = 32;
-
-// A rule at a box. One that does not fit is remembered.
-fn draw(lists: &mut [u16], rule: u16, replaces: bool, over: bool, node: usize) -> bool
-    requires { ⌜ node * listPlaces + listPlaces ≤ length (now lists) ⌝ }
-    ensures { λ r. ⌜ drawn (now (lists .exit)) r ≡ drawOne rule replaces (drawn (now (lists .entry)) over) node ⌝ }
-{
-    let at = node * LIST_PLACES;
-    if replaces {
-        lists[at + 1] = rule;
-        lists[at] = 1;
-        return over;
-    }
-    let count = lists[at];
-    if count < LIST_LIMIT {
-        lists[at + 1 + paving::wide(count)] = rule;
-        lists[at] = count + 1;
-        return over;
-    }
-    true
-}
 
 // Whether a range covers a column.
 fn covers(
@@ -80,119 +55,6 @@ fn next_covered(
     next
 }
 
-// Draws a rule at the boxes from one up to another.
-fn draw_boxes(
-    lists: &mut [u16],
-    rule: u16,
-    replaces: bool,
-    over: bool,
-    first: usize,
-    end: usize,
-) -> bool
-    requires { ⌜ (first ≤ end) × (end * listPlaces ≤ length (now lists)) ⌝ }
-    ensures { λ r. ⌜ drawn (now (lists .exit)) r ≡ drawAll rule replaces (drawn (now (lists .entry)) over) (from first (end - first)) ⌝ }
-{
-    let mut now = over;
-    let mut node = first;
-    while node < end {
-        now = draw(lists, rule, replaces, now, node);
-        node += 1;
-    }
-    now
-}
-
-// Draws a rule at the boxes of a node of the last dimension that a range covers. Its cuts rise, so that they stand side by side.
-fn draw_range(
-    lists: &mut [u16],
-    sizes: &[u16],
-    counts: &[u16],
-    rows: &[u16],
-    cuts: &[u16],
-    ranges: &[u16],
-    rule: u16,
-    replaces: bool,
-    over: bool,
-    node: usize,
-    range: usize,
-) -> bool
-    requires { ⌜ Lawful (now sizes) (now counts) (now rows) (now cuts) (now ranges) ⌝ }
-    requires { ⌜ Node (length (now lists) / listPlaces) (now sizes) 1 node ⌝ }
-    requires { ⌜ RisingRow (now sizes) (now rows) (now cuts) 0 ⌝ }
-    requires { ⌜ range < getD (now counts) 0 0 ⌝ }
-    ensures { λ r. ⌜ drawn (now (lists .exit)) r
-        ≡ drawAll rule replaces (drawn (now (lists .entry)) over) (overColumns (now (sizes .entry)) (now (counts .entry)) (now (rows .entry)) (now (cuts .entry)) (now (ranges .entry)) 0
-        (leaves (now (sizes .entry)) (now (counts .entry)) (now (rows .entry)) (now (cuts .entry)) (now (ranges .entry)) 0) node range 0) ⌝ }
-{
-    let width = paving::wide(sizes[0]);
-    let first = paving::wide(rows[0]);
-    let begin = search::place_in(cuts, first, first + width, ranges[2 * range]);
-    let end = search::place_in(cuts, begin, first + width, ranges[2 * range + 1]);
-    let base = node * width;
-    draw_boxes(
-        lists,
-        rule,
-        replaces,
-        over,
-        base + (begin - first),
-        base + (end - first),
-    )
-}
-
-// The same for the last `rest` ranges.
-fn draw_ranges(
-    lists: &mut [u16],
-    sizes: &[u16],
-    counts: &[u16],
-    rows: &[u16],
-    cuts: &[u16],
-    ranges: &[u16],
-    rule: u16,
-    replaces: bool,
-    over: bool,
-    node: usize,
-    rest: usize,
-) -> bool
-    requires { ⌜ Lawful (now sizes) (now counts) (now rows) (now cuts) (now ranges) ⌝ }
-    requires { ⌜ Node (length (now lists) / listPlaces) (now sizes) 1 node ⌝ }
-    requires { ⌜ RisingRow (now sizes) (now rows) (now cuts) 0 ⌝ }
-    requires { ⌜ rest ≤ getD (now counts) 0 0 ⌝ }
-    ensures { λ r. ⌜ drawn (now (lists .exit)) r
-        ≡ drawAll rule replaces (drawn (now (lists .entry)) over) (leavesOf (now (sizes .entry)) (now (counts .entry)) (now (rows .entry)) (now (cuts .entry)) (now (ranges .entry)) 1 node rest) ⌝ }
-{
-    let count = paving::wide(counts[0]);
-    let mut now = over;
-    let mut range = count - rest;
-    while range < count {
-        now = draw_range(
-            lists,
-            sizes,
-            counts,
-            rows,
-            cuts,
-            ranges,
-            rule,
-            replaces,
-            now,
-            node,
-            range,
-        );
-        range += 1;
-    }
-    now
-}
-
-// Whether one dimension is left and its cuts rise.
-fn last_rises(sizes: &[u16], rows: &[u16], cuts: &[u16], left: usize) -> bool
-    requires { ⌜ (left ≤ length (now sizes)) × (length (now sizes) ≤ length (now rows)) × (left ≡ 1 → getD (now rows) 0 0 + getD (now sizes) 0 0 < length (now cuts)) ⌝ }
-    ensures { λ r. ⌜ (r ≡ true → (left ≡ 1) × RisingRow (now (sizes .entry)) (now (rows .entry)) (now (cuts .entry)) 0) ⌝ }
-{
-    if left == 1 {
-        let first = paving::wide(rows[0]);
-        return search::rises(cuts, first, first + paving::wide(sizes[0]));
-    }
-    false
-}
-
 // The number of ranges in the first of the dimensions left.
 fn count_of(counts: &[u16], left: usize) -> usize
     requires { ⌜ left ≤ length (now counts) ⌝ }
@@ -226,13 +88,13 @@ pub fn update(
         ≡ drawAll rule replaces (drawn (now (lists .entry)) over) (leavesOf (now (sizes .entry)) (now (counts .entry)) (now (rows .entry)) (now (cuts .entry)) (now (ranges .entry)) left node rest) ⌝ }
 {
     if left == 0 {
-        return draw(lists, rule, replaces, over, node);
+        return last::draw(lists, rule, replaces, over, node);
     }
     if rest == 0 {
         return over;
     }
-    if last_rises(sizes, rows, cuts, left) {
-        return draw_ranges(
+    if last::last_rises(sizes, rows, cuts, left) {
+        return last::draw_ranges(
             lists,
             sizes,
             counts,

@@ -15,9 +15,9 @@ use Rattle.paving_update.proofs.+update+update_columns.Lts-update_colum
 use Rattle.paving.proofs.wide.Reads as wide-reads
 use Rattle.paving_update.proofs.count_of.Reads as count-of-reads
 use Rattle.paving_update.proofs.next_covered.Reads as next-covered-reads
-use Rattle.paving_update.proofs.last_rises.Reads as last-rises-reads
-use Rattle.paving_update.proofs.draw_ranges.Reads as draw-ranges-reads
-use Rattle.paving_update.proofs.draw.Reads as draw-reads
+use Rattle.paving_update.proofs.last.last_rises.Reads as last-rises-reads
+use Rattle.paving_update.proofs.last.draw_ranges.Reads as draw-ranges-reads
+use Rattle.paving_update.proofs.last.draw.Reads as draw-reads
 use Rattle.paving_update.proofs.+update+update_columns.{statement}
 use Rattle.paving_update.proofs.+update+update_columns.Tie.{close}
 

@@ -2,7 +2,6 @@
 -- Assumes nothing.
 use native.Mathlib.Omega.{arith}
 use borrow.Author.Needs.{needs}
-use denote.Ref.{now}
 use Rattle.paving_update.proofs.Narrowing.{Narrowed, narrowed-first, narrowed-up, narrowed-down, narrowed-last}
 use Rattle.paving_update.proofs.search.place_in.Statement.{statement}
 use Rattle.paving_update.proofs.search.place_in.Tie as tie

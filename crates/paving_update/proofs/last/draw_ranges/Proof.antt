@@ -1,4 +1,4 @@
--- `paving_update::draw_ranges` meets its contract. The loop's invariant: drawing for the ranges that remain gives the answer.
+-- `paving_update::last::draw_ranges` meets its contract. The loop's invariant: drawing for the ranges that remain gives the answer.
 -- Assumes nothing.
 use mathlib.Core.Path.{_≡_, refl, _∙_}
 use Prim.Native.Nat.{_-_, _≤_}
@@ -8,8 +8,8 @@ use lib.ListN.{length}
 use Rattle.paving_update.specs.Update.{drawn, drawAll}
 use Rattle.paving_update.proofs.Walk.{node-len}
 use Rattle.paving_update.proofs.Run.{rangesFrom, ranges-more, ranges-end, ranges-drawn}
-use Rattle.paving_update.proofs.draw_ranges.Statement.{statement}
-use Rattle.paving_update.proofs.draw_ranges.Tie as tie
+use Rattle.paving_update.proofs.last.draw_ranges.Statement.{statement}
+use Rattle.paving_update.proofs.last.draw_ranges.Tie as tie
 
 abbrev Inv-loop : tie.InvT-loop
 Inv-loop lists₀ sizes counts rows cuts ranges rule replaces over node rest count now₀ range₀ lists now range =

@@ -1,4 +1,4 @@
--- `paving_update::draw_range` meets its contract.
+-- `paving_update::last::draw_range` meets its contract.
 -- Assumes nothing.
 use mathlib.Core.Path.{refl, sym}
 use Prim.Native.Nat.{_-_}
@@ -8,8 +8,8 @@ use denote.Ref.{now}
 use Rattle.paving_update.proofs.Narrowing.{rising-at, rising-later}
 use Rattle.paving_update.proofs.Walk.{columns-in}
 use Rattle.paving_update.proofs.Run.{boxes-in, range-drawn}
-use Rattle.paving_update.proofs.draw_range.Statement.{statement}
-use Rattle.paving_update.proofs.draw_range.Tie as tie
+use Rattle.paving_update.proofs.last.draw_range.Statement.{statement}
+use Rattle.paving_update.proofs.last.draw_range.Tie as tie
 
 pub draw-range-spec : {M : Type 1} → statement M
 draw-range-spec =

@@ -1,15 +1,12 @@
--- `paving_update::last_rises` meets its contract.
+-- `paving_update::last::last_rises` meets its contract.
 -- Assumes nothing.
-use mathlib.Core.Path.{_≡_}
 use mathlib.Core.Bool.{false≢true}
 use native.Mathlib.Omega.{arith}
 use borrow.Author.Needs.{needs}
 use denote.Ref.{now}
-use Prim.Native.Nat.{_+_}
-use lib.ListN.{getD}
 use Rattle.paving_update.proofs.Narrowing.{rising-at}
-use Rattle.paving_update.proofs.last_rises.Statement.{statement}
-use Rattle.paving_update.proofs.last_rises.Tie as tie
+use Rattle.paving_update.proofs.last.last_rises.Statement.{statement}
+use Rattle.paving_update.proofs.last.last_rises.Tie as tie
 
 pub last-rises-spec : {M : Type 1} → statement M
 last-rises-spec =

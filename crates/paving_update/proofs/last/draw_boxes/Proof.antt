@@ -1,4 +1,4 @@
--- `paving_update::draw_boxes` meets its contract. The loop's invariant: drawing at the boxes that remain gives the answer.
+-- `paving_update::last::draw_boxes` meets its contract. The loop's invariant: drawing at the boxes that remain gives the answer.
 -- Assumes nothing.
 use mathlib.Core.Path.{_≡_, refl, _∙_}
 use Prim.Native.Nat.{_-_, _≤_}
@@ -8,8 +8,8 @@ use lib.ListN.{length}
 use Rattle.laws.specs.Lists.{from}
 use Rattle.paving_update.specs.Update.{drawn, drawAll}
 use Rattle.paving_update.proofs.Run.{boxes-more, boxes-end}
-use Rattle.paving_update.proofs.draw_boxes.Statement.{statement}
-use Rattle.paving_update.proofs.draw_boxes.Tie as tie
+use Rattle.paving_update.proofs.last.draw_boxes.Statement.{statement}
+use Rattle.paving_update.proofs.last.draw_boxes.Tie as tie
 
 abbrev Inv-loop : tie.InvT-loop
 Inv-loop lists₀ rule replaces over first end now₀ node₀ lists now node =

@@ -2,8 +2,8 @@ use native.Mathlib.Omega.{arith}
 use lib.ListN.{length-set}
 use borrow.Author.Needs.{needs}
 use Rattle.paving_update.proofs.Walk.{draw-replaces, draw-appends, draw-full}
-use Rattle.paving_update.proofs.draw.Statement.{statement}
-use Rattle.paving_update.proofs.draw.Tie as tie
+use Rattle.paving_update.proofs.last.draw.Statement.{statement}
+use Rattle.paving_update.proofs.last.draw.Tie as tie
 
 pub draw-spec : {M : Type 1} → statement M
 draw-spec =
