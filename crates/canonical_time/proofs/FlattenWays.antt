@@ -1,4 +1,4 @@
--- The ways out of the functions that sets a list's spans with their states.
+-- The ways out of the functions that lay a list's spans with their states.
 -- Assumes nothing.
 use mathlib.Core.Path.{_≡_, refl, sym, ap, ap₂, _∙_}
 use mathlib.Core.List.{List, [], _++_}
@@ -16,19 +16,17 @@ length-same S zero = refl
 length-same S (suc n) = ap suc (length-same S n)
 
 module _ (spans : List ℕ) (S k b e : ℕ) (x p : List ℕ) where
-  pub push-more : b < e → (r : ℕ) (y q : List ℕ)
-      → (r ≡ k + 1 + (e - (b + 1))) × (y ≡ sets (set x k S) (k + 1) (sameStates S (e - (b + 1)))) × (q ≡ sets (set p k (getD spans b 0)) (k + 1) (part spans (b + 1) (e - (b + 1))))
-      → (r ≡ k + (e - b)) × (y ≡ sets x k (sameStates S (e - b))) × (q ≡ sets p k (part spans b (e - b)))
+  pub push-more : b < e → (sets (set x k S) (k + 1) (sameStates S (e - (b + 1))) ≡ sets x k (sameStates S (e - b)))
+      × (sets (set p k (getD spans b 0)) (k + 1) (part spans (b + 1) (e - (b + 1))) ≡ sets p k (part spans b (e - b)))
   unfolding part sameStates
-  push-more h r y q l = (
-    omega arith,
-    l .1 ∙ sets-next x k S (sameStates S (e - (b + 1))) ∙ sym (ap (λ n. sets x k (sameStates S n)) (left-in b e h)),
-    l .2 ∙ sets-next p k (getD spans b 0) (part spans (b + 1) (e - (b + 1))) ∙ sym (ap (λ n. sets p k (part spans b n)) (left-in b e h)),
+  push-more h = (
+    sets-next x k S (sameStates S (e - (b + 1))) ∙ sym (ap (λ n. sets x k (sameStates S n)) (left-in b e h)),
+    sets-next p k (getD spans b 0) (part spans (b + 1) (e - (b + 1))) ∙ sym (ap (λ n. sets p k (part spans b n)) (left-in b e h)),
   )
 
-  pub push-none : e ≤ b → (k ≡ k + (e - b)) × (x ≡ sets x k (sameStates S (e - b))) × (p ≡ sets p k (part spans b (e - b)))
+  pub push-none : e ≤ b → (x ≡ sets x k (sameStates S (e - b))) × (p ≡ sets p k (part spans b (e - b)))
   unfolding part sameStates
-  push-none h = (omega arith, sym (ap (λ n. sets x k (sameStates S n)) (left-none b e h)), sym (ap (λ n. sets p k (part spans b n)) (left-none b e h)))
+  push-none h = (sym (ap (λ n. sets x k (sameStates S n)) (left-none b e h)), sym (ap (λ n. sets p k (part spans b n)) (left-none b e h)))
 
 -- a list's spans laid from k on, with their states, and the place after them
 abbrev pub Flat : List ℕ → List ℕ → List ℕ → List ℕ → ℕ → ℕ → ℕ → List ℕ → List ℕ → ℕ → List ℕ → List ℕ → Type 0

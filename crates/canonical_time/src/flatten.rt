@@ -34,13 +34,15 @@ fn push_spans(
     ensures { λ r. ⌜ (r ≡ k + (e - b)) × (now (stated .exit) ≡ sets (now (stated .entry)) k (sameStates s (e - b)))
         × (now (spanned .exit) ≡ sets (now (spanned .entry)) k (part (now (spans .entry)) b (e - b))) ⌝ }
 {
-    if b < e {
-        stated[k] = s;
-        spanned[k] = spans[b];
-        push_spans(stated, spanned, k + 1, s, spans, b + 1, e)
-    } else {
-        k
+    let mut next = b;
+    let mut place = k;
+    while next < e {
+        stated[place] = s;
+        spanned[place] = spans[next];
+        place += 1;
+        next += 1;
     }
+    place
 }
 
 // Writes the spans of rules i up to n of the list, with their states; answers the place after them.

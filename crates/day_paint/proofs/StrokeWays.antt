@@ -8,7 +8,7 @@ use native.Mathlib.Omega.{arith}
 use lib.Dec.{eqb, leb, ltb}
 use lib.ListN.{length, getD, set}
 use lib.Seq.{sets}
-use borrow.Author.Tests.{lt-ltb, le-ltb, le-leb, lt-leb, eq-eqb, ne-eqb}
+use borrow.Author.Tests.{le-leb, lt-leb, eq-eqb, ne-eqb}
 use Rattle.grid.specs.Cut.{cutAt}
 use Rattle.definition.specs.Day.{simple}
 use Rattle.span_number.specs.Number.{spanAt}
@@ -19,6 +19,10 @@ use Rattle.words.proofs.Sets.{left-in, left-none, sets-next, sets-sets, part-se
 -- a text laid from k on, and the place after it
 abbrev pub Laid : List ℕ → List ℕ → ℕ → ℕ → List ℕ → Type 0
 Laid s t k r words = (t ≡ sets s k words) × (r ≡ k + length words)
+
+-- whatever lays the rest lays the whole
+abbrev pub Finishes : List ℕ → ℕ → List ℕ → List ℕ → ℕ → List ℕ → Type 0
+Finishes s k rest s₀ k₀ words = (t : List ℕ) (r : ℕ) → Laid s t k r rest → Laid s₀ t k₀ r words
 
 none-laid : (s : List ℕ) (k : ℕ) (words : List ℕ) → words ≡ [] → Laid s s k k words
 none-laid s k words e = (sym (ap (sets s k) e), let h : k ≡ k + 0 = omega arith in h ∙ sym (ap (λ w. k + length w) e))

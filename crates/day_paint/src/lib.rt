@@ -37,22 +37,22 @@ fn write_run_strokes(
     ensures { λ r. ⌜ (now (strokes .exit) ≡ sets (now (strokes .entry)) k (strokesOfRun (now (states .entry)) (now (spans .entry)) s i (n - i)))
         × (r ≡ k + length (strokesOfRun (now (states .entry)) (now (spans .entry)) s i (n - i))) ⌝ }
 {
-    if i < n {
-        let x = states[i];
-        if x == s {
-            let p = spans[i];
-            if is_simple(p) {
-                strokes[k] = stroke(x, p);
-                write_run_strokes(strokes, k + 1, states, spans, s, i + 1, n)
-            } else {
-                write_run_strokes(strokes, k, states, spans, s, i + 1, n)
-            }
-        } else {
-            k
+    let mut next = i;
+    let mut place = k;
+    while next < n {
+        let x = states[next];
+        if x != s {
+            return place;
         }
-    } else {
-        k
+        let p = spans[next];
+        next += 1;
+        if is_simple(p) {
+            strokes[place] = stroke(x, p);
+            place += 1;
+            continue;
+        }
     }
+    place
 }
 
 // The strokes of a list: its simple spans before the first other one, and those of that one's run.
@@ -68,18 +68,20 @@ pub fn write_strokes(
     ensures { λ r. ⌜ (now (strokes .exit) ≡ sets (now (strokes .entry)) k (strokesFrom (now (states .entry)) (now (spans .entry)) i (n - i)))
         × (r ≡ k + length (strokesFrom (now (states .entry)) (now (spans .entry)) i (n - i))) ⌝ }
 {
-    if i < n {
-        let p = spans[i];
-        let x = states[i];
+    let mut next = i;
+    let mut place = k;
+    while next < n {
+        let p = spans[next];
+        let x = states[next];
+        next += 1;
         if is_simple(p) {
-            strokes[k] = stroke(x, p);
-            write_strokes(strokes, k + 1, states, spans, i + 1, n)
-        } else {
-            write_run_strokes(strokes, k, states, spans, x, i + 1, n)
+            strokes[place] = stroke(x, p);
+            place += 1;
+            continue;
         }
-    } else {
-        k
+        return write_run_strokes(strokes, place, states, spans, x, next, n);
     }
+    place
 }
 
 // Whether a stroke covers a minute.

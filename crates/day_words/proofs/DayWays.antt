@@ -2,7 +2,7 @@
 -- Assumes nothing.
 use mathlib.Core.Path.{_≡_, sym, ap, _∙_}
 use mathlib.Core.List.{List}
-use mathlib.Core.Bool.{Bool, true, false}
+use mathlib.Core.Bool.{true, false}
 use Prim.Native.Nat.{ℕ, suc, _+_, _-_, _≤_, _<_}
 use native.Mathlib.Omega.{arith}
 use lib.Dec.{eqb}
@@ -17,9 +17,9 @@ module _ (a b : List ℕ) (i n : ℕ) where
   same-parts : i < n → sameList eqb (part a i (n - i)) (part b i (n - i)) ≡ sameList eqb (part a i (suc (n - (i + 1)))) (part b i (suc (n - (i + 1))))
   same-parts h = ap (λ k. sameList eqb (part a i k) (part b i k)) (left-in i n h)
 
-  pub same-on : i < n → getD a i 0 ≡ getD b i 0 → (r : Bool) → r ≡ sameList eqb (part a (i + 1) (n - (i + 1))) (part b (i + 1) (n - (i + 1))) → r ≡ sameList eqb (part a i (n - i)) (part b i (n - i))
+  pub same-on : i < n → getD a i 0 ≡ getD b i 0 → sameList eqb (part a (i + 1) (n - (i + 1))) (part b (i + 1) (n - (i + 1))) ≡ sameList eqb (part a i (n - i)) (part b i (n - i))
   unfolding part sameList
-  same-on h e r l = l ∙ sym (same-parts h ∙ rw (eq-eqb (getD a i 0) (getD b i 0) e))
+  same-on h e = sym (same-parts h ∙ rw (eq-eqb (getD a i 0) (getD b i 0) e))
 
   pub same-not : i < n → (getD a i 0 ≡ getD b i 0 → ⊥) → false ≡ sameList eqb (part a i (n - i)) (part b i (n - i))
   unfolding part sameList

@@ -1,6 +1,5 @@
 -- `writer::power_of_two` meets its contract.
 -- Assumes nothing.
-use native.Mathlib.Omega.{arith}
 use borrow.Author.Needs.{needs}
 use Rattle.writer.proofs.Bytes.{power}
 use Rattle.writer.proofs.power_of_two.Statement.{statement}

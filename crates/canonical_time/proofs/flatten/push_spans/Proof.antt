@@ -1,0 +1,82 @@
+-- `canonical_time::flatten::push_spans` meets its contract.
+-- Assumes nothing.
+use mathlib.Core.Path.{_≡_, refl, _∙_}
+use Prim.Native.Nat.{_+_, _-_}
+use native.Mathlib.Omega.{arith}
+use lib.ListN.{length, length-set}
+use lib.Seq.{sets}
+use borrow.Author.Needs.{needs}
+use Rattle.words.specs.Words.{part}
+use Rattle.canonical_time.specs.Flatten.{sameStates}
+use Rattle.canonical_time.proofs.FlattenWays.{push-more, push-none}
+use Rattle.canonical_time.proofs.flatten.push_spans.Statement.{statement}
+use Rattle.canonical_time.proofs.flatten.push_spans.Tie as tie
+
+abbrev Inv-loop : tie.InvT-loop
+Inv-loop stated₀ spanned₀ k s spans b e next₀ place₀ stated spanned next place = (place + (e - next) ≡ k + (e - b)) × ((length stated ≡ length stated₀) × (length spanned ≡ length spanned₀)) × (sets stated place (sameStates s (e - next)) ≡ sets stated₀ k (sameStates s (e - b))) × (sets spanned place (part spans next (e - next)) ≡ sets spanned₀ k (part spans b (e - b)))
+
+abbrev μ-loop : tie.MeasureT-loop
+μ-loop stated₀ spanned₀ k s spans b e next₀ place₀ stated spanned next place = e - next
+
+loop-holds : tie.Need-loop-holds Inv-loop μ-loop
+loop-holds c = (refl, (refl, refl), refl, refl)
+
+mul-stated : tie.Need-mul-stated Inv-loop μ-loop
+mul-stated c = search needs
+
+slice-write-stated : tie.Need-slice-write-stated Inv-loop μ-loop
+slice-write-stated c = search needs
+
+mul-spanned : tie.Need-mul-spanned Inv-loop μ-loop
+mul-spanned c = search needs
+
+shared-slice-read-spanned : tie.Need-shared-slice-read-spanned Inv-loop μ-loop
+shared-slice-read-spanned c = search needs
+
+mul-spanned-2 : tie.Need-mul-spanned-2 Inv-loop μ-loop
+mul-spanned-2 c = search needs
+
+slice-write-spanned : tie.Need-slice-write-spanned Inv-loop μ-loop
+slice-write-spanned c = search needs
+
+add-place : tie.Need-add-place Inv-loop μ-loop
+add-place c = search needs
+
+add-next : tie.Need-add-next Inv-loop μ-loop
+add-next c = search needs
+
+loop-less : tie.Need-loop-less Inv-loop μ-loop
+loop-less c = search needs
+
+loop-again : tie.Need-loop-again Inv-loop μ-loop
+loop-again c = let l = push-more (c .before .before .before .args .spans .now) (c .before .before .before .args .s) (c .before .before .loop .place) (c .before .before .loop .next) (c .before .before .before .args .e) (c .before .before .loop .stated) (c .before .before .loop .spanned) (omega arith) in (omega arith, (simp length-set (c .before .before .loop .inv .1 .0), simp length-set (c .before .before .loop .inv .1 .1)), l .0 ∙ c .before .before .loop .inv .2, l .1 ∙ c .before .before .loop .inv .3)
+
+same-length : tie.Need-same-length Inv-loop μ-loop
+same-length c = c .before .loop .inv .1 .0
+
+same-length-2 : tie.Need-same-length-2 Inv-loop μ-loop
+same-length-2 c = c .before .loop .inv .1 .1
+
+returns : tie.Need-returns Inv-loop μ-loop
+returns c = let l = push-none (c .before .before .args .spans .now) (c .before .before .args .s) (c .before .loop .place) (c .before .loop .next) (c .before .before .args .e) (c .before .loop .stated) (c .before .loop .spanned) (omega arith) in (omega (arith, c .before .loop .inv .0), l .0 ∙ c .before .loop .inv .2, l .1 ∙ c .before .loop .inv .3)
+
+pub push-spans-spec : {M : Type 1} → statement M
+push-spans-spec =
+    tie.close
+    (tie.spec
+    Inv-loop
+    μ-loop
+    loop-holds
+    mul-stated
+    slice-write-stated
+    mul-spanned
+    shared-slice-read-spanned
+    mul-spanned-2
+    slice-write-spanned
+    add-place
+    add-next
+    loop-less
+    loop-again
+    same-length
+    same-length-2
+    returns)
