@@ -1,6 +1,6 @@
 -- The ways out of the functions that choose the strokes of a list, and that read and cut them.
 -- Assumes nothing.
-use mathlib.Core.Path.{_≡_, refl, sym, ap, ap₂, _∙_}
+use mathlib.Core.Path.{_≡_, refl, sym, ap, ap₂, _∙_, subst}
 use mathlib.Core.List.{List, [], _∷_}
 use mathlib.Core.Bool.{Bool, true, false, _&&_}
 use Prim.Native.Nat.{ℕ, zero, suc, _+_, _*_, _-_, _/_, _%_, _≤_, _<_}
@@ -12,9 +12,10 @@ use borrow.Author.Tests.{le-leb, lt-leb, eq-eqb, ne-eqb}
 use Rattle.grid.specs.Cut.{cutAt}
 use Rattle.definition.specs.Day.{simple}
 use Rattle.span_number.specs.Number.{spanAt}
-use Rattle.words.specs.Words.{part}
+use Rattle.words.specs.Words.{part, Upward}
 use Rattle.day_paint.specs.Stroke.{strokeNumber, strokesOfRun, strokesFrom, strokeOver, shown, cutsOf, cellsOf}
 use Rattle.words.proofs.Sets.{left-in, left-none, sets-next, sets-sets, part-sets}
+use Rattle.words.proofs.Rising.{cut-upward}
 
 -- a text laid from k on, and the place after it
 abbrev pub Laid : List ℕ → List ℕ → ℕ → ℕ → List ℕ → Type 0
@@ -158,6 +159,23 @@ module _ (cs₀ cs t : List ℕ) (x m r : ℕ) (words : List ℕ) (room : length
     omega (arith, h ∙ ap (λ w. length (cutAt x w)) read, length-cutAt x words),
     omega (arith, h ∙ ap (λ w. length (cutAt x w)) read, length-cutAt x words),
   )
+
+-- the cuts rise, and with one more of them too
+cuts-upward : (ws : List ℕ) → Upward 0 (cutsOf ws)
+unfolding cutsOf
+cuts-upward [] = (omega arith, (omega arith, tt))
+cuts-upward (w ∷ ws) = cut-upward 0 (w / 2048 % 2048) (cutAt (w % 2048) (cutsOf ws)) (omega arith) (cut-upward 0 (w % 2048) (cutsOf ws) (omega arith) (cuts-upward ws))
+
+module _ (cs₀ cs q : List ℕ) (k j m : ℕ) (room : 2 * k + 2 ≤ length cs₀) (l : CutsLaid cs₀ cs q k j m) where
+  pub laid-upward : Upward 0 (part cs 0 m)
+  laid-upward =
+      subst (Upward 0) (sym (ap₂ (λ v n. part v 0 n) (l .laid) (l .counted) ∙ part-sets cs₀ 0 (cutsOf (part q j (k - j))) (omega (arith, l .few, l .counted, l .at-most)))) (cuts-upward (part q j (k - j)))
+
+  pub more-upward : 0 < j → (x r : ℕ) (t : List ℕ) → t ≡ sets cs 0 (cutAt x (part cs 0 m)) → r ≡ length (cutAt x (part cs 0 m)) → Upward 0 (part t 0 r)
+  more-upward pos x r t a b =
+      let first = cut-laid cs₀ cs t x m r (cutsOf (part q j (k - j))) (omega (arith, l .few, l .counted, l .at-most)) (l .laid) (l .counted) a b in
+      subst (Upward 0) (sym (ap₂ (λ v n. part v 0 n) (first .0) (first .1) ∙ part-sets cs₀ 0 (cutAt x (cutsOf (part q j (k - j)))) (omega (arith, first .1, first .2, l .few, l .at-most))))
+      (cut-upward 0 x (cutsOf (part q j (k - j))) (omega arith) (cuts-upward (part q j (k - j))))
 
 pub cuts-more : (cs₀ cs q : List ℕ) (k j m : ℕ) → 2 * k + 2 ≤ length cs₀ → CutsLaid cs₀ cs q k j m → 0 < j
     → (t u : List ℕ) (r w : ℕ) → t ≡ sets cs 0 (cutAt (getD q (j - 1) 0 % 2048) (part cs 0 m)) → r ≡ length (cutAt (getD q (j - 1) 0 % 2048) (part cs 0 m))

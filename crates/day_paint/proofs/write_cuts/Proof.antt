@@ -5,7 +5,7 @@ use Prim.Native.Nat.{_+_, _*_, _≤_, _-_}
 use native.Mathlib.Omega.{arith}
 use lib.ListN.{length, length-set}
 use borrow.Author.Needs.{needs}
-use Rattle.day_paint.proofs.StrokeWays.{CutsLaid, cuts-start, cuts-more, cuts-end}
+use Rattle.day_paint.proofs.StrokeWays.{CutsLaid, cuts-start, laid-upward, more-upward, cuts-more, cuts-end}
 use Rattle.day_paint.proofs.write_cuts.Statement.{statement}
 use Rattle.day_paint.proofs.write_cuts.Tie as tie
 
@@ -38,11 +38,11 @@ shared-slice-read-x c = search needs
 
 cut-at-requires : tie.Need-cut-at-requires Inv-loop μ-loop
 cut-at-requires c κs =
-    omega (arith, c .before .before .before .loop .inv .1 .few, c .before .before .before .loop .inv .1 .at-most, c .before .before .before .loop .inv .0, c .before .before .before .loop .inv .2)
+    (omega (arith, c .before .before .before .loop .inv .1 .few, c .before .before .before .loop .inv .1 .at-most, c .before .before .before .loop .inv .0, c .before .before .before .loop .inv .2), laid-upward _ _ _ _ _ _ (c .before .before .before .loop .inv .2) (c .before .before .before .loop .inv .1))
 
 cut-at-requires-2 : tie.Need-cut-at-requires-2 Inv-loop μ-loop
 cut-at-requires-2 c κs =
-    omega (arith, c .before .before .before .before .before .before .before .loop .inv .1 .few, c .before .before .before .before .before .before .before .loop .inv .1 .at-most, c .before .before .before .before .before .before .before .loop .inv .0, c .before .before .before .before .before .before .before .loop .inv .2, c .before .before .before .cut-at .ensures .2, c .before .before .before .cut-at .kept .0)
+    (omega (arith, c .before .before .before .before .before .before .before .loop .inv .1 .few, c .before .before .before .before .before .before .before .loop .inv .1 .at-most, c .before .before .before .before .before .before .before .loop .inv .0, c .before .before .before .before .before .before .before .loop .inv .2, c .before .before .before .cut-at .ensures .2, c .before .before .before .cut-at .kept .0), more-upward _ _ _ _ _ _ (c .before .before .before .before .before .before .before .loop .inv .2) (c .before .before .before .before .before .before .before .loop .inv .1) (omega arith) _ _ _ (c .before .before .before .cut-at .ensures .0) (c .before .before .before .cut-at .ensures .1))
 
 loop-less : tie.Need-loop-less Inv-loop μ-loop
 loop-less c = search needs
