@@ -187,8 +187,10 @@ pub fn map(
     ensures { λ _. ⌜ Mapped (boxWords (now (states .entry)) (now (counts .entry)) (now (spans .entry)) (now (lists .entry)))
         (now (cells .exit)) (now (classes .exit)) boxes ⌝ }
 {
-    if node < boxes {
-        let now = number_box(
+    let mut at = node;
+    let mut met = many;
+    while at < boxes {
+        met = number_box(
             words,
             other,
             stated,
@@ -205,30 +207,10 @@ pub fn map(
             prints,
             cells,
             classes,
-            node,
+            at,
             boxes,
-            many,
+            met,
         );
-        map(
-            words,
-            other,
-            stated,
-            spanned,
-            strokes,
-            cuts,
-            painted,
-            states,
-            counts,
-            spans,
-            lists,
-            known,
-            hints,
-            prints,
-            cells,
-            classes,
-            node + 1,
-            boxes,
-            now,
-        );
+        at += 1;
     }
 }
