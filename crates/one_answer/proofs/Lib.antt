@@ -1,0 +1,5 @@
+pub mod OneAnswer
+pub mod Promised
+pub mod ShutOut
+pub mod FirstGroup
+pub mod Invented
