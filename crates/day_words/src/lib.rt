@@ -14,12 +14,12 @@ pub fn same_words(a: &[u64], b: &[u64], i: usize, n: usize) -> bool
     requires { ⌜ (n ≤ length (now a)) × (n ≤ length (now b)) ⌝ }
     ensures { λ r. ⌜ r ≡ sameList eqb (part (now (a .entry)) i (n - i)) (part (now (b .entry)) i (n - i)) ⌝ }
 {
-    let mut at = i;
-    while at < n {
-        if a[at] != b[at] {
+    let mut next = i;
+    while next < n {
+        if a[next] != b[next] {
             return false;
         }
-        at += 1;
+        next += 1;
     }
     true
 }
