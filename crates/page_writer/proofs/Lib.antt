@@ -1,4 +1,5 @@
 pub mod Reading
+pub mod Walking
 pub mod Folding
 pub mod Carrying
 pub mod Numbers

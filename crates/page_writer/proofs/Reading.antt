@@ -61,7 +61,7 @@ module _ (W : ℕ → List ℕ) (text : List ℕ) (at n : ℕ) where
   pub none-size : n ≡ 0 → (length all ≡ 0) × (length (rulesBits all) ≡ 0)
   none-size e = (ap length (none e), ap length (none-bits e))
 
-  module _ (some : n ≡ 0 → ⊥) (size : ℕ) (sized : size ≡ pageSize text at) where
+  module _ (some : 0 < n) (size : ℕ) (sized : size ≡ pageSize text at) where
     abbrev first : List Rule
     first = pageRules W (pageAt text at)
 
@@ -86,15 +86,15 @@ module _ (W : ℕ → List ℕ) (text : List ℕ) (at n : ℕ) where
 
 -- ## Pages that are ready
 module _ (states counts spans lists text : List ℕ) where
-  pub pages-first : (room n at : ℕ) → (n ≡ 0 → ⊥) → Pages states counts spans lists text room n at → PageReady states counts spans lists text room at
+  pub pages-first : (room n at : ℕ) → 0 < n → Pages states counts spans lists text room n at → PageReady states counts spans lists text room at
   unfolding Pages
-  pages-first room zero at some p = absurd (some refl)
+  pages-first room zero at some p = absurd (omega arith)
   pages-first room (suc n) at some p = p .0
 
-  pub pages-later : (room n at size next : ℕ) → (n ≡ 0 → ⊥) → size ≡ pageSize text at → room ≡ next → Pages states counts spans lists text room n at
+  pub pages-later : (room n at size next : ℕ) → 0 < n → size ≡ pageSize text at → room ≡ next → Pages states counts spans lists text room n at
       → Pages states counts spans lists text next (n - 1) (at + size)
   unfolding Pages
-  pages-later room zero at size next some e r p = absurd (some refl)
+  pages-later room zero at size next some e r p = absurd (omega arith)
   pages-later room (suc n) at size next some e r p =
       let k : n ≡ suc n - 1 = omega arith in
       subst (λ s. Pages states counts spans lists text next (suc n - 1) (at + s)) (sym e)

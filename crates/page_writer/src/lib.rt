@@ -86,41 +86,33 @@ pub fn measure_pages(
         × (length (rulesBits (pagesRules (boxWords (now (states .entry)) (now (counts .entry)) (now (spans .entry)) (now (lists .entry))) (pagesAt rest (now (text .entry)) at))) ≡ r .bits)
         × (r .rules ≤ 4096 * rest) × (r .bits ≤ 2 ^ 29 * rest) ⌝ }
 {
-    if rest == 0 {
-        return Measure { rules: 0, bits: 0 };
+    let mut here = at;
+    let mut left = rest;
+    let mut rules: usize = 0;
+    let mut bits: usize = 0;
+    while left > 0 {
+        let page = measure_page(
+            words,
+            stated,
+            spanned,
+            strokes,
+            cuts,
+            painted,
+            states,
+            counts,
+            spans,
+            lists,
+            text,
+            here,
+        );
+        rules += page.rules;
+        bits += page.bits;
+        here += page_size(text, here);
+        left -= 1;
     }
-    let first = measure_page(
-        words,
-        stated,
-        spanned,
-        strokes,
-        cuts,
-        painted,
-        states,
-        counts,
-        spans,
-        lists,
-        text,
-        at,
-    );
-    let behind = measure_pages(
-        words,
-        stated,
-        spanned,
-        strokes,
-        cuts,
-        painted,
-        states,
-        counts,
-        spans,
-        lists,
-        text,
-        at + page_size(text, at),
-        rest - 1,
-    );
     Measure {
-        rules: first.rules + behind.rules,
-        bits: first.bits + behind.bits,
+        rules: rules,
+        bits: bits,
     }
 }
 
@@ -193,42 +185,30 @@ pub fn write_pages(
     requires { ⌜ Room (length (now out)) place (rulesBits (pagesRules (boxWords (now states) (now counts) (now spans) (now lists)) (pagesAt rest (now text) at))) ⌝ }
     ensures { λ r. ⌜ Wrote (now (out .entry)) place (rulesBits (pagesRules (boxWords (now (states .entry)) (now (counts .entry)) (now (spans .entry)) (now (lists .entry))) (pagesAt rest (now (text .entry)) at))) (now (out .exit)) r ⌝ }
 {
-    if rest == 0 {
-        return place;
+    let mut here = at;
+    let mut left = rest;
+    let mut next = place;
+    while left > 0 {
+        let size = page_size(text, here);
+        next = write_page(
+            out,
+            next,
+            words,
+            stated,
+            spanned,
+            strokes,
+            cuts,
+            painted,
+            states,
+            counts,
+            spans,
+            lists,
+            text,
+            here,
+            size,
+        );
+        here += size;
+        left -= 1;
     }
-    let size = page_size(text, at);
-    let next = write_page(
-        out,
-        place,
-        words,
-        stated,
-        spanned,
-        strokes,
-        cuts,
-        painted,
-        states,
-        counts,
-        spans,
-        lists,
-        text,
-        at,
-        size,
-    );
-    write_pages(
-        out,
-        next,
-        words,
-        stated,
-        spanned,
-        strokes,
-        cuts,
-        painted,
-        states,
-        counts,
-        spans,
-        lists,
-        text,
-        at + size,
-        rest - 1,
-    )
+    next
 }

@@ -1,0 +1,65 @@
+-- `page_writer::write_pages` meets its contract. The loop's invariant: what is written and the bits of the pages left are all; the pages left
+-- are ready, and the lengths are kept.
+-- Assumes nothing.
+use mathlib.Core.Path.{_≡_, refl, sym, _∙_}
+use native.Mathlib.Omega.{arith}
+use lib.ListN.{length}
+use Rattle.box_day.specs.Boxes.{boxWords}
+use Rattle.box_day.proofs.Kept.{scratch-kept}
+use Rattle.page_writer.specs.Pages.{Pages}
+use Rattle.page_writer.proofs.Reading.{size-low, pages-first, pages-later}
+use Rattle.page_writer.proofs.Walking.{Writing, writing-none, page-room, writing-more, writing-all}
+use Rattle.page_writer.proofs.write_pages.Statement.{statement}
+use Rattle.page_writer.proofs.write_pages.Tie as tie
+
+abbrev Inv-loop : tie.InvT-loop
+Inv-loop out₀ place words₀ stated₀ spanned₀ strokes₀ cuts₀ painted₀ states counts spans lists text at rest here₀ left₀ next₀ out words stated spanned strokes cuts painted here left next =
+    Writing (boxWords states counts spans lists) text rest at out₀ place left here out next × Pages states counts spans lists text (length words) left here
+    × (length out ≡ length out₀) × (length words ≡ length words₀) × (length stated ≡ length stated₀) × (length spanned ≡ length spanned₀) × (length strokes ≡ length strokes₀) × (length cuts ≡ length cuts₀) × (length painted ≡ length painted₀)
+
+abbrev μ-loop : tie.MeasureT-loop
+μ-loop out₀ place words₀ stated₀ spanned₀ strokes₀ cuts₀ painted₀ states counts spans lists text at rest here₀ left₀ next₀ out words stated spanned strokes cuts painted here left next = left
+
+write-page-requires : tie.Need-write-page-requires Inv-loop μ-loop
+write-page-requires c κs = (
+  (pages-first (c .before .before .before .before .before .before .before .before .before .before .before .before .before .before .before .before .before .before .before .before .before .before .args .states .now) (c .before .before .before .before .before .before .before .before .before .before .before .before .before .before .before .before .before .before .before .before .before .before .args .counts .now) (c .before .before .before .before .before .before .before .before .before .before .before .before .before .before .before .before .before .before .before .before .before .before .args .spans .now) (c .before .before .before .before .before .before .before .before .before .before .before .before .before .before .before .before .before .before .before .before .before .before .args .lists .now) (c .before .before .before .before .before .before .before .before .before .before .before .before .before .before .before .before .before .before .before .before .before .before .args .text .now) _ _ _ (c .before .before .before .before .before .before .before .before .loop-test .taken) (c .before .before .before .before .before .before .before .before .before .loop .inv .1), c .before .before .before .before .before .before .before .page-size .ensures),
+  (
+    scratch-kept _ _ _ _ _ _ _ _ _ _ (c .before .before .before .before .before .before .before .before .before .loop .inv .4) (c .before .before .before .before .before .before .before .before .before .loop .inv .5) (c .before .before .before .before .before .before .before .before .before .loop .inv .6) (c .before .before .before .before .before .before .before .before .before .loop .inv .7) (c .before .before .before .before .before .before .before .before .before .loop .inv .8) (c .before .before .before .before .before .before .before .before .before .before .before .before .before .before .before .before .before .before .before .before .before .before .pre .1 .0),
+    page-room (boxWords (c .before .before .before .before .before .before .before .before .before .before .before .before .before .before .before .before .before .before .before .before .before .before .args .states .now) (c .before .before .before .before .before .before .before .before .before .before .before .before .before .before .before .before .before .before .before .before .before .before .args .counts .now) (c .before .before .before .before .before .before .before .before .before .before .before .before .before .before .before .before .before .before .before .before .before .before .args .spans .now) (c .before .before .before .before .before .before .before .before .before .before .before .before .before .before .before .before .before .before .before .before .before .before .args .lists .now)) (c .before .before .before .before .before .before .before .before .before .before .before .before .before .before .before .before .before .before .before .before .before .before .args .text .now) _ _ _ _ (c .before .before .before .before .before .before .before .before .loop-test .taken) _ (c .before .before .before .before .before .before .before .page-size .ensures) _ _ _ _ (c .before .before .before .before .before .before .before .before .before .loop .inv .0),
+  ),
+)
+
+loop-again : tie.Need-loop-again Inv-loop μ-loop
+loop-again c =
+    let inv = c .before .before .before .before .before .before .before .before .before .before .before .before .before .before .before .before .before .before .before .before .before .before .before .before .loop .inv in
+    let kept = c .before .before .before .before .before .before .before .before .before .before .before .before .before .before .write-page .kept in (
+      writing-more (boxWords (c .before .before .before .before .before .before .before .before .before .before .before .before .before .before .before .before .before .before .before .before .before .before .before .before .before .before .before .before .before .before .before .before .before .before .before .before .before .args .states .now) (c .before .before .before .before .before .before .before .before .before .before .before .before .before .before .before .before .before .before .before .before .before .before .before .before .before .before .before .before .before .before .before .before .before .before .before .before .before .args .counts .now) (c .before .before .before .before .before .before .before .before .before .before .before .before .before .before .before .before .before .before .before .before .before .before .before .before .before .before .before .before .before .before .before .before .before .before .before .before .before .args .spans .now) (c .before .before .before .before .before .before .before .before .before .before .before .before .before .before .before .before .before .before .before .before .before .before .before .before .before .before .before .before .before .before .before .before .before .before .before .before .before .args .lists .now)) (c .before .before .before .before .before .before .before .before .before .before .before .before .before .before .before .before .before .before .before .before .before .before .before .before .before .before .before .before .before .before .before .before .before .before .before .before .before .args .text .now) _ _ _ _ (c .before .before .before .before .before .before .before .before .before .before .before .before .before .before .before .before .before .before .before .before .before .before .before .loop-test .taken) _ (c .before .before .before .before .before .before .before .before .before .before .before .before .before .before .before .before .before .before .before .before .before .before .page-size .ensures) _ _ _ _ (inv .0) _ _ (c .before .before .before .before .before .before .before .before .before .before .before .before .before .before .write-page .ensures),
+      pages-later (c .before .before .before .before .before .before .before .before .before .before .before .before .before .before .before .before .before .before .before .before .before .before .before .before .before .before .before .before .before .before .before .before .before .before .before .before .before .args .states .now) (c .before .before .before .before .before .before .before .before .before .before .before .before .before .before .before .before .before .before .before .before .before .before .before .before .before .before .before .before .before .before .before .before .before .before .before .before .before .args .counts .now) (c .before .before .before .before .before .before .before .before .before .before .before .before .before .before .before .before .before .before .before .before .before .before .before .before .before .before .before .before .before .before .before .before .before .before .before .before .before .args .spans .now) (c .before .before .before .before .before .before .before .before .before .before .before .before .before .before .before .before .before .before .before .before .before .before .before .before .before .before .before .before .before .before .before .before .before .before .before .before .before .args .lists .now) (c .before .before .before .before .before .before .before .before .before .before .before .before .before .before .before .before .before .before .before .before .before .before .before .before .before .before .before .before .before .before .before .before .before .before .before .before .before .args .text .now) _ _ _ _ _ (c .before .before .before .before .before .before .before .before .before .before .before .before .before .before .before .before .before .before .before .before .before .before .before .loop-test .taken) (c .before .before .before .before .before .before .before .before .before .before .before .before .before .before .before .before .before .before .before .before .before .before .page-size .ensures) (sym (kept .1 .1 .0)) (inv .1),
+      kept .0 ∙ inv .2,
+      kept .1 .1 .0 ∙ inv .3,
+      kept .1 .1 .1 .0 ∙ inv .4,
+      kept .1 .1 .1 .1 .0 ∙ inv .5,
+      kept .1 .1 .1 .1 .1 .0 ∙ inv .6,
+      kept .1 .1 .1 .1 .1 .1 .0 ∙ inv .7,
+      kept .1 .1 .1 .1 .1 .1 .1 .0 ∙ inv .8,
+    )
+
+pub write-pages-spec : {M : Type 1} → statement M
+write-pages-spec =
+    tie.close
+    (tie.spec Inv-loop μ-loop
+    (λ c. (writing-none (boxWords (c .before .before .before .before .before .before .before .before .before .before .before .before .args .states .now) (c .before .before .before .before .before .before .before .before .before .before .before .before .args .counts .now) (c .before .before .before .before .before .before .before .before .before .before .before .before .args .spans .now) (c .before .before .before .before .before .before .before .before .before .before .before .before .args .lists .now)) (c .before .before .before .before .before .before .before .before .before .before .before .before .args .text .now) _ _ _ _ (c .before .before .before .before .before .before .before .before .before .before .before .before .pre .1 .1), c .before .before .before .before .before .before .before .before .before .before .before .before .pre .0, refl, refl, refl, refl, refl, refl, refl))
+    (λ c κs. omega (arith, (pages-first (c .before .before .before .before .before .before .before .before .before .before .before .before .before .before .args .states .now) (c .before .before .before .before .before .before .before .before .before .before .before .before .before .before .args .counts .now) (c .before .before .before .before .before .before .before .before .before .before .before .before .before .before .args .spans .now) (c .before .before .before .before .before .before .before .before .before .before .before .before .before .before .args .lists .now) (c .before .before .before .before .before .before .before .before .before .before .before .before .before .before .args .text .now) _ _ _ (c .loop-test .taken) (c .before .loop .inv .1)) .inside, size-low (c .before .before .before .before .before .before .before .before .before .before .before .before .before .before .args .text .now) (c .before .loop .here)))
+    write-page-requires
+    (λ c. omega (arith, (pages-first (c .before .before .before .before .before .before .before .before .before .before .before .before .before .before .before .before .before .before .before .before .before .before .before .before .before .before .before .before .before .before .before .before .before .before .before .before .before .args .states .now) (c .before .before .before .before .before .before .before .before .before .before .before .before .before .before .before .before .before .before .before .before .before .before .before .before .before .before .before .before .before .before .before .before .before .before .before .before .before .args .counts .now) (c .before .before .before .before .before .before .before .before .before .before .before .before .before .before .before .before .before .before .before .before .before .before .before .before .before .before .before .before .before .before .before .before .before .before .before .before .before .args .spans .now) (c .before .before .before .before .before .before .before .before .before .before .before .before .before .before .before .before .before .before .before .before .before .before .before .before .before .before .before .before .before .before .before .before .before .before .before .before .before .args .lists .now) (c .before .before .before .before .before .before .before .before .before .before .before .before .before .before .before .before .before .before .before .before .before .before .before .before .before .before .before .before .before .before .before .before .before .before .before .before .before .args .text .now) _ _ _ (c .before .before .before .before .before .before .before .before .before .before .before .before .before .before .before .before .before .before .before .before .before .before .before .loop-test .taken) (c .before .before .before .before .before .before .before .before .before .before .before .before .before .before .before .before .before .before .before .before .before .before .before .before .loop .inv .1)) .inside, c .before .before .before .before .before .before .before .before .before .before .before .before .before .before .before .before .before .before .before .before .before .before .page-size .ensures, c .before .before .before .before .before .before .before .before .before .before .before .before .before .before .before .before .before .before .before .before .before .before .before .before .before .before .before .before .before .before .before .before .before .before .before .before .before .good))
+    (λ c. omega (arith, c .before .before .before .before .before .before .before .before .before .before .before .before .before .before .before .before .before .before .before .before .before .before .before .loop-test .taken))
+    (λ c. omega (arith, c .before .before .before .before .before .before .before .before .before .before .before .before .before .before .before .before .before .before .before .before .before .before .before .loop-test .taken))
+    loop-again
+    (λ c. c .before .loop .inv .2)
+    (λ c. c .before .loop .inv .3)
+    (λ c. c .before .loop .inv .4)
+    (λ c. c .before .loop .inv .5)
+    (λ c. c .before .loop .inv .6)
+    (λ c. c .before .loop .inv .7)
+    (λ c. c .before .loop .inv .8)
+    (λ c. writing-all (boxWords (c .before .before .before .before .before .before .before .before .before .before .before .before .before .before .args .states .now) (c .before .before .before .before .before .before .before .before .before .before .before .before .before .before .args .counts .now) (c .before .before .before .before .before .before .before .before .before .before .before .before .before .before .args .spans .now) (c .before .before .before .before .before .before .before .before .before .before .before .before .before .before .args .lists .now)) (c .before .before .before .before .before .before .before .before .before .before .before .before .before .before .args .text .now) _ _ _ _ _ _ _ _ (omega (arith, c .loop-test .left)) (c .before .loop .inv .0)))
