@@ -38,8 +38,8 @@ pub fn find_day(
     ensures { λ r. ⌜ SameWords (boxWords (now (states .entry)) (now (counts .entry)) (now (spans .entry)) (now (lists .entry))) (now (known .entry))
         (part (now (words .entry)) 0 count) next many r ⌝ }
 {
-    let candidate = next_place(prints, print, many, next);
-    if candidate < many {
+    let mut candidate = next_place(prints, print, many, next);
+    while candidate < many {
         let node = paving::wide(known[candidate]);
         if same_day(
             words,
@@ -58,25 +58,7 @@ pub fn find_day(
         ) {
             return Found::At(node);
         }
-        return find_day(
-            words,
-            other,
-            stated,
-            spanned,
-            strokes,
-            cuts,
-            painted,
-            states,
-            counts,
-            spans,
-            lists,
-            known,
-            prints,
-            count,
-            print,
-            many,
-            candidate + 1,
-        );
+        candidate = next_place(prints, print, many, candidate + 1);
     }
     Found::Nothing
 }
