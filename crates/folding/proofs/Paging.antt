@@ -26,7 +26,7 @@ use Rattle.folding.proofs.Numbered.{folded-found, found-few, found-brie
 
 module _ (states counts spans rows sizes cuts lists cells classes : List ℕ) (rs : List Rule) (tables : Entries states counts spans rs) (boxed : Boxed rows sizes cuts lists rs)
     (boxes : ℕ) (all : boxes ≡ sizeOf sizes 4) (numbered : Mapped (boxWords states counts spans lists) cells classes boxes) (each : length cells ≡ boxes) (text₀ text : List ℕ)
-    (roomy : 13 * 1024 ≤ length text₀) (laid : text ≡ sets text₀ 0 (groupsNumbers rows cuts sizes 4 (groupsFrom cells classes sizes 5 1 4)))
+    (roomy : 13 * boxes ≤ length text₀) (laid : text ≡ sets text₀ 0 (groupsNumbers rows cuts sizes 4 (groupsFrom cells classes sizes 5 1 4)))
     (stop : ℕ) (ends : stop ≡ length (groupsNumbers rows cuts sizes 4 (groupsFrom cells classes sizes 5 1 4))) where
   abbrev found : List (Group ℕ ℕ)
   found = groupsFrom cells classes sizes 5 1 4
@@ -38,7 +38,7 @@ module _ (states counts spans rows sizes cuts lists cells classes : List ℕ) (r
   exact = each ∙ all
 
   inside : length (groupsNumbers rows cuts sizes 4 found) ≤ length text₀
-  inside = omega (arith, pages-few rows cuts cells classes sizes 5 1 (mapped .none), boxed .few-boxes)
+  inside = omega (arith, pages-few rows cuts cells classes sizes 5 1 (mapped .none))
 
   parts : All (λ g. Part (axes sizes 4) (g .1)) found
   parts = found-parts cells classes sizes 5 1 4

@@ -102,8 +102,8 @@ width-few sizes (suc l) filled = go (getD sizes l 0) refl (width-few sizes l (λ
     go zero e k = absurd (omega (arith, filled l (omega arith)))
     go (suc n) e k = unfold sizeOf widthOf in rw e (omega (arith, le-mul-of-pos-right n (k .0)), omega (arith, le-mul-of-pos-right n (k .0)))
 
-pub boxes-room : (rows sizes cuts lists : List ℕ) (rs : List Rule) → Boxed rows sizes cuts lists rs → (cells marks : ℕ) → cells ≡ sizeOf sizes 4 → 1027 ≤ marks → Room cells marks sizes 4 0 0
+pub boxes-room : (rows sizes cuts lists : List ℕ) (rs : List Rule) → Boxed rows sizes cuts lists rs → (cells marks : ℕ) → cells ≡ sizeOf sizes 4 → sizeOf sizes 4 + 3 ≤ marks → Room cells marks sizes 4 0 0
 boxes-room rows sizes cuts lists rs boxed cells marks e m = record {
   column = record { dims = omega (arith, boxed .cut .four); filled = boxed .cut .filled; below = omega (arith, e) };
-  marked = omega (arith, width-few sizes 4 (boxed .cut .filled) .1, boxed .few-boxes);
+  marked = omega (arith, width-few sizes 4 (boxed .cut .filled) .1);
 }

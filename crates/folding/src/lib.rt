@@ -1,8 +1,10 @@
 // From boxes with lists to pages of the folded rules: the boxes' days are numbered, groups of boxes that have one day popped as pages, and
 // the pages counted.
+pub mod few;
+
 ghost use mathlib.Core.Path.{_≡_};
 ghost use mathlib.Core.List.{List};
-ghost use Prim.Native.Nat.{_*_, _≤_, _<_};
+ghost use Prim.Native.Nat.{_+_, _*_, _≤_, _<_};
 ghost use lib.ListN.{length, getD};
 ghost use Rattle.definition.specs.Rule.{Rule};
 ghost use Rattle.paving.specs.Grid.{sizeOf};
@@ -16,10 +18,14 @@ fn number_days(
     spans: &[u64],
     lists: &[u16],
     boxes: usize,
+    known: &mut [u16],
+    hints: &mut [u64],
+    prints: &mut [u64],
     cells: &mut [u16],
     classes: &mut [u8],
 )
     requires { ⌜ AllReady (now states) (now «span_counts») (now spans) (now lists) dayRoom boxes ⌝ }
+    requires { ⌜ (boxes ≤ length (now known)) × (boxes ≤ length (now hints)) × (boxes ≤ length (now prints)) ⌝ }
     requires { ⌜ (boxes ≤ 1024) × (boxes ≤ length (now cells)) × (boxes < length (now classes)) × (getD (now classes) 0 0 ≡ 0) ⌝ }
     ensures { λ _. ⌜ Mapped (boxWords (now (states .entry)) (now («span_counts» .entry)) (now (spans .entry)) (now (lists .entry)))
         (now (cells .exit)) (now (classes .exit)) boxes ⌝ }
@@ -31,9 +37,6 @@ fn number_days(
     let mut strokes = scratch::ends();
     let mut times = scratch::ends();
     let mut painted = scratch::ends();
-    let mut known = scratch::box_numbers();
-    let mut hints = scratch::box_prints();
-    let mut prints = scratch::box_prints();
     paving_map::map(
         &mut words,
         &mut other,
@@ -46,9 +49,9 @@ fn number_days(
         span_counts,
         spans,
         lists,
-        &mut known,
-        &mut hints,
-        &mut prints,
+        known,
+        hints,
+        prints,
         cells,
         classes,
         0,
@@ -67,6 +70,9 @@ fn fold_in(
     sizes: &[u16],
     cuts: &[u16],
     boxes: usize,
+    known: &mut [u16],
+    hints: &mut [u64],
+    prints: &mut [u64],
     cells: &mut [u16],
     classes: &mut [u8],
     marks: &mut [u8],
@@ -74,14 +80,113 @@ fn fold_in(
 ) -> usize
     requires { ⌜ ((rs : List Rule) × Entries (now states) (now «span_counts») (now spans) rs × Boxed (now rows) (now sizes) (now cuts) (now lists) rs) ⌝ }
     requires { ⌜ (boxes ≡ sizeOf (now sizes) 4) × (length (now cells) ≡ boxes) ⌝ }
-    requires { ⌜ (1025 ≤ length (now classes)) × (getD (now classes) 0 0 ≡ 0) × (1027 ≤ length (now marks)) × (13 * 1024 ≤ length (now text)) ⌝ }
+    requires { ⌜ (boxes < length (now classes)) × (getD (now classes) 0 0 ≡ 0) × (boxes + 3 ≤ length (now marks)) × (13 * boxes ≤ length (now text)) ⌝ }
+    requires { ⌜ (boxes ≤ length (now known)) × (boxes ≤ length (now hints)) × (boxes ≤ length (now prints)) ⌝ }
     ensures { λ r. ⌜ ((rs : List Rule) → Entries (now (states .entry)) (now («span_counts» .entry)) (now (spans .entry)) rs
         → Boxed (now (rows .entry)) (now (sizes .entry)) (now (cuts .entry)) (now (lists .entry)) rs
         → Paged (now (states .entry)) (now («span_counts» .entry)) (now (spans .entry)) (now (lists .entry)) (now (text .exit)) r rs) ⌝ }
 {
-    number_days(states, span_counts, spans, lists, boxes, cells, classes);
+    number_days(
+        states,
+        span_counts,
+        spans,
+        lists,
+        boxes,
+        known,
+        hints,
+        prints,
+        cells,
+        classes,
+    );
     let stop = paving_pages::pop_pages(cells, classes, sizes, marks, rows, cuts, text);
     page_text::count_pages(text, stop)
+}
+
+// Few boxes, in small buffers.
+fn fold_few(
+    states: &[u32],
+    span_counts: &[u8],
+    spans: &[u64],
+    lists: &[u16],
+    rows: &[u16],
+    sizes: &[u16],
+    cuts: &[u16],
+    boxes: usize,
+    text: &mut [u16],
+) -> usize
+    requires { ⌜ ((rs : List Rule) × Entries (now states) (now «span_counts») (now spans) rs × Boxed (now rows) (now sizes) (now cuts) (now lists) rs) ⌝ }
+    requires { ⌜ (boxes ≡ sizeOf (now sizes) 4) × (13 * boxes ≤ length (now text)) ⌝ }
+    requires { ⌜ boxes ≤ 16 ⌝ }
+    ensures { λ r. ⌜ ((rs : List Rule) → Entries (now (states .entry)) (now («span_counts» .entry)) (now (spans .entry)) rs
+        → Boxed (now (rows .entry)) (now (sizes .entry)) (now (cuts .entry)) (now (lists .entry)) rs
+        → Paged (now (states .entry)) (now («span_counts» .entry)) (now (spans .entry)) (now (lists .entry)) (now (text .exit)) r rs) ⌝ }
+{
+    let mut known = few::few_box_numbers();
+    let mut hints = few::few_box_prints();
+    let mut prints = few::few_box_prints();
+    let mut cells = few::few_box_numbers();
+    let mut classes = few::few_day_classes();
+    let mut marks = few::few_marks();
+    fold_in(
+        states,
+        span_counts,
+        spans,
+        lists,
+        rows,
+        sizes,
+        cuts,
+        boxes,
+        &mut known,
+        &mut hints,
+        &mut prints,
+        &mut cells[..boxes],
+        &mut classes,
+        &mut marks,
+        text,
+    )
+}
+
+// As many boxes as the limit allows.
+fn fold_many(
+    states: &[u32],
+    span_counts: &[u8],
+    spans: &[u64],
+    lists: &[u16],
+    rows: &[u16],
+    sizes: &[u16],
+    cuts: &[u16],
+    boxes: usize,
+    text: &mut [u16],
+) -> usize
+    requires { ⌜ ((rs : List Rule) × Entries (now states) (now «span_counts») (now spans) rs × Boxed (now rows) (now sizes) (now cuts) (now lists) rs) ⌝ }
+    requires { ⌜ (boxes ≡ sizeOf (now sizes) 4) × (13 * boxes ≤ length (now text)) ⌝ }
+    ensures { λ r. ⌜ ((rs : List Rule) → Entries (now (states .entry)) (now («span_counts» .entry)) (now (spans .entry)) rs
+        → Boxed (now (rows .entry)) (now (sizes .entry)) (now (cuts .entry)) (now (lists .entry)) rs
+        → Paged (now (states .entry)) (now («span_counts» .entry)) (now (spans .entry)) (now (lists .entry)) (now (text .exit)) r rs) ⌝ }
+{
+    let mut known = scratch::box_numbers();
+    let mut hints = scratch::box_prints();
+    let mut prints = scratch::box_prints();
+    let mut cells = scratch::box_numbers();
+    let mut classes = scratch::day_classes();
+    let mut marks = scratch::marks();
+    fold_in(
+        states,
+        span_counts,
+        spans,
+        lists,
+        rows,
+        sizes,
+        cuts,
+        boxes,
+        &mut known,
+        &mut hints,
+        &mut prints,
+        &mut cells[..boxes],
+        &mut classes,
+        &mut marks,
+        text,
+    )
 }
 
 // From boxes with lists to pages of the folded rules in a text; answers how many pages there are.
@@ -97,26 +202,34 @@ pub fn fold_pages(
     text: &mut [u16],
 ) -> usize
     requires { ⌜ ((rs : List Rule) × Entries (now states) (now «span_counts») (now spans) rs × Boxed (now rows) (now sizes) (now cuts) (now lists) rs) ⌝ }
-    requires { ⌜ (boxes ≡ sizeOf (now sizes) 4) × (13 * 1024 ≤ length (now text)) ⌝ }
+    requires { ⌜ (boxes ≡ sizeOf (now sizes) 4) × (13 * boxes ≤ length (now text)) ⌝ }
     ensures { λ r. ⌜ ((rs : List Rule) → Entries (now (states .entry)) (now («span_counts» .entry)) (now (spans .entry)) rs
         → Boxed (now (rows .entry)) (now (sizes .entry)) (now (cuts .entry)) (now (lists .entry)) rs
         → Paged (now (states .entry)) (now («span_counts» .entry)) (now (spans .entry)) (now (lists .entry)) (now (text .exit)) r rs) ⌝ }
 {
-    let mut cells = scratch::box_numbers();
-    let mut classes = scratch::day_classes();
-    let mut marks = scratch::marks();
-    fold_in(
-        states,
-        span_counts,
-        spans,
-        lists,
-        rows,
-        sizes,
-        cuts,
-        boxes,
-        &mut cells[..boxes],
-        &mut classes,
-        &mut marks,
-        text,
-    )
+    if boxes <= 16 {
+        fold_few(
+            states,
+            span_counts,
+            spans,
+            lists,
+            rows,
+            sizes,
+            cuts,
+            boxes,
+            text,
+        )
+    } else {
+        fold_many(
+            states,
+            span_counts,
+            spans,
+            lists,
+            rows,
+            sizes,
+            cuts,
+            boxes,
+            text,
+        )
+    }
 }

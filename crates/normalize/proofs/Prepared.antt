@@ -37,16 +37,18 @@ pub drained-limited : (sheet : List ℕ) → Bytes sheet → (begins : List ℕ)
 drained-limited sheet bytes begins rs end read states counts spans replacing rows sizes cuts r d =
     omega (arith, d .rules-many, drained-fewer rs, rules-limited sheet bytes begins rs end read)
 
+pub drained-within : (rs : List Rule) (many : ℕ) → many ≡ length rs
+    → (states counts spans replacing rows sizes cuts : List ℕ) (r : Drained) → DrainedCut states counts spans replacing rows sizes cuts rs r → r .rules ≤ many
+drained-within rs many counted states counts spans replacing rows sizes cuts r d = omega (arith, counted, d .rules-many, drained-fewer rs)
+
 -- THE DRAINED RULES AND THEIR CUTS, where the boxes are not too many
 pub drained-prepared : (sheet : List ℕ) → Bytes sheet → (begins : List ℕ) (rs : List Rule) (end many : ℕ) → SheetRead sheet begins rs end → many ≡ length rs
     → (states counts spans replacing rows sizes cuts : List ℕ) (r : Drained) → DrainedCut states counts spans replacing rows sizes cuts rs r
-    → (64 ≤ length states) × (64 ≤ length counts) × (1024 ≤ length spans) × (64 ≤ length replacing) → r .boxes ≤ limits1 .boxes
+    → (r .rules ≤ length states) × (r .rules ≤ length counts) × (r .rules * 16 ≤ length spans) × (r .rules ≤ length replacing) → r .boxes ≤ limits1 .boxes
     → Drawable sheet begins (take (r .rules) states) (take (r .rules) counts) (take (r .rules * 16) spans) replacing rows sizes cuts many end (r .rules) (r .boxes)
 drained-prepared sheet bytes begins rs end many read counted states counts spans replacing rows sizes cuts r d room few =
     let n = d .rules-many in
-    let low = rules-limited sheet bytes begins rs end read in
-    let less = drained-fewer rs in
-    let tables = entries-tabled states counts spans replacing (drained rs) (omega (arith, less, low, room .0)) (omega (arith, less, low, room .1)) (omega (arith, less, low, room .2))
+    let tables = entries-tabled states counts spans replacing (drained rs) (omega (arith, n, room .0)) (omega (arith, n, room .1)) (omega (arith, n, room .2))
     (drained-fits sheet bytes rs end (read .read)) (d .tabled)
     in (
       rs,
@@ -60,7 +62,7 @@ drained-prepared sheet bytes begins rs end many read counted states counts spans
           boxes-counted = d .boxes-many ∙ sym (boxes-counted rows sizes cuts (drained rs) dimensions (d .cut .cut-by));
           few-boxes = few;
         },
-        (omega (arith, less, low, room .3), λ k l. d .tabled k l .replacing-held),
+        (omega (arith, n, room .3), λ k l. d .tabled k l .replacing-held),
       ),
     )
 

@@ -2,17 +2,17 @@
 // list for each box (6), pages of the folded rules, and these written before the rules that are left (7). Each phase has its buffers in
 // a function of its own. From normalize/mod.rs.
 pub mod boxes;
+pub mod lists;
 
 use emission::Folded;
+use lists::fold_boxes;
 ghost use mathlib.Core.Path.{_≡_};
-ghost use mathlib.Core.Bool.{cond};
-ghost use Prim.Native.Nat.{_≤_};
-ghost use lib.Dec.{ltb};
-ghost use lib.ListN.{length, getD};
+ghost use Prim.Native.Nat.{_*_, _≤_};
+ghost use lib.ListN.{length};
 ghost use Rattle.definition.specs.Fold.{numbers, refusal};
 ghost use Rattle.emission.specs.Emission.{numbersOf};
-ghost use Rattle.cutting.specs.Cutting.{RulesRead};
-ghost use Rattle.normalize.specs.Prepared.{Readings, Drawable, Drawn};
+ghost use Rattle.cutting.specs.Cutting.{rowPlaces};
+ghost use Rattle.normalize.specs.Prepared.{Readings};
 ghost use Rattle.normalize.specs.Folds.{Folds};
 
 // "On a refusal every number but code and place is 0."
@@ -29,143 +29,34 @@ pub fn refused(code: u64, place: u64) -> Folded
     }
 }
 
-// Where the rules left begin: at the first of them, or at the end where there is none.
-fn left_start(begins: &[usize], rules: usize, count: usize, end: usize) -> usize
-    requires { ⌜ count ≤ length (now begins) ⌝ }
-    ensures { λ r. ⌜ r ≡ cond (ltb rules count) (getD (now (begins .entry)) rules 0) end ⌝ }
-{
-    if rules < count { begins[rules] } else { end }
-}
-
-// Pages of the folded rules, and the result written.
-fn fold_lists(
+// The rules drained and cut, in the tables that are lent: 5, or the fold of the boxes.
+fn fold_rules_in(
     sheet: &[u8],
     begins: &[usize],
     count: usize,
     end: usize,
     out: &mut [u8],
-    states: &[u32],
-    span_counts: &[u8],
-    spans: &[u64],
-    lists: &[u16],
-    rows: &[u16],
-    sizes: &[u16],
-    cuts: &[u16],
-    rules: usize,
-    boxes: usize,
-) -> Folded
-    requires { ⌜ Drawn (now sheet) (now begins) (now states) (now «span_counts») (now spans) (now rows) (now sizes) (now cuts) (now lists) count end rules boxes ⌝ }
-    ensures { λ r. ⌜ Folds (now (sheet .entry)) (now (out .entry)) r (now (out .exit)) ⌝ }
-{
-    let mut text = [0u16; 13312];
-    let pages = folding::fold_pages(
-        states,
-        span_counts,
-        spans,
-        lists,
-        rows,
-        sizes,
-        cuts,
-        boxes,
-        &mut text,
-    );
-    let start = left_start(begins, rules, count, end);
-    emission::emit(
-        sheet,
-        start,
-        end,
-        out,
-        states,
-        span_counts,
-        spans,
-        lists,
-        &text,
-        pages,
-        rules,
-        count - rules,
-    )
-}
-
-// A list for each box: 6, or the fold of the lists.
-fn fold_boxes(
-    sheet: &[u8],
-    begins: &[usize],
-    count: usize,
-    end: usize,
-    out: &mut [u8],
-    states: &[u32],
-    span_counts: &[u8],
-    spans: &[u64],
-    replacing: &[u8],
-    rows: &[u16],
-    sizes: &[u16],
-    cuts: &[u16],
-    rules: usize,
-    boxes: usize,
-) -> Folded
-    requires { ⌜ Drawable (now sheet) (now begins) (now states) (now «span_counts») (now spans) (now replacing) (now rows) (now sizes) (now cuts) count end rules boxes ⌝ }
-    ensures { λ r. ⌜ Folds (now (sheet .entry)) (now (out .entry)) r (now (out .exit)) ⌝ }
-{
-    let mut lists = [0u16; 33792];
-    let listed = crate::boxes::list_boxes(
-        sheet,
-        begins,
-        count,
-        replacing,
-        rows,
-        sizes,
-        cuts,
-        &mut lists,
-        rules,
-    );
-    if listed < rules {
-        return refused(6, listed as u64);
-    }
-    fold_lists(
-        sheet,
-        begins,
-        count,
-        end,
-        out,
-        states,
-        span_counts,
-        spans,
-        &lists,
-        rows,
-        sizes,
-        cuts,
-        rules,
-        boxes,
-    )
-}
-
-// The rules of a checked sheet, drained and cut: 5, or the fold of the boxes.
-pub fn fold_rules(
-    sheet: &[u8],
-    begins: &[usize],
-    count: usize,
-    end: usize,
-    out: &mut [u8],
+    states: &mut [u32],
+    span_counts: &mut [u8],
+    spans: &mut [u64],
+    replacing: &mut [u8],
+    cuts: &mut [u16],
 ) -> Folded
     requires { ⌜ Readings (now sheet) (now begins) count end ⌝ }
+    requires { ⌜ (count ≤ length (now states)) × (count ≤ length (now «span_counts»)) × (count * 16 ≤ length (now spans)) × (count ≤ length (now replacing)) × (4 * rowPlaces count ≤ length (now cuts)) ⌝ }
     ensures { λ r. ⌜ Folds (now (sheet .entry)) (now (out .entry)) r (now (out .exit)) ⌝ }
 {
-    let mut states = [0u32; 64];
-    let mut span_counts = [0u8; 64];
-    let mut spans = [0u64; 1024];
-    let mut replacing = [0u8; 64];
-    let mut cuts = [0u16; 16392];
     let mut sizes = [0u16; 4];
     let mut rows = [0u16; 4];
     let drained = cutting::cut_drained(
         sheet,
         begins,
         count,
-        &mut states,
-        &mut span_counts,
-        &mut spans,
-        &mut replacing,
-        &mut cuts,
+        states,
+        span_counts,
+        spans,
+        replacing,
+        cuts,
         &mut sizes,
         &mut rows,
     );
@@ -183,11 +74,90 @@ pub fn fold_rules(
         &states[..rules],
         &span_counts[..rules],
         &spans[..places],
-        &replacing,
+        replacing,
         &rows,
         &sizes,
-        &cuts,
+        cuts,
         rules,
         drained.boxes as usize,
     )
+}
+
+// Few rules, in small tables.
+fn fold_few_rules(
+    sheet: &[u8],
+    begins: &[usize],
+    count: usize,
+    end: usize,
+    out: &mut [u8],
+) -> Folded
+    requires { ⌜ Readings (now sheet) (now begins) count end ⌝ }
+    requires { ⌜ count ≤ 4 ⌝ }
+    ensures { λ r. ⌜ Folds (now (sheet .entry)) (now (out .entry)) r (now (out .exit)) ⌝ }
+{
+    let mut states = [0u32; 4];
+    let mut span_counts = [0u8; 4];
+    let mut spans = [0u64; 64];
+    let mut replacing = [0u8; 4];
+    let mut cuts = [0u16; 1032];
+    fold_rules_in(
+        sheet,
+        begins,
+        count,
+        end,
+        out,
+        &mut states,
+        &mut span_counts,
+        &mut spans,
+        &mut replacing,
+        &mut cuts,
+    )
+}
+
+// As many rules as the limit allows.
+fn fold_many_rules(
+    sheet: &[u8],
+    begins: &[usize],
+    count: usize,
+    end: usize,
+    out: &mut [u8],
+) -> Folded
+    requires { ⌜ Readings (now sheet) (now begins) count end ⌝ }
+    ensures { λ r. ⌜ Folds (now (sheet .entry)) (now (out .entry)) r (now (out .exit)) ⌝ }
+{
+    let mut states = [0u32; 64];
+    let mut span_counts = [0u8; 64];
+    let mut spans = [0u64; 1024];
+    let mut replacing = [0u8; 64];
+    let mut cuts = [0u16; 16392];
+    fold_rules_in(
+        sheet,
+        begins,
+        count,
+        end,
+        out,
+        &mut states,
+        &mut span_counts,
+        &mut spans,
+        &mut replacing,
+        &mut cuts,
+    )
+}
+
+// The rules of a checked sheet, drained and cut, in tables for so many: 5, or the fold of the boxes.
+pub fn fold_rules(
+    sheet: &[u8],
+    begins: &[usize],
+    count: usize,
+    end: usize,
+    out: &mut [u8],
+) -> Folded
+    requires { ⌜ Readings (now sheet) (now begins) count end ⌝ }
+    ensures { λ r. ⌜ Folds (now (sheet .entry)) (now (out .entry)) r (now (out .exit)) ⌝ }
+{
+    if count <= 4 {
+        fold_few_rules(sheet, begins, count, end, out)
+    } else {
+        fold_many_rules(sheet, begins, count, end, out)
+    }
 }

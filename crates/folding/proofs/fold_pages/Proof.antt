@@ -1,39 +1,13 @@
--- `folding::fold_pages` meets its contract: the buffers are as large as the limits ask for, and a cell for each box is lent.
+-- `folding::fold_pages` meets its contract: in buffers for few boxes or for many.
 -- Assumes nothing.
-use mathlib.Core.Path.{sym}
-use native.Mathlib.Omega.{arith}
-use lib.Seq.{length-take-le}
 use borrow.Author.Needs.{needs}
 use Rattle.folding.proofs.fold_pages.Statement.{statement}
 use Rattle.folding.proofs.fold_pages.Tie as tie
 
-slice-aggregate-fold-in : tie.Need-slice-aggregate-fold-in
-slice-aggregate-fold-in c =
-    let pre = c .before .before .before .before .before .before .before .before .before .before .before .before .pre in
-    sym (length-take-le (c .before .before .before .before .before .before .before .before .before .before .before .before .args .boxes) _ (omega (arith, c .before .before .before .box-numbers .ensures, pre .0 .2 .few-boxes, pre .1 .0)))
-
-fold-in-requires : tie.Need-fold-in-requires
-fold-in-requires c κs =
-    let pre = c .before .before .before .before .before .before .before .before .before .before .before .before .before .before .before .pre in
-    let classes = c .before .before .before .before .before .day-classes .ensures in (
-      pre .0,
-      (
-        (pre .1 .0, length-take-le (c .before .before .before .before .before .before .before .before .before .before .before .before .before .before .before .args .boxes) _ (omega (arith, c .before .before .before .before .before .before .box-numbers .ensures, pre .0 .2 .few-boxes, pre .1 .0))),
-        (omega (arith, classes .0), classes .1, omega (arith, c .before .before .before .before .marks .ensures), pre .1 .1),
-      ),
-    )
+fold-few-requires : tie.Need-fold-few-requires
+fold-few-requires c κs = let pre = c .before .before .before .before .before .before .before .before .before .before .pre in (pre .0, (pre .1, c .before .if1 .taken))
 
 pub fold-pages-spec : {M : Type 1} → statement M
 fold-pages-spec =
     tie.close
-    (tie.spec
-    (λ c κs. search needs)
-    (λ c κs. search needs)
-    (λ c κs. search needs)
-    (λ c. search needs)
-    slice-aggregate-fold-in
-    (λ c. search needs)
-    (λ c. search needs)
-    fold-in-requires
-    (λ c. search needs)
-    (λ c. search needs))
+    (tie.spec fold-few-requires (λ c κs. search needs) (λ c. search needs) (λ c. search needs) (λ c. search needs) (λ c. search needs))

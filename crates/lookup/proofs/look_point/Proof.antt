@@ -115,7 +115,8 @@ look-boxes-requires c κs =
     let bytes = known-bytes sheet (λ j. omega (arith, c .before .before .before .before .before .before .before .before .before .before .before .before .before .before .before .before .before .before .before .before .before .before .before .before .before .shared-slice-known .given j)) in
     let cut = c .before .before .before .before .before .before .before .before .before .before .before .before .before .before .before .before .cut-drained in
     let d = cut .ensures (rules .0) (rules .1 .0) read (rules .1 .1 .1) in
-    ((_, (_, drained-prepared sheet bytes _ _ _ _ read (rules .1 .1 .1) _ _ _ _ _ _ _ _ d (omega (arith, cut .kept .1 .1 .1 .0), omega (arith, cut .kept .1 .1 .1 .1 .0), omega (arith, cut .kept .1 .1 .1 .1 .1 .0), omega (arith, cut .kept .1 .1 .1 .1 .1 .1 .0)) (c .before .before .before .before .before .before .before .if1 .left))), c .before .before .before .before .before .before .before .before .before .before .before .before .before .before .before .before .before .before .before .before .before .before .before .before .before .before .pre .1)
+    let few = drained-limited sheet bytes _ _ _ read _ _ _ _ _ _ _ _ d in
+    ((_, (_, drained-prepared sheet bytes _ _ _ _ read (rules .1 .1 .1) _ _ _ _ _ _ _ _ d (omega (arith, few, cut .kept .1 .1 .1 .0), omega (arith, few, cut .kept .1 .1 .1 .1 .0), omega (arith, few, cut .kept .1 .1 .1 .1 .1 .0), omega (arith, few, cut .kept .1 .1 .1 .1 .1 .1 .0)) (c .before .before .before .before .before .before .before .if1 .left))), c .before .before .before .before .before .before .before .before .before .before .before .before .before .before .before .before .before .before .before .before .before .before .before .before .before .before .pre .1)
 
 pub look-point-spec : {M : Type 1} → statement M
 look-point-spec =

@@ -1,117 +1,20 @@
--- `normalize::fold_rules` meets its contract: too many boxes refuse, and else the tables of the drained rules alone are lent.
+-- `normalize::fold_rules` meets its contract: in tables for few rules or for many.
 -- Assumes nothing.
-use mathlib.Core.Path.{sym}
-use Prim.Native.Nat.{_*_}
-use native.Mathlib.Omega.{arith}
-use lib.Seq.{length-take-le}
 use borrow.Author.Needs.{needs}
-use Rattle.field.proofs.FieldAt.{known-bytes}
-use Rattle.normalize.proofs.Left.{rules-limited}
-use Rattle.normalize.proofs.Answers.{boxes-refused}
-use Rattle.normalize.proofs.Prepared.{drained-limited, drained-prepared}
 use Rattle.normalize.proofs.fold_rules.Statement.{statement}
 use Rattle.normalize.proofs.fold_rules.Tie as tie
 
-cut-drained-requires : tie.Need-cut-drained-requires
-cut-drained-requires c κs =
-    let sheet = c .before .before .before .before .before .before .before .before .before .before .args .sheet .now in
-    let pre = c .before .before .before .before .before .before .before .before .before .before .pre in
-    let bytes = known-bytes sheet (λ j. omega (arith, c .before .before .before .before .before .before .before .before .before .shared-slice-known .given j)) in
-    let few = rules-limited sheet bytes _ _ _ (pre .1 .0) in (
-      (pre .0, (c .before .before .before .before .before .before .before .before .before .before .args .end, (pre .1 .0, pre .1 .1))),
-      (
-        (omega (arith, few, pre .1 .1), omega (arith, few, pre .1 .1), omega (arith, few, pre .1 .1), omega (arith, few, pre .1 .1)),
-        (omega arith, omega arith, omega (arith, few, pre .1 .1)),
-      ),
-    )
-
-returns : tie.Need-returns
-returns c =
-    let sheet = c .before .before .before .before .before .before .before .before .before .before .before .before .before .before .before .before .before .before .before .before .before .args .sheet .now in
-    let pre = c .before .before .before .before .before .before .before .before .before .before .before .before .before .before .before .before .before .before .before .before .before .pre in
-    let bytes = known-bytes sheet (λ j. omega (arith, c .before .before .before .before .before .before .before .before .before .before .before .before .before .before .before .before .before .before .before .before .shared-slice-known .given j)) in
-    let cut = c .before .before .before .before .before .before .before .before .before .before .cut-drained in
-    let d = cut .ensures (pre .0) (c .before .before .before .before .before .before .before .before .before .before .before .before .before .before .before .before .before .before .before .before .before .args .end) (pre .1 .0) (pre .1 .1) in
-    boxes-refused sheet (c .before .before .before .before .before .before .before .before .before .before .before .before .before .before .before .before .before .before .before .before .before .args .out .now) _ _ _ (pre .1 .0 .read) _ (d .boxes-many) (c .before .if1 .taken) (c .refused .ensures)
-
-mul-places : tie.Need-mul-places
-mul-places c =
-    let sheet = c .before .before .before .before .before .before .before .before .before .before .before .before .before .before .before .before .before .before .before .before .args .sheet .now in
-    let pre = c .before .before .before .before .before .before .before .before .before .before .before .before .before .before .before .before .before .before .before .before .pre in
-    let bytes = known-bytes sheet (λ j. omega (arith, c .before .before .before .before .before .before .before .before .before .before .before .before .before .before .before .before .before .before .before .shared-slice-known .given j)) in
-    let cut = c .before .before .before .before .before .before .before .before .before .cut-drained in
-    let d = cut .ensures (pre .0) (c .before .before .before .before .before .before .before .before .before .before .before .before .before .before .before .before .before .before .before .before .args .end) (pre .1 .0) (pre .1 .1) in
-    let few = drained-limited sheet bytes _ _ _ (pre .1 .0) _ _ _ _ _ _ _ _ d in
-    search (needs, few)
-
-array-share-prefix-states : tie.Need-array-share-prefix-states
-array-share-prefix-states c =
-    let sheet = c .before .before .before .before .before .before .before .before .before .before .before .before .before .before .before .before .before .before .before .before .before .args .sheet .now in
-    let pre = c .before .before .before .before .before .before .before .before .before .before .before .before .before .before .before .before .before .before .before .before .before .pre in
-    let bytes = known-bytes sheet (λ j. omega (arith, c .before .before .before .before .before .before .before .before .before .before .before .before .before .before .before .before .before .before .before .before .shared-slice-known .given j)) in
-    let cut = c .before .before .before .before .before .before .before .before .before .before .cut-drained in
-    let d = cut .ensures (pre .0) (c .before .before .before .before .before .before .before .before .before .before .before .before .before .before .before .before .before .before .before .before .before .args .end) (pre .1 .0) (pre .1 .1) in
-    omega (arith, drained-limited sheet bytes _ _ _ (pre .1 .0) _ _ _ _ _ _ _ _ d, cut .kept .1 .1 .1 .0)
-
-slice-aggregate-fold-boxes : tie.Need-slice-aggregate-fold-boxes
-slice-aggregate-fold-boxes c =
-    let sheet = c .before .before .before .before .before .before .before .before .before .before .before .before .before .before .before .before .before .before .before .before .before .before .args .sheet .now in
-    let pre = c .before .before .before .before .before .before .before .before .before .before .before .before .before .before .before .before .before .before .before .before .before .before .pre in
-    let bytes = known-bytes sheet (λ j. omega (arith, c .before .before .before .before .before .before .before .before .before .before .before .before .before .before .before .before .before .before .before .before .before .shared-slice-known .given j)) in
-    let cut = c .before .before .before .before .before .before .before .before .before .before .before .cut-drained in
-    let d = cut .ensures (pre .0) (c .before .before .before .before .before .before .before .before .before .before .before .before .before .before .before .before .before .before .before .before .before .before .args .end) (pre .1 .0) (pre .1 .1) in
-    sym (length-take-le (cut .result .rules) _ (omega (arith, drained-limited sheet bytes _ _ _ (pre .1 .0) _ _ _ _ _ _ _ _ d, cut .kept .1 .1 .1 .0)))
-
-array-share-prefix-span-counts : tie.Need-array-share-prefix-span-counts
-array-share-prefix-span-counts c =
-    let sheet = c .before .before .before .before .before .before .before .before .before .before .before .before .before .before .before .before .before .before .before .before .before .before .args .sheet .now in
-    let pre = c .before .before .before .before .before .before .before .before .before .before .before .before .before .before .before .before .before .before .before .before .before .before .pre in
-    let bytes = known-bytes sheet (λ j. omega (arith, c .before .before .before .before .before .before .before .before .before .before .before .before .before .before .before .before .before .before .before .before .before .shared-slice-known .given j)) in
-    let cut = c .before .before .before .before .before .before .before .before .before .before .before .cut-drained in
-    let d = cut .ensures (pre .0) (c .before .before .before .before .before .before .before .before .before .before .before .before .before .before .before .before .before .before .before .before .before .before .args .end) (pre .1 .0) (pre .1 .1) in
-    omega (arith, drained-limited sheet bytes _ _ _ (pre .1 .0) _ _ _ _ _ _ _ _ d, cut .kept .1 .1 .1 .1 .0)
-
-slice-aggregate-fold-boxes-2 : tie.Need-slice-aggregate-fold-boxes-2
-slice-aggregate-fold-boxes-2 c =
-    let sheet = c .before .before .before .before .before .before .before .before .before .before .before .before .before .before .before .before .before .before .before .before .before .before .before .args .sheet .now in
-    let pre = c .before .before .before .before .before .before .before .before .before .before .before .before .before .before .before .before .before .before .before .before .before .before .before .pre in
-    let bytes = known-bytes sheet (λ j. omega (arith, c .before .before .before .before .before .before .before .before .before .before .before .before .before .before .before .before .before .before .before .before .before .before .shared-slice-known .given j)) in
-    let cut = c .before .before .before .before .before .before .before .before .before .before .before .before .cut-drained in
-    let d = cut .ensures (pre .0) (c .before .before .before .before .before .before .before .before .before .before .before .before .before .before .before .before .before .before .before .before .before .before .before .args .end) (pre .1 .0) (pre .1 .1) in
-    sym (length-take-le (cut .result .rules) _ (omega (arith, drained-limited sheet bytes _ _ _ (pre .1 .0) _ _ _ _ _ _ _ _ d, cut .kept .1 .1 .1 .1 .0)))
-
-array-share-prefix-spans : tie.Need-array-share-prefix-spans
-array-share-prefix-spans c =
-    let sheet = c .before .before .before .before .before .before .before .before .before .before .before .before .before .before .before .before .before .before .before .before .before .before .before .args .sheet .now in
-    let pre = c .before .before .before .before .before .before .before .before .before .before .before .before .before .before .before .before .before .before .before .before .before .before .before .pre in
-    let bytes = known-bytes sheet (λ j. omega (arith, c .before .before .before .before .before .before .before .before .before .before .before .before .before .before .before .before .before .before .before .before .before .before .shared-slice-known .given j)) in
-    let cut = c .before .before .before .before .before .before .before .before .before .before .before .before .cut-drained in
-    let d = cut .ensures (pre .0) (c .before .before .before .before .before .before .before .before .before .before .before .before .before .before .before .before .before .before .before .before .before .before .before .args .end) (pre .1 .0) (pre .1 .1) in
-    omega (arith, drained-limited sheet bytes _ _ _ (pre .1 .0) _ _ _ _ _ _ _ _ d, cut .kept .1 .1 .1 .1 .1 .0)
-
-slice-aggregate-fold-boxes-3 : tie.Need-slice-aggregate-fold-boxes-3
-slice-aggregate-fold-boxes-3 c =
-    let sheet = c .before .before .before .before .before .before .before .before .before .before .before .before .before .before .before .before .before .before .before .before .before .before .before .before .args .sheet .now in
-    let pre = c .before .before .before .before .before .before .before .before .before .before .before .before .before .before .before .before .before .before .before .before .before .before .before .before .pre in
-    let bytes = known-bytes sheet (λ j. omega (arith, c .before .before .before .before .before .before .before .before .before .before .before .before .before .before .before .before .before .before .before .before .before .before .before .shared-slice-known .given j)) in
-    let cut = c .before .before .before .before .before .before .before .before .before .before .before .before .before .cut-drained in
-    let d = cut .ensures (pre .0) (c .before .before .before .before .before .before .before .before .before .before .before .before .before .before .before .before .before .before .before .before .before .before .before .before .args .end) (pre .1 .0) (pre .1 .1) in
-    sym (length-take-le (cut .result .rules * 16) _ (omega (arith, drained-limited sheet bytes _ _ _ (pre .1 .0) _ _ _ _ _ _ _ _ d, cut .kept .1 .1 .1 .1 .1 .0)))
-
-fold-boxes-requires : tie.Need-fold-boxes-requires
-fold-boxes-requires c κs =
-    let sheet = c .before .before .before .before .before .before .before .before .before .before .before .before .before .before .before .before .before .before .before .before .before .before .before .before .before .before .before .before .args .sheet .now in
-    let pre = c .before .before .before .before .before .before .before .before .before .before .before .before .before .before .before .before .before .before .before .before .before .before .before .before .before .before .before .before .pre in
-    let bytes = known-bytes sheet (λ j. omega (arith, c .before .before .before .before .before .before .before .before .before .before .before .before .before .before .before .before .before .before .before .before .before .before .before .before .before .before .before .shared-slice-known .given j)) in
-    let cut = c .before .before .before .before .before .before .before .before .before .before .before .before .before .before .before .before .before .cut-drained in
-    let d = cut .ensures (pre .0) (c .before .before .before .before .before .before .before .before .before .before .before .before .before .before .before .before .before .before .before .before .before .before .before .before .before .before .before .before .args .end) (pre .1 .0) (pre .1 .1) in
-    drained-prepared sheet bytes _ _ _ _ (pre .1 .0) (pre .1 .1) _ _ _ _ _ _ _ _ d
-    (omega (arith, cut .kept .1 .1 .1 .0), omega (arith, cut .kept .1 .1 .1 .1 .0), omega (arith, cut .kept .1 .1 .1 .1 .1 .0), omega (arith, cut .kept .1 .1 .1 .1 .1 .1 .0))
-    (c .before .before .before .before .before .before .before .before .if1 .left)
+fold-few-rules-requires : tie.Need-fold-few-rules-requires
+fold-few-rules-requires c κs =
+    (c .before .before .before .before .before .pre, c .before .if1 .taken)
 
 pub fold-rules-spec : {M : Type 1} → statement M
 fold-rules-spec =
     tie.close
-    (tie.spec (λ c. search needs) (λ c. search needs) (λ c. search needs) (λ c. search needs) (λ c. search needs) (λ c. search needs) (λ c. search needs) cut-drained-requires
-    (λ c κs. search needs) returns mul-places array-share-prefix-states slice-aggregate-fold-boxes array-share-prefix-span-counts slice-aggregate-fold-boxes-2
-    array-share-prefix-spans slice-aggregate-fold-boxes-3 (λ c. search needs) (λ c. search needs) (λ c. search needs) (λ c. search needs) fold-boxes-requires (λ c. search needs) (λ c. search needs))
+    (tie.spec
+    fold-few-rules-requires
+    (λ c κs. search needs)
+    (λ c. search needs)
+    (λ c. search needs)
+    (λ c. search needs)
+    (λ c. search needs))

@@ -1,12 +1,12 @@
--- `normalize::left_start` meets its contract: by the test whether a rule is left.
+-- `normalize::lists::left_start` meets its contract: by the test whether a rule is left.
 -- Assumes nothing.
 use mathlib.Core.Path.{ap, sym}
 use mathlib.Core.Bool.{cond}
 use lib.ListN.{getD}
 use borrow.Author.Needs.{needs}
 use borrow.Author.Tests.{lt-ltb, le-ltb}
-use Rattle.normalize.proofs.left_start.Statement.{statement}
-use Rattle.normalize.proofs.left_start.Tie as tie
+use Rattle.normalize.proofs.lists.left_start.Statement.{statement}
+use Rattle.normalize.proofs.lists.left_start.Tie as tie
 
 returns : tie.Need-returns
 returns c =

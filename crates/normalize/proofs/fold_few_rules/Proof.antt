@@ -1,0 +1,26 @@
+-- `normalize::fold_few_rules` meets its contract: the small tables are large enough for 4 rules.
+-- Assumes nothing.
+use native.Mathlib.Omega.{arith}
+use borrow.Author.Needs.{needs}
+use Rattle.normalize.proofs.fold_few_rules.Statement.{statement}
+use Rattle.normalize.proofs.fold_few_rules.Tie as tie
+
+fold-rules-in-requires : tie.Need-fold-rules-in-requires
+fold-rules-in-requires c κs =
+    let pre = c .before .before .before .before .before .before .before .before .before .pre in (
+      pre .0,
+      (omega (arith, pre .1), omega (arith, pre .1), omega (arith, pre .1), omega (arith, pre .1), omega (arith, pre .1)),
+    )
+
+pub fold-few-rules-spec : {M : Type 1} → statement M
+fold-few-rules-spec =
+    tie.close
+    (tie.spec
+    (λ c. search needs)
+    (λ c. search needs)
+    (λ c. search needs)
+    (λ c. search needs)
+    (λ c. search needs)
+    fold-rules-in-requires
+    (λ c. search needs)
+    (λ c. search needs))

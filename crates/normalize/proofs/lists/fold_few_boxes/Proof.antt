@@ -1,0 +1,23 @@
+-- `normalize::lists::fold_few_boxes` meets its contract: the small buffers are large enough for 16 boxes.
+-- Assumes nothing.
+use native.Mathlib.Omega.{arith}
+use borrow.Author.Needs.{needs}
+use Rattle.normalize.proofs.Prepared.{zeros-empty}
+use Rattle.normalize.proofs.lists.fold_few_boxes.Statement.{statement}
+use Rattle.normalize.proofs.lists.fold_few_boxes.Tie as tie
+
+fold-boxes-in-requires : tie.Need-fold-boxes-in-requires
+fold-boxes-in-requires c κs =
+    let pre = c .before .before .before .before .before .before .before .before .before .before .before .before .before .pre in
+    let prepared = pre .0 .1 .0 in
+    (pre .0, (zeros-empty 528 _ (prepared .few-boxes) (omega (arith, pre .1)), omega (arith, pre .1)))
+
+pub fold-few-boxes-spec : {M : Type 1} → statement M
+fold-few-boxes-spec =
+    tie.close
+    (tie.spec
+    (λ c. search needs)
+    (λ c. search needs)
+    fold-boxes-in-requires
+    (λ c. search needs)
+    (λ c. search needs))
