@@ -41,9 +41,9 @@ enum hours_code {
     HOURS_UNSETTLED = 9   /* lookup only: a rule is left, or the point's list holds a span that isn't simple [0] */
 };
 
-/* Bytes of stack: more than the frames of the deepest walks take at a sheet's limits. The bench (oracle/README.md) tells how deep
- * calls go. */
-enum { HOURS_STACK = 3000000 };
+/* Bytes of stack: more than twice what the deepest call of the bench took (oracle/README.md). That a stack is deep enough is not
+ * proved. */
+enum { HOURS_STACK = 1000000 };
 
 /* What a moment is. */
 enum hours_kind {

@@ -28,9 +28,9 @@ mod refusal;
 
 pub use refusal::Refusal;
 
-/// Bytes of stack for a call: more than the frames of the deepest walks take at a sheet's limits. The bench (oracle/README.md) tells how
-/// deep calls go. A thread has less unless it is started with `stack_size`.
-pub const STACK: usize = 3_000_000;
+/// Bytes of stack for a call: more than twice what the deepest call of the bench took (oracle/README.md). That a stack is deep enough is
+/// not proved.
+pub const STACK: usize = 1_000_000;
 
 /// What a fold did. The folded sheet stands in the first `bytes` bytes of the buffer.
 #[derive(Clone, Copy, Debug, PartialEq, Eq)]
