@@ -44,9 +44,9 @@ use Rattle.paving_map.proofs.InUse.{InUse, none-used, numberDay, number-day-non
 use Rattle.paving_pages.specs.Sorts.{groupRules}
 use Rattle.paving_pages.proofs.Rules.{rules-paged}
 use Rattle.phases.specs.Phases.{Entries, Boxed, dayRoom}
-use Rattle.phases.proofs.Entries.{day-listed}
+use Rattle.phases.proofs.Entries.{entries-lawful, day-listed}
 use Rattle.page_text.specs.DayReady.{DayReady}
-use Rattle.folding.proofs.Ready.{tables-lawful, box-ready, boxed-carried}
+use Rattle.folding.proofs.Ready.{box-ready, boxed-carried}
 
 -- ## Popped values
 module _ (P : ℕ → Type 0) (cells kinds sizes : List ℕ) (last k l : ℕ) (empty : getD kinds 0 0 ≡ 0) (zero-too : P 0) (each : (j : ℕ) → P (getD cells j 0)) where
@@ -98,7 +98,7 @@ module _ (states counts spans rows sizes cuts lists cells classes : List ℕ) (r
   cells-in-use = cells-used states counts spans lists (sizeOf sizes 4) cells classes mapped (omega arith)
 
   lawful : All Lawful rs
-  lawful = tables-lawful states counts spans rs tables
+  lawful = entries-lawful states counts spans rs tables
 
   -- ## The definition's pages
   box-day : (p : List ℕ) → Within sizes 4 p → dayOf (getD cells (boxOf sizes 4 0 p) 0) ≡ day (map (ruleAt rs) (listOf lists (boxOf sizes 4 0 p)))

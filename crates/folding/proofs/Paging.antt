@@ -21,7 +21,7 @@ use Rattle.page_text.specs.Counted.{Counted}
 use Rattle.page_text.proofs.Reading.{text-counted}
 use Rattle.page_text.proofs.Rules.{text-rules}
 use Rattle.page_text.proofs.Ready.{text-ready}
-use Rattle.folding.proofs.Ready.{tables-lawful}
+use Rattle.phases.proofs.Entries.{entries-lawful}
 use Rattle.folding.proofs.Numbered.{folded-found, found-few, found-brief, found-parts, found-ready}
 
 module _ (states counts spans rows sizes cuts lists cells classes : List ℕ) (rs : List Rule) (tables : Entries states counts spans rs) (boxed : Boxed rows sizes cuts lists rs)
@@ -54,7 +54,7 @@ module _ (states counts spans rows sizes cuts lists cells classes : List ℕ) (r
   pub pages-folded : (n : ℕ) → ((m : ℕ) → Counted text m 0 stop → n ≡ m) → Paged states counts spans lists text n rs
   pages-folded n counted = subst (λ m. Paged states counts spans lists text m rs) (sym (counted (length found) ended)) (record {
     few = found-few states counts spans rows sizes cuts lists cells classes rs tables boxed mapped exact;
-    pages = text-ready rows sizes cuts rs (boxed .cut) (tables-lawful states counts spans rs tables) (boxed .few-boxes)
+    pages = text-ready rows sizes cuts rs (boxed .cut) (entries-lawful states counts spans rs tables) (boxed .few-boxes)
         states counts spans lists text₀ text dayRoom found laid inside parts
         (found-ready states counts spans rows sizes cuts lists cells classes rs tables boxed mapped exact);
     brief = found-brief states counts spans rows sizes cuts lists cells classes rs tables boxed mapped exact;

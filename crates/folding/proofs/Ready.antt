@@ -11,12 +11,12 @@ use lib.Dec.{ltb}
 use lib.ListN.{length, getD, List·getD-eq-default}
 use borrow.Author.Tests.{ltb-true, ltb-false}
 use Rattle.laws.specs.Lists.{All}
-use Rattle.laws.proofs.Lists.{All-map, every-all}
+use Rattle.laws.proofs.Lists.{every-all}
 use Rattle.definition.specs.Rule.{Rule}
 use Rattle.definition.specs.Sheet.{form1, limits1, span}
 use Rattle.definition.specs.Point.{dimensions}
 use Rattle.definition.specs.Day.{Entry}
-use Rattle.definition.proofs.Lawful.{Lawful, items-fit, rule-lawful}
+use Rattle.definition.proofs.Lawful.{items-fit}
 use Rattle.sheet.specs.Begin.{noRule}
 use Rattle.span_number.specs.Number.{stateAt, NumberedState, spanAt}
 use Rattle.span_number.proofs.Carried.{state-numbered}
@@ -34,13 +34,10 @@ use Rattle.paving_pages.specs.Pages.{CutRows}
 use Rattle.paving_pages.proofs.Rules.{cut-rows}
 use Rattle.page_writer.proofs.Carrying.{box-carried}
 use Rattle.phases.specs.Phases.{Entries, Boxed, dayRoom}
-use Rattle.phases.proofs.Entries.{all-at, entry-back}
+use Rattle.phases.proofs.Entries.{all-at, entry-back, entries-lawful}
 
 -- ## Tables
 module _ (states counts spans : List ℕ) (rs : List Rule) (tables : Entries states counts spans rs) where
-  pub tables-lawful : All Lawful rs
-  tables-lawful = All-map (λ r f. rule-lawful form1 limits1 r f) rs (tables .fits)
-
   -- past the last rule there are no spans
   counts-past : (r : ℕ) → length rs ≤ r → getD counts r 0 ≡ 0
   counts-past r l = List·getD-eq-default counts 0 (omega (arith, tables .all-counts))
@@ -73,7 +70,7 @@ module _ (states counts spans : List ℕ) (rs : List Rule) (tables : Entries sta
     -- the rows are those that popping asks for
     pub rows-cut : CutRows rows cuts sizes 4
     rows-cut =
-        cut-rows rows sizes cuts rs dimensions (boxed .cut .cut-by) (lawful-bounded rs tables-lawful) (boxed .cut .all-rows) (omega (arith, boxed .cut .four)) (boxed .cut .inside)
+        cut-rows rows sizes cuts rs dimensions (boxed .cut .cut-by) (lawful-bounded rs (entries-lawful states counts spans rs tables)) (boxed .cut .all-rows) (omega (arith, boxed .cut .four)) (boxed .cut .inside)
 
     short : (i : ℕ) → length (listOf lists i) ≤ 32
     short i = omega (arith, list-length lists i, boxed .listed .short i)

@@ -8,12 +8,12 @@ use Prim.Native.Nat.{ℕ, zero, suc, _+_, _*_, _<_}
 use native.Mathlib.Omega.{arith}
 use lib.ListN.{length, getD, length-map}
 use Rattle.laws.specs.Lists.{All}
-use Rattle.laws.proofs.Lists.{every-all}
+use Rattle.laws.proofs.Lists.{All-map, every-all}
 use Rattle.definition.specs.Rule.{Normal, Span, Rule}
 use Rattle.definition.specs.Sheet.{form1, limits1, span, rule}
 use Rattle.definition.specs.Day.{Entry, flattened, entryOf, day, dayOf}
 use Rattle.definition.specs.Group.{asRule}
-use Rattle.definition.proofs.Lawful.{items-fit}
+use Rattle.definition.proofs.Lawful.{Lawful, items-fit, rule-lawful}
 use Rattle.sheet.specs.Begin.{noRule}
 use Rattle.span_number.specs.Number.{stateAt, spanNumber, spanAt}
 use Rattle.span_number.proofs.Numbers.{number-state, number-span}
@@ -78,3 +78,7 @@ module _ (states counts spans : List ℕ) where
     pub day-listed : (list : List ℕ) → All (λ k. k < length rs) list → day (listRules states counts spans list 0 (length list)) ≡ day (map (λ k. getD rs k noRule) list)
     unfolding day
     day-listed list h = ap (λ es. dayOf (flattened es)) (entries-listed list h)
+
+-- ## Laws of the rules
+pub entries-lawful : (states counts spans : List ℕ) (rs : List Rule) → Entries states counts spans rs → All Lawful rs
+entries-lawful states counts spans rs tables = All-map (λ r f. rule-lawful form1 limits1 r f) rs (tables .fits)

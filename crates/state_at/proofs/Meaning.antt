@@ -11,10 +11,8 @@ use Rattle.laws.specs.Lists.{from, anyOf, All}
 use Rattle.laws.proofs.Lists.{All-map}
 use Rattle.definition.specs.Field.{unsettled}
 use Rattle.definition.specs.Rule as rule
-use Rattle.definition.specs.Sheet.{form1, limits1}
 use Rattle.definition.specs.Day.{Stated, simple, within, stated, flattened, lastOver, entryOf}
 use Rattle.definition.specs.Lookup.{Looked, refusal, found, stateAt}
-use Rattle.definition.proofs.Lawful.{Lawful, rule-lawful}
 use Rattle.span_number.specs.Number as number
 use Rattle.words.specs.Words.{part}
 use Rattle.paving_update.specs.Update.{listPlaces, listLimit}
@@ -70,10 +68,6 @@ module _ (states counts spans : List ℕ) where
       spans-looked m (getD states k 0) shown (part spans (k * 16) (getD counts k 0)) (λ n. overList states counts spans m n ks) (flattened (map (entryAt states counts spans) ks)) (λ n. list-looked m n ks)
 
   module _ (rs : List rule.Rule) (tables : Entries states counts spans rs) where
-    -- the rules of tables are lawful
-    pub entries-lawful : All Lawful rs
-    entries-lawful = All-map (λ r f. rule-lawful form1 limits1 r f) rs (tables .fits)
-
     entries-there : (ks : List ℕ) → All (λ k. k < length rs) ks → All (InTables states counts spans) ks
     entries-there ks h = All-map each ks h
       where

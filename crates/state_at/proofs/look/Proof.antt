@@ -3,7 +3,7 @@
 use mathlib.Core.Path.{ap, _∙_}
 use mathlib.Core.List.{[]}
 use Rattle.definition.specs.Lookup.{stateAt}
-use Rattle.state_at.proofs.Meaning.{entries-lawful}
+use Rattle.phases.proofs.Entries.{entries-lawful}
 use Rattle.state_at.proofs.Point.{point-gridded, list-there, box-list}
 use Rattle.state_at.proofs.look.Statement.{statement}
 use Rattle.state_at.proofs.look.Tie as tie
