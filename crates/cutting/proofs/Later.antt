@@ -1,5 +1,5 @@
 -- What draining and cutting leave is what the later phases ask for: boxes with a list for each, tables of the drained rules alone, and rules
--- that fit a sheet and are lawful.
+-- that fit a sheet.
 -- Assumes nothing.
 use mathlib.Core.Path.{_≡_, _∙_}
 use mathlib.Core.Bool.{true}
@@ -16,7 +16,7 @@ use Rattle.definition.specs.Sheet.{form1, limits1, rule, decode}
 use Rattle.definition.specs.Stop.{drained}
 use Rattle.definition.proofs.Bits.{Bytes}
 use Rattle.definition.proofs.SheetRead.{encode-decoded}
-use Rattle.definition.proofs.Lawful.{Lawful, rules-each, rules-lawful}
+use Rattle.definition.proofs.Lawful.{rules-each}
 use Rattle.definition.proofs.FoldBox.{drained-all}
 use Rattle.paving.specs.Grid.{sizeOf}
 use Rattle.paving_update.specs.Update.{listPlaces}
@@ -56,6 +56,3 @@ entries-tabled states counts spans replacing rs s c p fits tabled = record {
 module _ (sheet : List ℕ) (bytes : Bytes sheet) (rs : List Rule) (end : ℕ) (read : decode form1 limits1 sheet ≡ got rs end) where
   pub drained-fits : All (λ r. (rule form1 limits1) .fits r ≡ true) (drained rs)
   drained-fits = drained-all _ rs (every-all _ ((rule form1 limits1) .fits) (λ r e. e) rs (rules-each form1 limits1 rs (encode-decoded form1 limits1 sheet bytes rs end read .0)))
-
-  pub drained-lawful : All Lawful (drained rs)
-  drained-lawful = drained-all Lawful rs (rules-lawful form1 limits1 rs (encode-decoded form1 limits1 sheet bytes rs end read .0))

@@ -1,4 +1,4 @@
--- A SHEET AT THE FRONT OF A BUFFER: a buffer in whose bits rules and padding were stored from the first one on is the sheet of these rules,
+-- BITS AT THE FRONT OF A BUFFER: a buffer in which some bits and their padding were stored from the first bit on is these bits packed,
 -- then what stood there. Rests on the laws of bits and bytes.
 -- Assumes nothing.
 use mathlib.Core.Path.{_≡_, refl, sym, ap, ap₂, _∙_}
@@ -10,7 +10,7 @@ use lib.ListN.{length, take, drop, replicate, length-append, length-drop, length
 use lib.Seq.{sets-eq, take-append-le, drop-append-le, drop-append-add}
 use Rattle.definition.specs.Field.{bits, number, sheetBits, bytesFor, bytes, packed, Layout, field, tagged, several}
 use Rattle.definition.specs.Rule.{Rule}
-use Rattle.definition.specs.Sheet.{form1, limits1, rule, rules, encode}
+use Rattle.definition.specs.Sheet.{form1, limits1, rule, rules}
 use Rattle.definition.specs.Fold.{buffer}
 use Rattle.definition.proofs.Bits.{Bytes, length-bits, length-sheetBits, length-bytes, bytes-sheet}
 use Rattle.item_writer.specs.Written.{Wrote}
@@ -77,10 +77,3 @@ module _ (out new ws : List ℕ) (old-bytes : Bytes out) (new-bytes : Bytes new)
 pub rules-bits : (rs : List Rule) → rules form1 limits1 .write rs ≡ bits 16 (length rs) ++ flatMap (rule form1 limits1 .write) rs
 unfolding rules tagged several field
 rules-bits rs = refl
-
--- THE SHEET OF SOME RULES, written
-pub sheet-framed : (out new : List ℕ) (rs : List Rule) (next : ℕ) → Bytes out → Bytes new
-    → Wrote out 0 (rules form1 limits1 .write rs ++ padding (length (rules form1 limits1 .write rs))) new next → bytesFor (length (rules form1 limits1 .write rs)) ≤ length out
-    → new ≡ buffer (encode form1 limits1 rs) out
-unfolding encode
-sheet-framed out new rs next o b written room = framed out new (rules form1 limits1 .write rs) o b next written room
