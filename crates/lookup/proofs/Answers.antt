@@ -1,7 +1,6 @@
 -- THE LOOKUP'S ANSWERS for a point: 5, 6, 9 where a rule is left, and else the state by the point's list. Rests on the judgement by cases.
 -- Assumes nothing.
-use mathlib.Core.Path.{_≡_, refl, sym, ap, _∙_, subst}
-use mathlib.Core.Bool.{true, false}
+use mathlib.Core.Path.{_≡_, sym, ap, _∙_}
 use mathlib.Core.List.{List, [], _∷_}
 use mathlib.Core.Option.{some, none}
 use Prim.Native.Nat.{ℕ, _≤_, _<_}
@@ -13,7 +12,7 @@ use Rattle.definition.specs.Sheet.{form1, limits1, decode}
 use Rattle.definition.specs.Stop.{drained, left}
 use Rattle.definition.specs.Point.{dimensions, listAt, firstTooLong}
 use Rattle.definition.specs.Box.{boxCount}
-use Rattle.definition.specs.Fold.{fine, over, drain}
+use Rattle.definition.specs.Fold.{over, drain}
 use Rattle.definition.specs.Lookup.{Looked, refusal, stateAt}
 use Rattle.normalize.proofs.Cases.{drain-many, drain-long, drain-fine}
 use Rattle.normalize.proofs.Left.{left-behind}

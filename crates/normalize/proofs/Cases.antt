@@ -1,12 +1,10 @@
 -- THE FOLD BY CASES: what the definition's fold and its judgement are where the sheet is refused, the boxes are too many, a list is too
 -- long, or neither. Rests on the definition alone.
 -- Assumes nothing.
-use mathlib.Core.Path.{_≡_, refl, ap, _∙_}
-use mathlib.Core.Bool.{true, false}
+use mathlib.Core.Path.{_≡_, refl, ap}
 use mathlib.Core.List.{List, _++_}
 use mathlib.Core.Option.{some, none}
 use Prim.Native.Nat.{ℕ, _≤_, _<_}
-use lib.Dec.{ltb}
 use borrow.Author.Tests.{lt-ltb, le-ltb}
 use Rattle.definition.specs.Field.{got, refused, manyBoxes, longList}
 use Rattle.definition.specs.Rule.{Rule}

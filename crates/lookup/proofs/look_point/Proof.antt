@@ -14,8 +14,9 @@ use Rattle.lookup.proofs.look_point.Tie as tie
 
 cut-drained-requires : tie.Need-cut-drained-requires
 cut-drained-requires c κs =
-    let sheet = c .before .before .before .before .before .before .before .before .before .args .sheet .now in
-    let rules = c .before .before .before .before .before .before .before .before .before .pre .0 in
+    let entry = c .before .before .before .before .before .before .before .before .before in
+    let sheet = entry .args .sheet .now in
+    let rules = entry .pre .0 in
     let bytes = known-bytes sheet (λ j. omega (arith, c .before .before .before .before .before .before .before .before .shared-slice-known .given j)) in
     let few = rules-limited sheet bytes _ _ _ (rules .1 .1 .0) in
     let many = rules .1 .1 .1 in (
@@ -28,8 +29,9 @@ cut-drained-requires c κs =
 
 returns : tie.Need-returns
 returns c =
-    let sheet = c .before .before .before .before .before .before .before .before .before .before .before .before .before .before .before .before .before .before .before .before .args .sheet .now in
-    let rules = c .before .before .before .before .before .before .before .before .before .before .before .before .before .before .before .before .before .before .before .before .pre .0 in
+    let entry = c .before .before .before .before .before .before .before .before .before .before .before .before .before .before .before .before .before .before .before .before in
+    let sheet = entry .args .sheet .now in
+    let rules = entry .pre .0 in
     let read = rules .1 .1 .0 in
     let bytes = known-bytes sheet (λ j. omega (arith, c .before .before .before .before .before .before .before .before .before .before .before .before .before .before .before .before .before .before .before .shared-slice-known .given j)) in
     let cut = c .before .before .before .before .before .before .before .before .before .before .cut-drained in
@@ -38,8 +40,9 @@ returns c =
 
 mul-places : tie.Need-mul-places
 mul-places c =
-    let sheet = c .before .before .before .before .before .before .before .before .before .before .before .before .before .before .before .before .before .before .before .args .sheet .now in
-    let rules = c .before .before .before .before .before .before .before .before .before .before .before .before .before .before .before .before .before .before .before .pre .0 in
+    let entry = c .before .before .before .before .before .before .before .before .before .before .before .before .before .before .before .before .before .before .before in
+    let sheet = entry .args .sheet .now in
+    let rules = entry .pre .0 in
     let read = rules .1 .1 .0 in
     let bytes = known-bytes sheet (λ j. omega (arith, c .before .before .before .before .before .before .before .before .before .before .before .before .before .before .before .before .before .before .shared-slice-known .given j)) in
     let cut = c .before .before .before .before .before .before .before .before .before .cut-drained in
@@ -49,8 +52,9 @@ mul-places c =
 
 array-share-prefix-states : tie.Need-array-share-prefix-states
 array-share-prefix-states c =
-    let sheet = c .before .before .before .before .before .before .before .before .before .before .before .before .before .before .before .before .before .before .before .args .sheet .now in
-    let rules = c .before .before .before .before .before .before .before .before .before .before .before .before .before .before .before .before .before .before .before .pre .0 in
+    let entry = c .before .before .before .before .before .before .before .before .before .before .before .before .before .before .before .before .before .before .before in
+    let sheet = entry .args .sheet .now in
+    let rules = entry .pre .0 in
     let read = rules .1 .1 .0 in
     let bytes = known-bytes sheet (λ j. omega (arith, c .before .before .before .before .before .before .before .before .before .before .before .before .before .before .before .before .before .before .shared-slice-known .given j)) in
     let cut = c .before .before .before .before .before .before .before .before .before .cut-drained in
@@ -59,8 +63,9 @@ array-share-prefix-states c =
 
 slice-aggregate-look-boxes : tie.Need-slice-aggregate-look-boxes
 slice-aggregate-look-boxes c =
-    let sheet = c .before .before .before .before .before .before .before .before .before .before .before .before .before .before .before .before .before .before .before .before .args .sheet .now in
-    let rules = c .before .before .before .before .before .before .before .before .before .before .before .before .before .before .before .before .before .before .before .before .pre .0 in
+    let entry = c .before .before .before .before .before .before .before .before .before .before .before .before .before .before .before .before .before .before .before .before in
+    let sheet = entry .args .sheet .now in
+    let rules = entry .pre .0 in
     let read = rules .1 .1 .0 in
     let bytes = known-bytes sheet (λ j. omega (arith, c .before .before .before .before .before .before .before .before .before .before .before .before .before .before .before .before .before .before .before .shared-slice-known .given j)) in
     let cut = c .before .before .before .before .before .before .before .before .before .before .cut-drained in
@@ -69,8 +74,9 @@ slice-aggregate-look-boxes c =
 
 array-share-prefix-span-counts : tie.Need-array-share-prefix-span-counts
 array-share-prefix-span-counts c =
-    let sheet = c .before .before .before .before .before .before .before .before .before .before .before .before .before .before .before .before .before .before .before .before .args .sheet .now in
-    let rules = c .before .before .before .before .before .before .before .before .before .before .before .before .before .before .before .before .before .before .before .before .pre .0 in
+    let entry = c .before .before .before .before .before .before .before .before .before .before .before .before .before .before .before .before .before .before .before .before in
+    let sheet = entry .args .sheet .now in
+    let rules = entry .pre .0 in
     let read = rules .1 .1 .0 in
     let bytes = known-bytes sheet (λ j. omega (arith, c .before .before .before .before .before .before .before .before .before .before .before .before .before .before .before .before .before .before .before .shared-slice-known .given j)) in
     let cut = c .before .before .before .before .before .before .before .before .before .before .cut-drained in
@@ -79,8 +85,9 @@ array-share-prefix-span-counts c =
 
 slice-aggregate-look-boxes-2 : tie.Need-slice-aggregate-look-boxes-2
 slice-aggregate-look-boxes-2 c =
-    let sheet = c .before .before .before .before .before .before .before .before .before .before .before .before .before .before .before .before .before .before .before .before .before .args .sheet .now in
-    let rules = c .before .before .before .before .before .before .before .before .before .before .before .before .before .before .before .before .before .before .before .before .before .pre .0 in
+    let entry = c .before .before .before .before .before .before .before .before .before .before .before .before .before .before .before .before .before .before .before .before .before in
+    let sheet = entry .args .sheet .now in
+    let rules = entry .pre .0 in
     let read = rules .1 .1 .0 in
     let bytes = known-bytes sheet (λ j. omega (arith, c .before .before .before .before .before .before .before .before .before .before .before .before .before .before .before .before .before .before .before .before .shared-slice-known .given j)) in
     let cut = c .before .before .before .before .before .before .before .before .before .before .before .cut-drained in
@@ -89,8 +96,9 @@ slice-aggregate-look-boxes-2 c =
 
 array-share-prefix-spans : tie.Need-array-share-prefix-spans
 array-share-prefix-spans c =
-    let sheet = c .before .before .before .before .before .before .before .before .before .before .before .before .before .before .before .before .before .before .before .before .before .args .sheet .now in
-    let rules = c .before .before .before .before .before .before .before .before .before .before .before .before .before .before .before .before .before .before .before .before .before .pre .0 in
+    let entry = c .before .before .before .before .before .before .before .before .before .before .before .before .before .before .before .before .before .before .before .before .before in
+    let sheet = entry .args .sheet .now in
+    let rules = entry .pre .0 in
     let read = rules .1 .1 .0 in
     let bytes = known-bytes sheet (λ j. omega (arith, c .before .before .before .before .before .before .before .before .before .before .before .before .before .before .before .before .before .before .before .before .shared-slice-known .given j)) in
     let cut = c .before .before .before .before .before .before .before .before .before .before .before .cut-drained in
@@ -99,8 +107,9 @@ array-share-prefix-spans c =
 
 slice-aggregate-look-boxes-3 : tie.Need-slice-aggregate-look-boxes-3
 slice-aggregate-look-boxes-3 c =
-    let sheet = c .before .before .before .before .before .before .before .before .before .before .before .before .before .before .before .before .before .before .before .before .before .before .args .sheet .now in
-    let rules = c .before .before .before .before .before .before .before .before .before .before .before .before .before .before .before .before .before .before .before .before .before .before .pre .0 in
+    let entry = c .before .before .before .before .before .before .before .before .before .before .before .before .before .before .before .before .before .before .before .before .before .before in
+    let sheet = entry .args .sheet .now in
+    let rules = entry .pre .0 in
     let read = rules .1 .1 .0 in
     let bytes = known-bytes sheet (λ j. omega (arith, c .before .before .before .before .before .before .before .before .before .before .before .before .before .before .before .before .before .before .before .before .before .shared-slice-known .given j)) in
     let cut = c .before .before .before .before .before .before .before .before .before .before .before .before .cut-drained in
@@ -109,14 +118,15 @@ slice-aggregate-look-boxes-3 c =
 
 look-boxes-requires : tie.Need-look-boxes-requires
 look-boxes-requires c κs =
-    let sheet = c .before .before .before .before .before .before .before .before .before .before .before .before .before .before .before .before .before .before .before .before .before .before .before .before .before .before .args .sheet .now in
-    let rules = c .before .before .before .before .before .before .before .before .before .before .before .before .before .before .before .before .before .before .before .before .before .before .before .before .before .before .pre .0 in
+    let entry = c .before .before .before .before .before .before .before .before .before .before .before .before .before .before .before .before .before .before .before .before .before .before .before .before .before .before in
+    let sheet = entry .args .sheet .now in
+    let rules = entry .pre .0 in
     let read = rules .1 .1 .0 in
     let bytes = known-bytes sheet (λ j. omega (arith, c .before .before .before .before .before .before .before .before .before .before .before .before .before .before .before .before .before .before .before .before .before .before .before .before .before .shared-slice-known .given j)) in
     let cut = c .before .before .before .before .before .before .before .before .before .before .before .before .before .before .before .before .cut-drained in
     let d = cut .ensures (rules .0) (rules .1 .0) read (rules .1 .1 .1) in
     let few = drained-limited sheet bytes _ _ _ read _ _ _ _ _ _ _ _ d in
-    ((_, (_, drained-prepared sheet bytes _ _ _ _ read (rules .1 .1 .1) _ _ _ _ _ _ _ _ d (omega (arith, few, cut .kept .1 .1 .1 .0), omega (arith, few, cut .kept .1 .1 .1 .1 .0), omega (arith, few, cut .kept .1 .1 .1 .1 .1 .0), omega (arith, few, cut .kept .1 .1 .1 .1 .1 .1 .0)) (c .before .before .before .before .before .before .before .if1 .left))), c .before .before .before .before .before .before .before .before .before .before .before .before .before .before .before .before .before .before .before .before .before .before .before .before .before .before .pre .1)
+    ((_, (_, drained-prepared sheet bytes _ _ _ _ read (rules .1 .1 .1) _ _ _ _ _ _ _ _ d (omega (arith, few, cut .kept .1 .1 .1 .0), omega (arith, few, cut .kept .1 .1 .1 .1 .0), omega (arith, few, cut .kept .1 .1 .1 .1 .1 .0), omega (arith, few, cut .kept .1 .1 .1 .1 .1 .1 .0)) (c .before .before .before .before .before .before .before .if1 .left))), entry .pre .1)
 
 pub look-point-spec : {M : Type 1} → statement M
 look-point-spec =
