@@ -1,3 +1,5 @@
+-- `paving_replay::rising::row_rises` meets its contract: a row that it finds rising rises. The measure is the cuts left.
+-- Assumes nothing.
 use mathlib.Core.Path.{_≡_}
 use Prim.Native.Nat.{ℕ, _<_, suc, _-_}
 use native.Mathlib.Omega.{arith}

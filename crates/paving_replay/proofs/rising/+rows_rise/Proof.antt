@@ -1,3 +1,5 @@
+-- `paving_replay::rising::rows_rise` meets its contract: rows that it finds rising rise. The measure is the dimensions left.
+-- Assumes nothing.
 use mathlib.Core.Path.{_≡_}
 use Prim.Native.Nat.{ℕ, _<_, suc, _-_}
 use native.Mathlib.Omega.{arith}
