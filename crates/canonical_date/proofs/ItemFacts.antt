@@ -22,10 +22,10 @@ use Rattle.definition.proofs.Faithful.{Faithful, Always}
 use Rattle.definition.proofs.Reading.{Short}
 use Rattle.definition.proofs.Lengths.{years-short, monthdays-short, weeks-short, weekdays-short}
 use Rattle.definition.proofs.Items.{year-faithful, monthday-faithful, week-faithful, weekday-faithful}
+use Rattle.definition.proofs.SheetRead.{carried}
 use Rattle.definition.proofs.Lawful.{Bounded, split-inside, year-lawful, month-lawful, week-lawful, weekday-lawful}
 use Rattle.canonical_date.specs.Says.{Told, told, boundsOf, itemSays, yearSays, monthSays, weekSays, weekdaySays}
 use Rattle.canonical_date.specs.Row.{Narrow}
-use Rattle.canonical_date.proofs.Saying.{carried}
 
 pub record ItemFacts (b : Range) (p : ℕ) (R : List Range) (q : ℕ) : Type 0 where
   pub ends : q ≤ p + 52

@@ -13,9 +13,9 @@ use Rattle.definition.specs.Field.{Read, got, refused, sheetBits, Layout}
 use Rattle.definition.specs.Rule.{weekdayBounds, weekBounds, monthBounds, yearBounds, YearRange, months, WeekRange, fixedDays}
 use Rattle.definition.specs.Sheet.{yearRange, monthdayRange, weekRange, weekDayRange}
 use Rattle.definition.specs.Range.{Ends, split}
-use Rattle.definition.proofs.Bits.{Bytes, sheet-bits}
-use Rattle.definition.proofs.Faithful.{Faithful, Always}
+use Rattle.definition.proofs.Bits.{Bytes}
 use Rattle.definition.proofs.Items.{year-faithful, monthday-faithful, week-faithful, weekday-faithful}
+use Rattle.definition.proofs.SheetRead.{carried}
 use Rattle.definition.proofs.Lawful.{Bounded, year-lawful, month-lawful, week-lawful, weekday-lawful}
 use Rattle.canonical_date.specs.Says.{told, boundsOf, itemSays, yearSays, monthSays, weekSays, weekdaySays}
 
@@ -76,10 +76,6 @@ module _ (sort : ℕ) where
   in-weekdays a b c = rw (a, b, c)
 
 -- ## Ends that were read
--- a value that was read is one that the layout can carry
-pub carried : {A : Type 0} {L : Layout A} → Faithful Always L → (sheet : List ℕ) → Bytes sheet → (p : ℕ) (x : A) (q : ℕ) → L .read (sheetBits sheet) p ≡ got x q → L .fits x ≡ true
-carried a sheet b p x q e = a .written (sheetBits sheet) (sheet-bits sheet b) p x q e .1
-
 below : (b : Range) (e : Ends) → Bounded b e → (e .0 < b .1) × (e .1 < b .1)
 below b e h = (holds-in (e .0) b (h .0) .1, holds-in (e .1) b (h .1) .1)
 

@@ -9,12 +9,9 @@ use item::day::Monthday;
 use item::day::Stepped;
 use item::day::WeekDay;
 ghost use mathlib.Core.Path.{_≡_};
-ghost use mathlib.Core.Bool.{_&&_};
 ghost use Prim.Native.Nat.{_<_, _^_};
-ghost use lib.Dec.{eqb};
 ghost use Rattle.definition.specs.Field.{Layout, sheetBits};
 ghost use Rattle.definition.specs.Sheet.{yearRange, monthdayRange, weekRange, weekDayRange};
-ghost use Rattle.definition.specs.Stop.{everyNth};
 ghost use Rattle.bounded.specs.Strict.{pairOf};
 ghost use Rattle.canonical_date.specs.Says.{boundsOf, yearSays, monthSays, weekSays, weekdaySays, told, itemSays, itemOf};
 
@@ -87,21 +84,6 @@ fn weeks_at(sheet: &[u8], at: usize) -> Canonical
     Canonical::Stops
 }
 
-// Weekdays as they stand: not moved, and every one of a month.
-fn every_week(offset: u64, from_start: u64, from_end: u64) -> bool
-    ensures { λ r. ⌜ r ≡ eqb offset 0 && (eqb «from_start» everyNth && eqb «from_end» everyNth) ⌝ }
-{
-    if offset == 0 {
-        if from_start == 31 {
-            from_end == 31
-        } else {
-            false
-        }
-    } else {
-        false
-    }
-}
-
 // "a holiday; a weekday offset other than 0 or any nth bit 0" stops.
 fn weekdays_at(sheet: &[u8], at: usize) -> Canonical
     requires { ⌜ at < 2 ^ 29 ⌝ }
@@ -110,7 +92,7 @@ fn weekdays_at(sheet: &[u8], at: usize) -> Canonical
     let read = item::day::week_day_range_at(sheet, at);
     match read {
         WeekDay::Fixed(start, end, offset, from_start, from_end, next) => {
-            if every_week(offset, from_start, from_end) {
+            if item::day::every_week(offset, from_start, from_end) {
                 let first = OrderedWeekday(number8(start));
                 let last = OrderedWeekday(number8(end));
                 Canonical::Ranges(OrderedWeekday::split_inverted_range(first, last), next)

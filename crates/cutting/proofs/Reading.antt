@@ -12,10 +12,10 @@ use Rattle.definition.specs.Stop.{drained}
 use Rattle.definition.specs.Point.{dimensions}
 use Rattle.definition.specs.Box.{boxCount}
 use Rattle.definition.proofs.Bits.{Bytes}
-use Rattle.sheet.specs.Rules.{begun, rulesAt}
-use Rattle.sheet.proofs.Begins.{begun-length, rules-few}
-use Rattle.draining.specs.Table.{Tabled, rulesFrom, AllBegin}
-use Rattle.draining.proofs.Begun.{all-begin, rules-noted}
+use Rattle.sheet.specs.Rules.{begun, rulesAt, AllBegin}
+use Rattle.sheet.proofs.Begins.{begun-length, rules-few, all-begin}
+use Rattle.draining.specs.Table.{Tabled, rulesFrom}
+use Rattle.draining.proofs.Begun.{rules-noted}
 use Rattle.drawing.proofs.Drained.{drained-fewer, drained-at, drained-drawable}
 use Rattle.phases.specs.Phases.{SheetRead, Cut}
 use Rattle.cutting.specs.Cutting.{AllPass, EachReading, DrainedCut}

@@ -20,4 +20,6 @@ pub mod DayShows
 pub mod DaySize
 pub mod SpanOrder
 pub mod DayAgain
+pub mod Writing
 pub mod Worked
+pub mod WorkedLines

@@ -49,6 +49,7 @@ pub record RuleParts (s : List ℕ) (p : ℕ) (r : Rule) (q : ℕ) : Type 0 wher
   pub weekdays-at : ℕ
   pub spans-at : ℕ
   pub titled : (title form1 limits1) .read s p ≡ got (headOf r .0) (p + 20)
+  pub counted : (counts form1 limits1) .read s (p + 20) ≡ got many (p + 70)
   pub count-years : Counted s (p + 20) 0 (many .0)
   pub count-monthdays : Counted s (p + 20) 1 (many .1 .0)
   pub count-weeks : Counted s (p + 20) 2 (many .1 .1 .0)
@@ -86,6 +87,7 @@ rule-parts s p r q e =
       weekdays-at = n .0;
       spans-at = d .0;
       titled = k .1 ∙ ap (λ j. got (h .0) j) t ∙ ap (λ x. got (headOf x .0) (p + 20)) same;
+      counted = ap (λ j. (counts form1 limits1) .read s j) (sym t) ∙ k .2 ∙ ap (got (h .1)) z;
       count-years = from t 0 (h .1 .0) (c .0);
       count-monthdays = from t 1 (h .1 .1 .0) (c .1);
       count-weeks = from t 2 (h .1 .1 .1 .0) (c .2);

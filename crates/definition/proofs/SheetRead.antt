@@ -12,12 +12,16 @@ use lib.ListN.{length, take, drop, replicate, length-append, length-drop, length
 use lib.Seq.{drop-at, take-all}
 use borrow.Author.Tests.{eqb-true, ltb-false, le-ltb}
 use Rattle.laws.proofs.Lists.{All-append}
-use Rattle.definition.specs.Field.{Read, got, refused, andThen, bytesFor, bytes, packed, sheetBits, badEnd, counted, via}
+use Rattle.definition.specs.Field.{Read, got, refused, andThen, bytesFor, bytes, packed, sheetBits, badEnd, Layout, counted, via}
 use Rattle.definition.specs.Rule.{Rule}
 use Rattle.definition.specs.Sheet.{Form, Limits, Counts, title, counts, Head, headOf, head, Body, bodyOf, body, ruleWith, rule, rules, firstSet, ended, decode, encode}
 use Rattle.definition.proofs.Bits.{Bits, Bytes, sheet-bits, length-sheetBits, bytes-sheet, sheet-bytes}
 use Rattle.definition.proofs.Faithful.{Faithful, Always, field-faithful, then-faithful, via-faithful, tagged-faithful, several-faithful}
 use Rattle.definition.proofs.Items.{year-faithful, monthday-faithful, week-faithful, weekday-faithful, span-faithful, operator-faithful, kind-faithful}
+
+-- a value that was read is one that the layout can carry
+pub carried : {A : Type 0} {L : Layout A} → Faithful Always L → (sheet : List ℕ) → Bytes sheet → (p : ℕ) (x : A) (q : ℕ) → L .read (sheetBits sheet) p ≡ got x q → L .fits x ≡ true
+carried a sheet b p x q e = a .written (sheetBits sheet) (sheet-bits sheet b) p x q e .1
 
 module _ (form : Form) (limits : Limits) where
   -- ## Rules

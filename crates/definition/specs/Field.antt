@@ -36,7 +36,7 @@ bytes (suc n) bs = number (take 8 bs) ∷ bytes n (drop 8 bs)
 unfoldable pub packed : List ℕ → List ℕ
 packed bs = let n = bytesFor (length bs) in bytes n (bs ++ replicate (8 * n - length bs) 0)
 
--- ## Refusals: the codes of 01's table
+-- ## Refusals: the codes of 01's table, and of 02
 -- a field runs past the end
 abbrev pub pastEnd : ℕ
 pastEnd = 1
@@ -72,6 +72,10 @@ noDate = 8
 -- lookup only: a rule is left, or the point's list holds a non-simple span
 abbrev pub unsettled : ℕ
 unsettled = 9
+
+-- line only (02, M-100): a rule has no words, or the first isn't Normal
+abbrev pub noWords : ℕ
+noWords = 10
 
 -- ## Readings
 -- a value and the bit after it, or a refusal: its code and its place

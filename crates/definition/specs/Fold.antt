@@ -38,12 +38,25 @@ refusal c p = record { code = c; drained = 0; emitted = 0; left = 0; bytes = 0; 
 abbrev pub buffer : List ℕ → List ℕ → List ℕ
 buffer result out = result ++ drop (length result) out
 
--- "Every other entry that writes a sheet or text answers code, bytes written and place"
-pub record WrittenBack : Type 0 where
+-- "Every other entry that writes a sheet or text answers code, bytes written and place; refused, bytes written is 0 and the buffer is untouched."
+pub record Written : Type 0 where
   pub code : ℕ
   pub bytes : ℕ
   pub place : ℕ
   pub result : List ℕ
+
+abbrev pub writtenNumbers : Written → List ℕ
+writtenNumbers w = w .code ∷ w .bytes ∷ w .place ∷ []
+
+abbrev pub unwritten : ℕ → ℕ → Written
+unwritten c p = record { code = c; bytes = 0; place = p; result = [] }
+
+-- a result into a buffer of `room` bytes; 7 where it has less room
+unfoldable pub writtenInto : ℕ → List ℕ → Written
+writtenInto room result = elim (ltb room (length result)) [
+  | true ↦ unwritten noRoom (length result)
+  | false ↦ record { code = 0; bytes = length result; place = 0; result = result }
+]
 
 -- ## Draining, with 5 and 6
 pub data Drained : Type 0 where
@@ -89,11 +102,5 @@ module _ (form : Form) (limits : Limits) where
   ]
 
   -- "Writing back refuses by 1 to 4 and 7 only, in the order below."
-  unfoldable pub writeBack : ℕ → List ℕ → WrittenBack
-  writeBack room sheet = elim (decode form limits sheet) [
-    | refused c p ↦ record { code = c; bytes = 0; place = p; result = [] }
-    | got rs q ↦ let result = encode form limits rs in elim (ltb room (length result)) [
-      | true ↦ record { code = noRoom; bytes = 0; place = length result; result = [] }
-      | false ↦ record { code = 0; bytes = length result; place = 0; result = result }
-    ]
-  ]
+  unfoldable pub writeBack : ℕ → List ℕ → Written
+  writeBack room sheet = elim (decode form limits sheet) [ refused c p ↦ unwritten c p | got rs q ↦ writtenInto room (encode form limits rs) ]

@@ -12,4 +12,8 @@ pub mod Date
 pub mod Lookup
 pub mod Saying
 pub mod OverBoxes
+pub mod Text
+pub mod Line
+pub mod Show
 pub mod Worked
+pub mod WorkedLines

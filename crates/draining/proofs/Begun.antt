@@ -13,7 +13,7 @@ use Rattle.definition.proofs.Bits.{Bytes}
 use Rattle.sheet.specs.Rules.{begun}
 use Rattle.sheet.specs.Begin.{noRule, ruleAt}
 use Rattle.sheet.proofs.Begins.{Begins, rules-begin}
-use Rattle.draining.specs.Table.{rulesFrom, AllBegin}
+use Rattle.draining.specs.Table.{rulesFrom}
 use Rattle.draining.proofs.Tabling.{rules-at}
 
 rules-length : (s begins : List ℕ) (n i : ℕ) → length (rulesFrom s begins i n) ≡ n
@@ -22,9 +22,6 @@ rules-length s begins zero i = refl
 rules-length s begins (suc n) i = ap suc (rules-length s begins n (i + 1))
 
 module _ (sheet : List ℕ) (b : Bytes sheet) (rs : List Rule) (q : ℕ) (e : decode form1 limits1 sheet ≡ got rs q) (begins : List ℕ) (room : 64 ≤ length begins) where
-  pub all-begin : AllBegin (sheetBits sheet) (begun sheet begins) (length rs)
-  all-begin i l = let w = rules-begin sheet rs q b e begins room i l in (w .readable, w .low)
-
   -- THE RULES OF THE SHEET
   pub rules-noted : rulesFrom (sheetBits sheet) (begun sheet begins) 0 (length rs) ≡ rs
   rules-noted = ext-getD noRule _ rs long (λ k l.

@@ -12,25 +12,24 @@ use lib.Seq.{sets}
 use borrow.Author.Tests.{eq-eqb, ne-eqb}
 use Rattle.laws.specs.Lists.{anyOf}
 use Rattle.laws.proofs.Flags.{or-assoc}
-use Rattle.definition.specs.Field.{Read, got, refused, sheetBits, Layout, several}
+use Rattle.definition.specs.Field.{got, sheetBits, Layout, several}
 use Rattle.definition.specs.Rule.{Operator, Additional, Fallback, operatorOf, Kind, Open, Unknown, kindOf, Rule}
-use Rattle.definition.specs.Sheet.{form1, limits1, span, Title, headOf, title}
+use Rattle.definition.specs.Sheet.{form1, limits1, span, title}
 use Rattle.definition.specs.Stop.{isFallback, monthdayStops, weekdayStops, spanStops, stops}
 use Rattle.definition.specs.Point.{isNormal, isClosed}
 use Rattle.definition.proofs.Bits.{Bytes}
-use Rattle.definition.proofs.Faithful.{clash}
 use Rattle.definition.proofs.Reading.{several-short}
 use Rattle.definition.proofs.Lengths.{span-short}
 use Rattle.definition.proofs.RuleParts.{rule-parts}
-use Rattle.definition.proofs.SheetRead.{rule-faithful}
+use Rattle.definition.proofs.SheetRead.{carried, rule-faithful}
 use Rattle.sheet.specs.Begin.{ruleAt, Readable}
+use Rattle.sheet.proofs.Titles.{title-same}
 use Rattle.span_number.specs.Number.{stateNumber, stateOf, spanNumber}
 use Rattle.span_number.proofs.Carried.{state-numbered}
 use Rattle.canonical_date.specs.declared.days.Days.{Days}
 use Rattle.canonical_date.specs.declared.days.Days.the-variants.{Spans, Stops}
 use Rattle.canonical_date.specs.Rule.{daysStop}
 use Rattle.canonical_date.specs.Found.{SpansRead, Loads, Found}
-use Rattle.canonical_date.proofs.Saying.{carried}
 use Rattle.canonical_date.proofs.ItemFacts.{some-other}
 use Rattle.canonical_date.proofs.DayRows.{count-few}
 use Rattle.draining.specs.Span.{spanNumbers, spansStop}
@@ -117,20 +116,6 @@ module _ (k c : ℕ) where
   state-unknown e f = rw (ne-eqb k 0 e, ne-eqb k 1 f) (omega arith)
 
 module _ (s : List ℕ) (p : ℕ) (readable : Readable s p) where
-  -- a title that is read is the rule's
-  title-same : (a : Operator) (b : Kind) (c q : ℕ) → (title form1 limits1) .read s p ≡ got (a, (b, c)) q
-      → (a ≡ (ruleAt s p) .operator) × (b ≡ (ruleAt s p) .state .kind) × (c ≡ (ruleAt s p) .state .comment)
-  title-same a b c q e =
-      let w = rule-parts s p (ruleAt s p) (readable .end) (readable .read) in
-      let g : _≡_ {A = Read Title} (got (a, (b, c)) q) (got (headOf (ruleAt s p) .0) (p + 20)) = sym e ∙ w .titled in
-      let t : _≡_ {A = Title} (a, (b, c)) (headOf (ruleAt s p) .0) = cc in
-      (ap (λ x. x .0) t, ap (λ x. x .1 .0) t, ap (λ x. x .1 .1) t)
-
-  pub title-refused : {G : Type 0} (c q : ℕ) → (title form1 limits1) .read s p ≡ refused c q → G
-  title-refused c q e =
-      let w = rule-parts s p (ruleAt s p) (readable .end) (readable .read) in
-      clash c q (headOf (ruleAt s p) .0) (p + 20) (sym e ∙ w .titled)
-
   pub spans-few : length ((ruleAt s p) .spans) ≤ 16
   spans-few =
       let w = rule-parts s p (ruleAt s p) (readable .end) (readable .read) in
@@ -138,7 +123,7 @@ module _ (s : List ℕ) (p : ℕ) (readable : Readable s p) where
 
   module _ (o k c q i n : ℕ) (e : (title form1 limits1) .read s p ≡ got (operatorOf o, (kindOf k, c)) q) (states counts replacing : List ℕ) (t : Bool) (h : t ≡ isFallback (operatorOf o)) where
     stopped-same : t ≡ isFallback ((ruleAt s p) .operator)
-    stopped-same = h ∙ ap isFallback (title-same (operatorOf o) (kindOf k) c q e .0)
+    stopped-same = h ∙ ap isFallback (title-same s p readable (operatorOf o) (kindOf k) c q e .0)
 
     pub set-fallback : t ≡ true → SetRule (ruleAt s p) i n states counts replacing states counts replacing true
     set-fallback f =
@@ -150,7 +135,7 @@ module _ (s : List ℕ) (p : ℕ) (readable : Readable s p) where
     unfolding stateNumber
     set-rule u v w f hu hv hw =
         let g : isFallback ((ruleAt s p) .operator) ≡ false = sym stopped-same ∙ f in
-        let same = title-same (operatorOf o) (kindOf k) c q e in
+        let same = title-same s p readable (operatorOf o) (kindOf k) c q e in
         let state : u ≡ stateNumber ((ruleAt s p) .state) = hu ∙ ap₂ (λ x y. stateNumber (stateOf x y)) (same .1) (same .2) in
         let replace : w ≡ replaceNumber (ruleAt s p) = hw ∙ ap₂ (λ x y. cond (isNormal x && not (isClosed y)) 1 0) (same .0) (same .1) in
         record {

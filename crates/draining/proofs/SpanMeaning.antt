@@ -12,11 +12,11 @@ use Rattle.definition.specs.Sheet.{span}
 use Rattle.definition.specs.Stop.{spanStops}
 use Rattle.definition.proofs.Bits.{Bytes}
 use Rattle.definition.proofs.Items.{span-faithful}
+use Rattle.definition.proofs.SheetRead.{carried}
 use Rattle.definition.proofs.Reading.{all-parts}
 use Rattle.span_number.specs.Number.{spanNumber, spanAt}
 use Rattle.span_number.proofs.Numbers.{number-span}
 use Rattle.span_number.proofs.Carried.{span-carried, span-numbered}
-use Rattle.canonical_date.proofs.Saying.{carried}
 use Rattle.draining.specs.Span.{numberAt, spanNumbers, spansStop}
 use Rattle.draining.specs.Rule.{today}
 

@@ -2,10 +2,10 @@
 -- Assumes nothing.
 use mathlib.Core.Path.{_≡_}
 use mathlib.Core.List.{List, [], _∷_, map}
-use Prim.Native.Nat.{ℕ, zero, suc, _+_, _*_, _≤_, _<_, _^_}
+use Prim.Native.Nat.{ℕ, zero, suc, _+_, _*_, _≤_, _<_}
 use lib.ListN.{length, getD}
 use Rattle.definition.specs.Rule.{Rule}
-use Rattle.sheet.specs.Begin.{noRule, ruleAt, Readable}
+use Rattle.sheet.specs.Begin.{noRule, ruleAt}
 use Rattle.span_number.specs.Number.{stateNumber, spanNumber}
 use Rattle.draining.specs.Rule.{replaceNumber}
 
@@ -25,7 +25,3 @@ Tabled states counts spans replacing rs = (k : ℕ) → k < length rs → Tabled
 unfoldable pub rulesFrom : List ℕ → List ℕ → ℕ → ℕ → List Rule
 rulesFrom s begins i zero = []
 rulesFrom s begins i (suc n) = ruleAt s (getD begins i 0) ∷ rulesFrom s begins (i + 1) n
-
--- a rule is read at each of the first n
-abbrev pub AllBegin : List ℕ → List ℕ → ℕ → Type 0
-AllBegin s begins n = (i : ℕ) → i < n → Readable s (getD begins i 0) × (getD begins i 0 < 2 ^ 25)

@@ -7,7 +7,8 @@ ghost use Prim.Native.Nat.{_*_, _≤_};
 ghost use lib.ListN.{length};
 ghost use Rattle.definition.specs.Field.{sheetBits};
 ghost use Rattle.definition.specs.Stop.{drained};
-ghost use Rattle.draining.specs.Table.{Tabled, rulesFrom, AllBegin};
+ghost use Rattle.sheet.specs.Rules.{AllBegin};
+ghost use Rattle.draining.specs.Table.{Tabled, rulesFrom};
 
 // How many rules are drained, of those that begin at the noted bits; the tables then hold them.
 pub fn drain(

@@ -1,13 +1,15 @@
 // The entries for C and Rust: an answer's numbers go, in document 01's order, into a lent slice of 64-bit numbers. A slice too short for
 // them is answered no, and nothing is written anywhere; a longer one keeps its later numbers.
+use sheet::back::Written;
 ghost use mathlib.Core.Path.{_≡_};
 ghost use Prim.Native.Nat.{_≤_};
 ghost use lib.Dec.{leb};
 ghost use lib.ListN.{length};
 ghost use Rattle.definition.specs.Sheet.{form1, limits1};
-ghost use Rattle.definition.specs.Fold.{buffer, numbers, fold, writeBack};
+ghost use Rattle.definition.specs.Fold.{buffer, numbers, writtenNumbers, fold, writeBack};
+ghost use Rattle.definition.specs.Show.{showLine};
 ghost use Rattle.definition.specs.Lookup as state;
-ghost use Rattle.sheet.specs.Back.{backNumbers};
+ghost use Rattle.sheet.specs.Back.{answered};
 ghost use Rattle.hours.specs.Export.{put};
 
 // An answer at the front of the lent numbers.
@@ -20,6 +22,19 @@ fn put_answer(answer: &[u64], lent: &mut [u64])
         lent[i] = answer[i];
         i += 1;
     }
+}
+
+// What an entry that writes a sheet or a line answers.
+fn put_written(written: Written, lent: &mut [u64])
+    requires { ⌜ 3 ≤ length (now lent) ⌝ }
+    ensures { λ _. ⌜ now (lent .exit) ≡ buffer (answered written) (now (lent .entry)) ⌝ }
+{
+    let answer = [
+        written.code as u64,
+        written.bytes as u64,
+        written.place as u64,
+    ];
+    put_answer(&answer, lent);
 }
 
 // Code, drained, emitted, left, bytes, place.
@@ -71,18 +86,26 @@ pub extern "C" fn hours_lookup(
 #[no_mangle]
 pub extern "C" fn hours_write_back(sheet: &[u8], out: &mut [u8], lent: &mut [u64]) -> bool
     ensures { λ r. ⌜ (r ≡ leb 3 (length (now (lent .entry))))
-        × (now (lent .exit) ≡ put r (backNumbers (writeBack form1 limits1 (length (now (out .entry))) (now (sheet .entry)))) (now (lent .entry)))
+        × (now (lent .exit) ≡ put r (writtenNumbers (writeBack form1 limits1 (length (now (out .entry))) (now (sheet .entry)))) (now (lent .entry)))
         × (now (out .exit) ≡ put r ((writeBack form1 limits1 (length (now (out .entry))) (now (sheet .entry))) .result) (now (out .entry))) ⌝ }
 {
     if lent.len() < 3 {
         return false;
     }
-    let written = crate::write_back(sheet, out);
-    let answer = [
-        written.code as u64,
-        written.bytes as u64,
-        written.place as u64,
-    ];
-    put_answer(&answer, lent);
+    put_written(crate::write_back(sheet, out), lent);
+    true
+}
+
+// Code, bytes, place.
+#[no_mangle]
+pub extern "C" fn hours_line(sheet: &[u8], out: &mut [u8], lent: &mut [u64]) -> bool
+    ensures { λ r. ⌜ (r ≡ leb 3 (length (now (lent .entry))))
+        × (now (lent .exit) ≡ put r (writtenNumbers (showLine form1 limits1 (length (now (out .entry))) (now (sheet .entry)))) (now (lent .entry)))
+        × (now (out .exit) ≡ put r ((showLine form1 limits1 (length (now (out .entry))) (now (sheet .entry))) .result) (now (out .entry))) ⌝ }
+{
+    if lent.len() < 3 {
+        return false;
+    }
+    put_written(crate::line(sheet, out), lent);
     true
 }

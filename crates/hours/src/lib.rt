@@ -1,17 +1,18 @@
-// What users touch: the fold of a sheet, the state at a date and minute, and writing back. None asks for anything: every byte string,
-// date and buffer gets an answer. Rests on the check of sheets and on the phases of the fold.
+// What users touch: the fold of a sheet, the state at a date and minute, writing back, and the line of a sheet. None has a `requires`: every
+// byte string, date and buffer gets an answer. Rests on the check of sheets, on the phases of the fold and on the line of rules.
 pub mod export;
 
 use emission::Folded;
-use sheet::back::WrittenBack;
+use sheet::back::Written;
 use sheet::check::Checked;
 use state_at::answer::Answer;
 ghost use mathlib.Core.Path.{_≡_};
 ghost use lib.ListN.{length};
 ghost use Rattle.definition.specs.Sheet.{form1, limits1};
-ghost use Rattle.definition.specs.Fold.{buffer, numbers, fold, writeBack};
+ghost use Rattle.definition.specs.Fold.{buffer, numbers, writtenNumbers, fold, writeBack};
+ghost use Rattle.definition.specs.Show.{showLine};
 ghost use Rattle.definition.specs.Lookup.{lookup};
-ghost use Rattle.sheet.specs.Back.{answered, backNumbers};
+ghost use Rattle.sheet.specs.Back.{answered};
 ghost use Rattle.emission.specs.Emission.{numbersOf};
 ghost use Rattle.state_at.specs.Found as found;
 
@@ -50,9 +51,27 @@ pub fn lookup(sheet: &[u8], year: u64, month: u64, day: u64, minute: u64) -> Ans
 }
 
 // "Writing back refuses by 1 to 4 and 7 only": code, bytes written and place.
-pub fn write_back(sheet: &[u8], out: &mut [u8]) -> WrittenBack
-    ensures { λ r. ⌜ (answered r ≡ backNumbers (writeBack form1 limits1 (length (now (out .entry))) (now (sheet .entry))))
+pub fn write_back(sheet: &[u8], out: &mut [u8]) -> Written
+    ensures { λ r. ⌜ (answered r ≡ writtenNumbers (writeBack form1 limits1 (length (now (out .entry))) (now (sheet .entry))))
         × (now (out .exit) ≡ buffer ((writeBack form1 limits1 (length (now (out .entry))) (now (sheet .entry))) .result) (now (out .entry))) ⌝ }
 {
     sheet::back::write_back(sheet, out)
+}
+
+// 02, M-100: "a writer from an accepted sheet to text": code, bytes written and place. The line stands at the front of `out`; a refused one
+// changes no byte.
+pub fn line(sheet: &[u8], out: &mut [u8]) -> Written
+    ensures { λ r. ⌜ (answered r ≡ writtenNumbers (showLine form1 limits1 (length (now (out .entry))) (now (sheet .entry))))
+        × (now (out .exit) ≡ buffer ((showLine form1 limits1 (length (now (out .entry))) (now (sheet .entry))) .result) (now (out .entry))) ⌝ }
+{
+    let mut begins = [0usize; 64];
+    let checked = sheet::check::check(sheet, &mut begins);
+    match checked {
+        Checked::Rules(count, end) => line::line_of(sheet, &begins, count, out),
+        Checked::Refused(code, place) => Written {
+            code,
+            bytes: 0,
+            place,
+        },
+    }
 }

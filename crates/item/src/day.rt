@@ -3,9 +3,12 @@
 use field::Taken;
 use field::width;
 ghost use mathlib.Core.Path.{_≡_};
+ghost use mathlib.Core.Bool.{_&&_};
 ghost use Prim.Native.Nat.{_<_, _^_};
+ghost use lib.Dec.{eqb};
 ghost use Rattle.definition.specs.Field.{Layout, sheetBits};
 ghost use Rattle.definition.specs.Sheet.{yearsOf, weeksOf, yearRange, weekRange, monthsLayout, monthsOfLayout, datedLayout, monthdayRange, fixedDaysLayout, holidayLayout, weekDayRange};
+ghost use Rattle.definition.specs.Stop.{everyNth};
 ghost use Rattle.item.specs.Answer.{asStepped, steppedRefused, asMonthday, monthdayRefused, asWeekDay, weekDayRefused};
 
 // Years or weeks: start, end and step.
@@ -225,5 +228,20 @@ pub fn week_day_range_at(sheet: &[u8], at: usize) -> WeekDay
     match which {
         0 => fixed_days_at(sheet, body),
         _ => holiday_at(sheet, body),
+    }
+}
+
+// Weekdays as they stand: not moved, and every one of a month.
+pub fn every_week(offset: u64, from_start: u64, from_end: u64) -> bool
+    ensures { λ r. ⌜ r ≡ eqb offset 0 && (eqb «from_start» everyNth && eqb «from_end» everyNth) ⌝ }
+{
+    if offset == 0 {
+        if from_start == 31 {
+            from_end == 31
+        } else {
+            false
+        }
+    } else {
+        false
     }
 }

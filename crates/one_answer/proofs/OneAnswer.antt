@@ -9,17 +9,18 @@ use lib.Dec.{leb}
 use lib.ListN.{length, getD}
 use Rattle.definition.specs.Field.{sheetBits, bytes}
 use Rattle.definition.specs.Sheet.{form1, limits1}
-use Rattle.definition.specs.Fold.{numbers, fold, writeBack}
+use Rattle.definition.specs.Fold.{Written, numbers, writtenNumbers, fold, writeBack}
+use Rattle.definition.specs.Show.{showLine}
 use Rattle.definition.specs.Lookup as state
 use Rattle.definition.proofs.Bits.{Bytes, length-sheetBits, bytes-sheet}
-use Rattle.sheet.specs.Back.{answered, backNumbers}
-use Rattle.sheet.specs.declared.back.WrittenBack.{WrittenBack}
+use Rattle.sheet.specs.Back.{answered}
+use Rattle.sheet.specs.declared.back.Written as answer
 use Rattle.emission.specs.Emission.{numbersOf}
 use Rattle.emission.specs.declared.Folded.{Folded}
 use Rattle.state_at.specs.Found as found
 use Rattle.state_at.specs.declared.answer.Answer.{Answer}
 use Rattle.hours.specs.Export.{put}
-use Rattle.one_answer.specs.Promise.{OneAnswer, FoldPromise, WriteBackPromise, ExportedFoldPromise, ExportedWriteBackPromise, LookupPromise, ExportedLookupPromise}
+use Rattle.one_answer.specs.Promise.{OneAnswer, FoldPromise, WriteBackPromise, LinePromise, ExportedFoldPromise, ExportedWriteBackPromise, ExportedLinePromise, LookupPromise, ExportedLookupPromise}
 
 -- AN EQUATION HAS ONE SOLUTION where its left side can be undone
 one-solution : {A B : Type 0} (f : A → B) (undo : B → A) → ((x : A) → undo (f x) ≡ x) → (v : B) → OneAnswer (λ x. f x ≡ v)
@@ -36,7 +37,7 @@ one-folded : (n : List ℕ) → OneAnswer (λ r. numbersOf r ≡ n)
 unfolding foldedFrom
 one-folded = one-solution numbersOf foldedFrom (λ r. refl)
 
-writtenFrom : List ℕ → WrittenBack
+writtenFrom : List ℕ → answer.Written
 writtenFrom n = record { code = getD n 0 0; bytes = getD n 1 0; place = getD n 2 0 }
 
 one-written : (n : List ℕ) → OneAnswer (λ r. answered r ≡ n)
@@ -52,6 +53,9 @@ one-fold sheet out x y p q = pair (one-folded _ (x .0) (y .0) (p .0) (q .0)) (p 
 
 pub one-write-back : (sheet out : List ℕ) → OneAnswer (WriteBackPromise sheet out)
 one-write-back sheet out x y p q = pair (one-written _ (x .0) (y .0) (p .0) (q .0)) (p .1 ∙ sym (q .1))
+
+pub one-line : (sheet out : List ℕ) → OneAnswer (LinePromise sheet out)
+one-line sheet out x y p q = pair (one-written _ (x .0) (y .0) (p .0) (q .0)) (p .1 ∙ sym (q .1))
 
 pub one-lookup : (sheet : List ℕ) (year month day minute : ℕ) → OneAnswer (LookupPromise sheet year month day minute)
 unfolding answerFrom
@@ -69,10 +73,17 @@ one-exported-fold sheet out lent x y p q =
     let f = fold form1 limits1 (length out) sheet in
     one-told (leb 6 (length lent)) (λ b. (put b (numbers f) lent, put b (f .result) out)) x y (p .0, pair (p .1) (p .2)) (q .0, pair (q .1) (q .2))
 
+-- an entry that writes and answers w
+one-exported : (w : Written) (out lent : List ℕ)
+    → OneAnswer {A = Bool × (List ℕ × List ℕ)} (λ x. (x .0 ≡ leb 3 (length lent)) × (x .1 .0 ≡ put (x .0) (writtenNumbers w) lent) × (x .1 .1 ≡ put (x .0) (w .result) out))
+one-exported w out lent x y p q =
+    one-told (leb 3 (length lent)) (λ b. (put b (writtenNumbers w) lent, put b (w .result) out)) x y (p .0, pair (p .1) (p .2)) (q .0, pair (q .1) (q .2))
+
 pub one-exported-write-back : (sheet out lent : List ℕ) → OneAnswer (ExportedWriteBackPromise sheet out lent)
-one-exported-write-back sheet out lent x y p q =
-    let w = writeBack form1 limits1 (length out) sheet in
-    one-told (leb 3 (length lent)) (λ b. (put b (backNumbers w) lent, put b (w .result) out)) x y (p .0, pair (p .1) (p .2)) (q .0, pair (q .1) (q .2))
+one-exported-write-back sheet out lent = one-exported (writeBack form1 limits1 (length out) sheet) out lent
+
+pub one-exported-line : (sheet out lent : List ℕ) → OneAnswer (ExportedLinePromise sheet out lent)
+one-exported-line sheet out lent = one-exported (showLine form1 limits1 (length out) sheet) out lent
 
 pub one-exported-lookup : (sheet : List ℕ) (year month day minute : ℕ) (lent : List ℕ) → OneAnswer (ExportedLookupPromise sheet year month day minute lent)
 one-exported-lookup sheet year month day minute lent =

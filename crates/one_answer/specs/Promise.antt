@@ -8,10 +8,11 @@ use Prim.Native.Nat.{ℕ}
 use lib.Dec.{leb}
 use lib.ListN.{length}
 use Rattle.definition.specs.Sheet.{form1, limits1}
-use Rattle.definition.specs.Fold.{buffer, numbers, fold, writeBack}
+use Rattle.definition.specs.Fold.{buffer, numbers, writtenNumbers, fold, writeBack}
+use Rattle.definition.specs.Show.{showLine}
 use Rattle.definition.specs.Lookup as state
-use Rattle.sheet.specs.Back.{answered, backNumbers}
-use Rattle.sheet.specs.declared.back.WrittenBack.{WrittenBack}
+use Rattle.sheet.specs.Back.{answered}
+use Rattle.sheet.specs.declared.back.Written.{Written}
 use Rattle.emission.specs.Emission.{numbersOf}
 use Rattle.emission.specs.declared.Folded.{Folded}
 use Rattle.state_at.specs.Found as found
@@ -28,9 +29,13 @@ module _ (sheet out : List ℕ) where
   FoldPromise x = (numbersOf (x .0) ≡ numbers (fold form1 limits1 (length out) sheet))
       × (x .1 ≡ buffer ((fold form1 limits1 (length out) sheet) .result) out)
 
-  abbrev pub WriteBackPromise : WrittenBack × List ℕ → Type 0
-  WriteBackPromise x = (answered (x .0) ≡ backNumbers (writeBack form1 limits1 (length out) sheet))
+  abbrev pub WriteBackPromise : Written × List ℕ → Type 0
+  WriteBackPromise x = (answered (x .0) ≡ writtenNumbers (writeBack form1 limits1 (length out) sheet))
       × (x .1 ≡ buffer ((writeBack form1 limits1 (length out) sheet) .result) out)
+
+  abbrev pub LinePromise : Written × List ℕ → Type 0
+  LinePromise x = (answered (x .0) ≡ writtenNumbers (showLine form1 limits1 (length out) sheet))
+      × (x .1 ≡ buffer ((showLine form1 limits1 (length out) sheet) .result) out)
 
   -- exported: whether there is an answer; the lent numbers and the buffer after the call
   module _ (lent : List ℕ) where
@@ -41,8 +46,13 @@ module _ (sheet out : List ℕ) where
 
     abbrev pub ExportedWriteBackPromise : Bool × (List ℕ × List ℕ) → Type 0
     ExportedWriteBackPromise x = (x .0 ≡ leb 3 (length lent))
-        × (x .1 .0 ≡ put (x .0) (backNumbers (writeBack form1 limits1 (length out) sheet)) lent)
+        × (x .1 .0 ≡ put (x .0) (writtenNumbers (writeBack form1 limits1 (length out) sheet)) lent)
         × (x .1 .1 ≡ put (x .0) ((writeBack form1 limits1 (length out) sheet) .result) out)
+
+    abbrev pub ExportedLinePromise : Bool × (List ℕ × List ℕ) → Type 0
+    ExportedLinePromise x = (x .0 ≡ leb 3 (length lent))
+        × (x .1 .0 ≡ put (x .0) (writtenNumbers (showLine form1 limits1 (length out) sheet)) lent)
+        × (x .1 .1 ≡ put (x .0) ((showLine form1 limits1 (length out) sheet) .result) out)
 
 -- ## The lookup, for a sheet, a date and a minute
 module _ (sheet : List ℕ) (year month day minute : ℕ) where

@@ -30,6 +30,7 @@ use Rattle.definition.specs.Group.{itemsOf, laidOver, asRule}
 use Rattle.definition.proofs.PaintedShows.{ProperRun}
 use Rattle.definition.proofs.Lawful.{Bounded, ItemsFit}
 use Rattle.definition.proofs.RuleCounts.{Sized}
+use Rattle.lines.proofs.Passing.{all-every}
 use Rattle.promises.specs.ReadBack.{widest}
 use Rattle.promises.proofs.Items.{kept-climb, runs-rising}
 
@@ -74,11 +75,6 @@ items-bounded b t proper =
         pick false e = rw (e, itemsOf) (ends-bounded b (b .0) (q ∷ rs) (omega arith) r h)
 
 -- ## Items that fit
-pub all-every : {A : Type 0} (fits : A → Bool) (xs : List A) → All (λ x. fits x ≡ true) xs → every fits xs ≡ true
-unfolding every
-all-every fits [] h = refl
-all-every fits (x ∷ xs) h = both-and (fits x) (every fits xs) (h .0) (all-every fits xs (h .1))
-
 every-made : {A : Type 0} (make : Ends → A) (fits : A → Bool) (b : Range) → ((e : Ends) → Bounded b e → fits (make e) ≡ true) → (es : List Ends) → All (Bounded b) es
     → every fits (map make es) ≡ true
 every-made make fits b h es k = all-every fits (map make es) (All-image (λ x. fits x ≡ true) make es (All-map h es k))

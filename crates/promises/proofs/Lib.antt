@@ -11,7 +11,9 @@ pub mod TooLong
 pub mod Reading
 pub mod Draining
 pub mod FoldCodes
+pub mod Entries
 pub mod BackCodes
+pub mod LineCodes
 pub mod LookupCodes
 pub mod Counts
 pub mod Looking

@@ -3,21 +3,20 @@
 -- Assumes nothing.
 use mathlib.Core.Path.{_≡_, refl, sym, ap, _∙_, subst}
 use mathlib.Core.List.{List, [], _∷_, _++_, map}
-use mathlib.Core.Bool.{Bool, true, false, _&&_}
+use mathlib.Core.Bool.{Bool, true, false}
 use Prim.Native.Nat.{ℕ, _-_, _^_, _<_}
 use native.Mathlib.Omega.{arith}
-use lib.Dec.{ltb}
 use lib.ListN.{length}
-use borrow.Author.Tests.{ltb-true, lt-ltb, le-leb, eq-eqb}
+use borrow.Author.Tests.{lt-ltb, le-leb, eq-eqb}
 use Rattle.laws.specs.Lists.{All}
-use Rattle.laws.proofs.Flags.{split-and, both-and}
+use Rattle.laws.proofs.Flags.{both-and}
 use Rattle.laws.proofs.Lists.{All-map, All-map₂, All-append, every-all, image-All}
 use Rattle.laws.proofs.Spread.{flatMap-all}
 use Rattle.grid.specs.Group.{Group}
 use Rattle.grid.specs.Cut.{asRuns}
 use Rattle.definition.specs.Field.{got, field, _then_, via, tagged, several}
-use Rattle.definition.specs.Rule.{operatorNumber, kindNumber, State, Span, Rule}
-use Rattle.definition.specs.Sheet.{Form, Limits, form1, limits1, choice, span, headOf, title, counts, head, body, rule, rules, decode, encode}
+use Rattle.definition.specs.Rule.{State, Span, Rule}
+use Rattle.definition.specs.Sheet.{Form, Limits, form1, limits1, span, title, counts, head, body, rule, rules, decode, encode}
 use Rattle.definition.specs.Stop.{stops, drained, left}
 use Rattle.definition.specs.Day.{Day}
 use Rattle.definition.specs.Group.{pages, rulesOf, folded}
@@ -29,6 +28,8 @@ use Rattle.definition.proofs.FoldBox.{drained-all}
 use Rattle.definition.proofs.DayHolds.{InDay}
 use Rattle.definition.proofs.Groups.{pointGroups}
 use Rattle.definition.proofs.RuleCounts.{Roomy, roomy1, counts-fit}
+use Rattle.lines.proofs.Carried.{comment-carried}
+use Rattle.lines.proofs.Passing.{all-every}
 use Rattle.promises.specs.Conditions.{Accepted}
 use Rattle.promises.specs.Codes.{result}
 use Rattle.promises.specs.ReadBack.{widest, FoldReads}
@@ -37,7 +38,7 @@ use Rattle.promises.proofs.Group.{Sound, rules-all}
 use Rattle.promises.proofs.Meaning.{sound}
 use Rattle.promises.proofs.Going.{written-means}
 use Rattle.promises.proofs.Pages.{pages-hold}
-use Rattle.promises.proofs.Fitting.{all-every, plain-fits, laid-items, rule-fits}
+use Rattle.promises.proofs.Fitting.{plain-fits, laid-items, rule-fits}
 use Rattle.promises.proofs.Draining.{drain-fine}
 use Rattle.promises.proofs.FoldCodes.{done-answer, fold-codes}
 
@@ -56,14 +57,7 @@ module _ (form : Form) (limits : Limits) where
   Lawful r = (r .state .comment < 2 ^ form .comment) × ItemsFit form limits r
 
   rule-lawful : (r : Rule) → (rule form limits) .fits r ≡ true → Lawful r
-  unfolding rule tagged head title via _then_ field
-  rule-lawful r f =
-      let operator = choice .fits (operatorNumber (r .operator)) in
-      let kind = choice .fits (kindNumber (r .state .kind)) in
-      let comment = ltb (r .state .comment) (2 ^ form .comment) in
-      let h = split-and ((title form limits) .fits (headOf r .0)) ((counts form limits) .fits (headOf r .1)) (split-and ((head form limits) .fits (headOf r)) _ f .0) .0 in
-      let k = split-and kind (comment && true) (split-and operator (kind && (comment && true)) h .1) .1 in
-      (ltb-true (r .state .comment) (2 ^ form .comment) (split-and comment true k .0), items-fit form limits r f)
+  rule-lawful r f = (comment-carried form limits r f, items-fit form limits r f)
 
   -- ## The folded rules
   abbrev Fine : State → Type 0

@@ -1,5 +1,5 @@
--- Demand 1: when each code comes, and with which place, both ways: the table of 01 for the fold, for writing back and for the lookup. A
--- number that stands in no row is never answered.
+-- Demand 1: when each code comes, and with which place, both ways: the table of 01 for the fold, for writing back and for the lookup, and 02's
+-- for the line. A number that stands in no row is never answered.
 -- Assumes nothing.
 use mathlib.Core.Path.{_≡_}
 use mathlib.Core.List.{List, [], _++_, map}
@@ -8,7 +8,7 @@ use Prim.Native.Nat.{ℕ, _≤_, _<_}
 use lib.Dec.{eqb, ltb}
 use lib.ListN.{length}
 use Rattle.laws.specs.Lists.{All}
-use Rattle.definition.specs.Field.{sheetBits, manyBoxes, longList, noRoom, noDate, unsettled}
+use Rattle.definition.specs.Field.{sheetBits, manyBoxes, longList, noRoom, noDate, unsettled, noWords}
 use Rattle.definition.specs.Rule.{midnight24, Rule}
 use Rattle.definition.specs.Sheet.{Form, Limits, encode}
 use Rattle.definition.specs.Stop.{drained, left}
@@ -17,9 +17,11 @@ use Rattle.definition.specs.Day.{entryOf, flattened, simple}
 use Rattle.definition.specs.Group.{folded}
 use Rattle.definition.specs.Date.{isDate, pointOf}
 use Rattle.definition.specs.Fold.{fold, writeBack}
+use Rattle.definition.specs.Line.{line}
+use Rattle.definition.specs.Show.{showLine}
 use Rattle.definition.specs.Lookup.{lookup}
 use Rattle.promises.specs.Fields.{FieldKind, Refused}
-use Rattle.promises.specs.Conditions.{Met, Accepted, ManyBoxes, LongList, Foldable, given, ReadingRows}
+use Rattle.promises.specs.Conditions.{Met, Accepted, ManyBoxes, LongList, Foldable, NoWords, Showable, given, ReadingRows, WritingRows}
 
 -- the one exactly when the other
 pub record Exactly (A B : Type 0) : Type 0 where
@@ -67,15 +69,25 @@ module _ (form : Form) (limits : Limits) (sheet : List ℕ) where
   -- ## Writing back, into a buffer of `room` bytes
   module _ (room : ℕ) where
     abbrev pub BackRows : ℕ → ℕ → Type 0
-    BackRows c p = ReadingRows form limits sheet c p
-        (given (eqb c noRoom) ((rs : List Rule) × Accepted form limits sheet rs × (room < length (encode form limits rs)) × (p ≡ length (encode form limits rs)))
-        (given (eqb c 0) ((rs : List Rule) × Accepted form limits sheet rs × (length (encode form limits rs) ≤ room) × (p ≡ 0)) ⊥))
+    BackRows c p = ReadingRows form limits sheet c p (WritingRows room (Accepted form limits sheet) (encode form limits) c p)
 
     abbrev pub BackAnswers : ℕ → ℕ → Type 0
     BackAnswers c p = ((writeBack form limits room sheet) .code ≡ c) × ((writeBack form limits room sheet) .place ≡ p)
 
     abbrev pub BackCodes : Type 0
     BackCodes = (c p : ℕ) → Exactly (BackAnswers c p) (BackRows c p)
+
+  -- ## The line, into a buffer of `room` bytes
+  module _ (room : ℕ) where
+    abbrev pub LineRows : ℕ → ℕ → Type 0
+    LineRows c p = ReadingRows form limits sheet c p
+        (given (eqb c noWords) (NoWords form limits sheet p) (WritingRows room (Showable form limits sheet) (line .write) c p))
+
+    abbrev pub LineAnswers : ℕ → ℕ → Type 0
+    LineAnswers c p = ((showLine form limits room sheet) .code ≡ c) × ((showLine form limits room sheet) .place ≡ p)
+
+    abbrev pub LineCodes : Type 0
+    LineCodes = (c p : ℕ) → Exactly (LineAnswers c p) (LineRows c p)
 
   -- ## The lookup, of a year, month, day and minute
   module _ (y mo d m : ℕ) where

@@ -1,19 +1,23 @@
 -- 01, "Numbers of the answer": the conditions that the table of codes speaks of, each without those before it in the order "1, 2 and 4 as
--- met from the first bit on; then 3, 8, 5, 6, 9, 7".
+-- met from the first bit on; then 3, 8, 5, 6, 9, 7", with 10 of 02 "after 3, before 7".
 -- Assumes nothing.
 use mathlib.Core.Path.{_≡_}
 use mathlib.Core.List.{List}
 use mathlib.Core.Logic.{_⊎_}
+use mathlib.Core.Option.{some}
 use mathlib.Core.Bool.{Bool, true, false}
 use Prim.Native.Nat.{ℕ, suc, _*_, _≤_, _<_}
 use lib.Dec.{eqb}
-use lib.ListN.{length, take, getD}
-use Rattle.definition.specs.Field.{got, refused, bytesFor, sheetBits, pastEnd, unlawful, badEnd, overLimit}
+use lib.ListN.{length, take, getD, getElem?}
+use Rattle.laws.specs.Lists.{All}
+use Rattle.definition.specs.Field.{got, refused, bytesFor, sheetBits, pastEnd, unlawful, badEnd, overLimit, noRoom}
 use Rattle.definition.specs.Rule.{Rule}
 use Rattle.definition.specs.Sheet.{Form, Limits, rules, decode}
 use Rattle.definition.specs.Stop.{drained}
 use Rattle.definition.specs.Point.{dimensions, listAt}
 use Rattle.definition.specs.Box.{boxCount}
+use Rattle.definition.specs.Line.{firstNormal}
+use Rattle.definition.specs.Show.{wordless}
 use Rattle.promises.specs.Meaning.{isPoint}
 
 -- ## How bits end, q being the bit after the last field
@@ -44,6 +48,22 @@ FirstLong limit ds k = (k < length ds) × LongAfter limit ds k × ((j : ℕ) →
 -- no point's list ever passes the limit
 abbrev pub AllShort : ℕ → List Rule → Type 0
 AllShort limit ds = (j : ℕ) → j < length ds → ShortAfter limit ds j
+
+-- ## Rules without words
+-- the rule of index k has no words; and it has words, if there is one
+abbrev pub WordlessAt : List Rule → ℕ → Type 0
+WordlessAt rs k = (r : Rule) × (getElem? rs k ≡ some r) × (wordless r ≡ true)
+
+abbrev pub WordsAt : List Rule → ℕ → Type 0
+WordsAt rs k = (r : Rule) → getElem? rs k ≡ some r → wordless r ≡ false
+
+-- the first rule that can't be shown has the index k: the very first if it isn't Normal, else the first that has no words
+abbrev pub FirstUnshown : List Rule → ℕ → Type 0
+FirstUnshown rs k = ((firstNormal rs ≡ false) × (k ≡ 0)) ⊎ ((firstNormal rs ≡ true) × WordlessAt rs k × ((j : ℕ) → j < k → WordsAt rs j))
+
+-- every rule can be shown
+abbrev pub AllShown : List Rule → Type 0
+AllShown rs = (firstNormal rs ≡ true) × All (λ r. wordless r ≡ false) rs
 
 -- ## A sheet
 module _ (form : Form) (limits : Limits) (sheet : List ℕ) where
@@ -76,6 +96,14 @@ module _ (form : Form) (limits : Limits) (sheet : List ℕ) where
   abbrev pub Foldable : List Rule → Type 0
   Foldable rs = FewBoxes rs × AllShort (limits .entries) (drained rs)
 
+  -- 10
+  abbrev pub NoWords : ℕ → Type 0
+  NoWords p = (rs : List Rule) × Accepted rs × FirstUnshown rs p
+
+  -- neither 1 to 4 nor 10
+  abbrev pub Showable : List Rule → Type 0
+  Showable rs = Accepted rs × AllShown rs
+
 -- ## Tables
 -- the first where the test passes, else the second
 abbrev pub given : Bool → Type 0 → Type 0 → Type 0
@@ -89,3 +117,9 @@ ReadingRows form limits sheet c p others =
     (given (eqb c unlawful) (Met form limits sheet unlawful p)
     (given (eqb c overLimit) (Met form limits sheet overLimit p)
     (given (eqb c badEnd) (BadEnd form limits sheet p) others)))
+
+-- the last rows of an entry that writes, of rules that are ready to be written: without room for what is written, and with room
+abbrev pub WritingRows : ℕ → (List Rule → Type 0) → (List Rule → List ℕ) → ℕ → ℕ → Type 0
+WritingRows room Ready write c p =
+    given (eqb c noRoom) ((rs : List Rule) × Ready rs × (room < length (write rs)) × (p ≡ length (write rs)))
+    (given (eqb c 0) ((rs : List Rule) × Ready rs × (length (write rs) ≤ room) × (p ≡ 0)) ⊥)

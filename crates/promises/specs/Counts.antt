@@ -1,6 +1,6 @@
 -- Demand 2: the numbers of an accepted fold are counts over its rules, and what it wrote is the folded rules, then the rules left; a refused
--- fold counts nothing and writes nothing; the same of writing back. 01: "Two accepted folds with the same drained rules have the same folded rules, whichever
--- rules are left in each."
+-- fold counts nothing and writes nothing; the same of writing back and of the line, which is printable ASCII. 01: "Two accepted folds with
+-- the same drained rules have the same folded rules, whichever rules are left in each."
 -- Assumes nothing.
 use mathlib.Core.Path.{_≡_}
 use mathlib.Core.List.{List, [], _++_}
@@ -11,7 +11,9 @@ use Rattle.definition.specs.Rule.{Rule}
 use Rattle.definition.specs.Sheet.{Form, Limits, encode}
 use Rattle.definition.specs.Stop.{drained, left}
 use Rattle.definition.specs.Group.{folded}
-use Rattle.definition.specs.Fold.{Folded, fold, writeBack}
+use Rattle.definition.specs.Fold.{Folded, Written, fold, writeBack}
+use Rattle.definition.specs.Line.{line}
+use Rattle.definition.specs.Show.{showLine}
 use Rattle.promises.specs.Conditions.{Accepted}
 
 -- the rules of the sheet are rs
@@ -44,9 +46,24 @@ abbrev pub BackWrites : Form → Limits → ℕ → List ℕ → Type 0
 BackWrites form limits room sheet = (writeBack form limits room sheet) .code ≡ 0 → All (λ b. b < 256) sheet
     → ((writeBack form limits room sheet) .result ≡ sheet) × ((writeBack form limits room sheet) .bytes ≡ length sheet)
 
+-- "refused, bytes written is 0 and the buffer is untouched"
+abbrev NothingWritten : Written → Type 0
+NothingWritten w = (w .code ≡ 0 → ⊥) → (w .bytes ≡ 0) × (w .result ≡ [])
+
 abbrev pub BackNothing : Form → Limits → ℕ → List ℕ → Type 0
-BackNothing form limits room sheet =
-    ((writeBack form limits room sheet) .code ≡ 0 → ⊥) → ((writeBack form limits room sheet) .bytes ≡ 0) × ((writeBack form limits room sheet) .result ≡ [])
+BackNothing form limits room sheet = NothingWritten (writeBack form limits room sheet)
+
+-- an accepted sheet is written as the line of its rules, in bytes from 32 to 126 where comments have 24 bits at most; a refused one isn't written
+abbrev pub LineWrites : Form → Limits → ℕ → List ℕ → Type 0
+LineWrites form limits room sheet = (showLine form limits room sheet) .code ≡ 0
+    → (rs : List Rule) × Accepted form limits sheet rs × ((showLine form limits room sheet) .result ≡ line .write rs) × ((showLine form limits room sheet) .bytes ≡ length (line .write rs))
+
+abbrev pub LinePrintable : Form → Limits → ℕ → List ℕ → Type 0
+LinePrintable form limits room sheet = form .comment ≤ 24 → (showLine form limits room sheet) .code ≡ 0 → All (λ b. b < 256) sheet
+    → All (λ b. (32 ≤ b) × (b ≤ 126)) ((showLine form limits room sheet) .result)
+
+abbrev pub LineNothing : Form → Limits → ℕ → List ℕ → Type 0
+LineNothing form limits room sheet = NothingWritten (showLine form limits room sheet)
 
 module _ (form : Form) (limits : Limits) (room : ℕ) (sheet : List ℕ) where
   abbrev pub AcceptedCounts : Type 0

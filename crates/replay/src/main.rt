@@ -1,10 +1,10 @@
-// Replays readings, write-backs, folds and lookups of sheets (data/, made by oracle/sheets.py), and prints how many were compared and how
+// Replays readings, write-backs, lines, folds and lookups of sheets (data/, made by oracle/sheets.py), and prints how many were compared and how
 // many differ.
 mod buffer;
 mod fold;
 mod reading;
 mod state;
-mod write_back;
+mod written;
 
 use libc::STDOUT_FILENO;
 
@@ -12,6 +12,7 @@ use libc::STDOUT_FILENO;
 enum Sort {
     Reading,
     WriteBack,
+    Line,
     Fold,
     Lookup,
 }
@@ -31,7 +32,8 @@ struct Tally {
 fn agrees(sort: Sort, sheet: &[u8], told: &[u8]) -> bool {
     match sort {
         Sort::Reading => reading::agrees(sheet, told),
-        Sort::WriteBack => write_back::agrees(sheet, told),
+        Sort::WriteBack => written::agrees(false, sheet, told),
+        Sort::Line => written::agrees(true, sheet, told),
         Sort::Fold => fold::agrees(sheet, told),
         Sort::Lookup => state::agrees(sheet, told),
     }
@@ -113,6 +115,7 @@ fn replay_file(path: &[u8], sort: Sort, name: &[u8]) {
 fn main() {
     replay_file(b"readings", Sort::Reading, b" readings compared, ");
     replay_file(b"write_backs", Sort::WriteBack, b" write-backs compared, ");
+    replay_file(b"lines", Sort::Line, b" lines compared, ");
     replay_file(b"folds", Sort::Fold, b" folds compared, ");
     replay_file(b"lookups", Sort::Lookup, b" lookups compared, ");
 }

@@ -9,7 +9,7 @@ use Prim.Native.Nat.{ℕ, zero, suc, _+_, _*_, _-_, _≤_, _<_, _^_}
 use native.Mathlib.Omega.{arith}
 use lib.Dec.{ltb}
 use lib.ListN.{length, take, drop, getD, set, length-set, length-map}
-use lib.Seq.{getD-set-same, getD-set-other}
+use lib.Seq.{getD-set-same, getD-set-other, ext-getD}
 use Rattle.laws.specs.Lists.{from}
 use Rattle.laws.proofs.Numbers.{length-from}
 use Rattle.definition.specs.Field.{Read, got, refused, andThen, badEnd, bytesFor, sheetBits, counted, readAll, several}
@@ -21,7 +21,7 @@ use Rattle.definition.proofs.Reading.{all-parts, tagged-parts}
 use Rattle.definition.proofs.Lengths.{rule-short}
 use Rattle.definition.proofs.SheetRead.{rule-faithful}
 use Rattle.sheet.specs.End.{ends}
-use Rattle.sheet.specs.Rules.{ruleEnds, noted, begun, checked, rulesAt}
+use Rattle.sheet.specs.Rules.{ruleEnds, noted, begun, checked, rulesAt, AllBegin}
 use Rattle.sheet.specs.Begin.{noRule, ruleOf, ruleAt, Readable}
 use Rattle.sheet.proofs.RuleRows.{noted-goes}
 use Rattle.sheet.proofs.Whole.{count-begun, none-begun, count-low}
@@ -183,3 +183,16 @@ module _ (s begins : List ℕ) (n : ℕ) where
   rules-each k l =
       let z : 0 + k ≡ k = omega arith in
       getD-from (λ k. ruleAt s (getD begins k 0)) noRule 0 n k l ∙ ap (λ j. ruleAt s (getD begins j 0)) z
+
+-- the rules of a sheet that was read, each where its beginning is noted
+module _ (sheet : List ℕ) (b : Bytes sheet) (rs : List Rule) (q : ℕ) (e : decode form1 limits1 sheet ≡ got rs q) (begins : List ℕ) (room : 64 ≤ length begins) where
+  pub all-begin : AllBegin (sheetBits sheet) (begun sheet begins) (length rs)
+  all-begin i l = let w = rules-begin sheet rs q b e begins room i l in (w .readable, w .low)
+
+  pub rules-there : rulesAt (sheetBits sheet) (begun sheet begins) (length rs) ≡ rs
+  rules-there = ext-getD noRule _ rs many (λ k l.
+      let m : k < length rs = omega (arith, many) in
+      rules-each (sheetBits sheet) (begun sheet begins) (length rs) k m ∙ (rules-begin sheet rs q b e begins room k m) .begun-rule)
+    where
+      many : length (rulesAt (sheetBits sheet) (begun sheet begins) (length rs)) ≡ length rs
+      many = rules-many (sheetBits sheet) (begun sheet begins) (length rs)

@@ -7,3 +7,4 @@ pub mod Endings
 pub mod Whole
 pub mod Backs
 pub mod Begins
+pub mod Titles

@@ -2,7 +2,7 @@
 -- Assumes nothing.
 use mathlib.Core.List.{List, map}
 use mathlib.Core.Option.{Option, none, some}
-use Prim.Native.Nat.{ℕ, zero, suc, _+_}
+use Prim.Native.Nat.{ℕ, zero, suc, _+_, _<_, _^_}
 use lib.ListN.{length, getD, set}
 use Rattle.laws.specs.Lists.{from}
 use Rattle.definition.specs.Field.{Read, got, refused, andThen, sheetBits, counted}
@@ -11,7 +11,7 @@ use Rattle.definition.specs.Sheet.{form1, limits1, counts, body, rule, ended, d
 use Rattle.sheet.specs.declared.check.Checked.{Checked}
 use Rattle.sheet.specs.declared.check.Checked.the-variants.{Rules, Refused}
 use Rattle.sheet.specs.End.{End, ends, skipAll}
-use Rattle.sheet.specs.Begin.{ruleAt}
+use Rattle.sheet.specs.Begin.{ruleAt, Readable}
 
 -- behind a rule's title: its counts, and the items that they count
 unfoldable pub countedEnds : List ℕ → ℕ → End
@@ -45,6 +45,10 @@ begun sheet begins = elim ((counted (form1 .ruleCount) (limits1 .rules)) .read (
 -- the rules at the first n of some beginnings
 unfoldable pub rulesAt : List ℕ → List ℕ → ℕ → List Rule
 rulesAt s begins n = map (λ k. ruleAt s (getD begins k 0)) (from 0 n)
+
+-- a rule is read at each of the first n
+abbrev pub AllBegin : List ℕ → List ℕ → ℕ → Type 0
+AllBegin s begins n = (i : ℕ) → i < n → Readable s (getD begins i 0) × (getD begins i 0 < 2 ^ 25)
 
 abbrev pub asChecked : Checked → Read ℕ
 asChecked (Rules n q) = got n q

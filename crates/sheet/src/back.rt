@@ -4,30 +4,30 @@ use crate::check::Checked;
 ghost use mathlib.Core.Path.{_≡_};
 ghost use lib.ListN.{length};
 ghost use Rattle.definition.specs.Sheet.{form1, limits1};
-ghost use Rattle.definition.specs.Fold.{buffer, writeBack};
-ghost use Rattle.sheet.specs.Back.{answered, backNumbers, copied};
+ghost use Rattle.definition.specs.Fold.{buffer, writtenNumbers, writtenInto, writeBack};
+ghost use Rattle.sheet.specs.Back.{answered};
 
 // "code, bytes written and place".
-pub struct WrittenBack {
+pub struct Written {
     pub code: u8,
     pub bytes: usize,
     pub place: usize,
 }
 
 // The sheet's bytes at the front of the buffer, where they have room.
-fn copy_back(sheet: &[u8], out: &mut [u8]) -> WrittenBack
-    ensures { λ r. ⌜ (answered r ≡ backNumbers (copied (length (now (out .entry))) (now (sheet .entry))))
-        × (now (out .exit) ≡ buffer ((copied (length (now (out .entry))) (now (sheet .entry))) .result) (now (out .entry))) ⌝ }
+fn copy_back(sheet: &[u8], out: &mut [u8]) -> Written
+    ensures { λ r. ⌜ (answered r ≡ writtenNumbers (writtenInto (length (now (out .entry))) (now (sheet .entry))))
+        × (now (out .exit) ≡ buffer ((writtenInto (length (now (out .entry))) (now (sheet .entry))) .result) (now (out .entry))) ⌝ }
 {
     if out.len() < sheet.len() {
-        return WrittenBack {
+        return Written {
             code: 7,
             bytes: 0,
             place: sheet.len(),
         };
     }
     let written = bytes::copy(sheet, out);
-    WrittenBack {
+    Written {
         code: 0,
         bytes: written,
         place: 0,
@@ -35,15 +35,15 @@ fn copy_back(sheet: &[u8], out: &mut [u8]) -> WrittenBack
 }
 
 // "Writing back refuses by 1 to 4 and 7 only, in the order below."
-pub fn write_back(sheet: &[u8], out: &mut [u8]) -> WrittenBack
-    ensures { λ r. ⌜ (answered r ≡ backNumbers (writeBack form1 limits1 (length (now (out .entry))) (now (sheet .entry))))
+pub fn write_back(sheet: &[u8], out: &mut [u8]) -> Written
+    ensures { λ r. ⌜ (answered r ≡ writtenNumbers (writeBack form1 limits1 (length (now (out .entry))) (now (sheet .entry))))
         × (now (out .exit) ≡ buffer ((writeBack form1 limits1 (length (now (out .entry))) (now (sheet .entry))) .result) (now (out .entry))) ⌝ }
 {
     let mut begins = [0usize; 64];
     let checked = crate::check::check(sheet, &mut begins);
     match checked {
         Checked::Rules(count, end) => copy_back(sheet, out),
-        Checked::Refused(code, place) => WrittenBack {
+        Checked::Refused(code, place) => Written {
             code,
             bytes: 0,
             place,

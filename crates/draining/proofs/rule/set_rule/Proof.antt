@@ -5,7 +5,8 @@ use native.Mathlib.Omega.{arith}
 use borrow.Author.Needs.{needs}
 use Rattle.field.proofs.FieldAt.{known-bytes}
 use Rattle.sheet.specs.Head.{asTitle}
-use Rattle.draining.proofs.RuleWays.{title-refused, set-fallback, set-rule, comment-low}
+use Rattle.sheet.proofs.Titles.{title-refused}
+use Rattle.draining.proofs.RuleWays.{set-fallback, set-rule, comment-low}
 use Rattle.draining.proofs.rule.set_rule.Statement.{statement}
 use Rattle.draining.proofs.rule.set_rule.Tie as tie
 

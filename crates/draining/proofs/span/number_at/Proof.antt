@@ -5,10 +5,10 @@ use native.Mathlib.Omega.{arith}
 use borrow.Author.Needs.{needs}
 use lib.Dec.{eqb}
 use Rattle.definition.proofs.Items.{span-faithful}
+use Rattle.definition.proofs.SheetRead.{carried}
 use Rattle.field.proofs.FieldAt.{known-bytes}
 use Rattle.item.specs.Answer.{asTime, asSpan}
 use Rattle.span_number.proofs.Carried.{time-below, span-carried}
-use Rattle.canonical_date.proofs.Saying.{carried}
 use Rattle.draining.proofs.SpanWays.{repeats-back, bit-below, number-goes, number-stops}
 use Rattle.draining.proofs.span.number_at.Statement.{statement}
 use Rattle.draining.proofs.span.number_at.Tie as tie

@@ -7,13 +7,10 @@ use Rattle.definition.specs.Fold.{buffer}
 use Rattle.hours.proofs.export.hours_write_back.Statement.{statement}
 use Rattle.hours.proofs.export.hours_write_back.Tie as tie
 
-returns : tie.Need-returns
-returns c = (sym (lt-leb 3 _ (c .if1 .taken)), refl, refl)
-
 returns-2 : tie.Need-returns-2
 returns-2 c =
-    let lent = c .before .before .before .before .before .before .before .before .before .before .before .before .before .before .args .lent .now in
-    (sym (le-leb 3 _ (c .before .before .before .before .before .before .before .before .before .before .if1 .left)), c .before .before .put-answer .ensures ∙ ap (λ n. buffer n lent) (c .before .before .before .before .before .before .before .before .write-back .ensures .0), c .before .before .before .before .before .before .before .before .write-back .ensures .1)
+    let written = c .before .before .before .before .before .before .write-back .ensures in
+    (sym (le-leb 3 _ (c .before .before .before .before .before .before .before .before .if1 .left)), c .before .before .put-written .ensures ∙ ap (λ n. buffer n (c .before .before .before .before .before .before .before .before .before .before .before .before .args .lent .now)) (written .0), written .1)
 
 pub hours-write-back-spec : {M : Type 1} → statement M
-hours-write-back-spec = tie.close (tie.spec returns (λ c κs. search needs) (λ c. search needs) (λ c. search needs) (λ c κs. search needs) (λ c. search needs) (λ c. search needs) returns-2)
+hours-write-back-spec = tie.close (tie.spec (λ c. (sym (lt-leb 3 _ (c .if1 .taken)), refl, refl)) (λ c κs. search needs) (λ c κs. search needs) (λ c. search needs) (λ c. search needs) returns-2)

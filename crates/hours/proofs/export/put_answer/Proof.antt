@@ -7,7 +7,7 @@ use lib.ListN.{length, drop, getD, set, length-set}
 use lib.Seq.{sets}
 use borrow.Author.Needs.{needs}
 use Rattle.writer.proofs.Storing.{store-first, store-next, store-end}
-use Rattle.hours.proofs.Answer.{sets-front}
+use Rattle.definition.proofs.Writing.{written-front}
 use Rattle.hours.proofs.export.put_answer.Statement.{statement}
 use Rattle.hours.proofs.export.put_answer.Tie as tie
 
@@ -32,7 +32,7 @@ returns : tie.Need-returns Inv-loop μ-loop
 returns c =
     let args = c .before .before .args in
     let old = c .before .loop in
-    store-end (args .answer .now) (old .lent) 0 (old .i) (c .loop-test .left) ∙ old .inv .2 ∙ sets-front (args .answer .now) (args .lent .now) (c .before .before .pre)
+    store-end (args .answer .now) (old .lent) 0 (old .i) (c .loop-test .left) ∙ old .inv .2 ∙ written-front (args .answer .now) (args .lent .now) (c .before .before .pre)
 
 pub put-answer-spec : {M : Type 1} → statement M
 put-answer-spec =

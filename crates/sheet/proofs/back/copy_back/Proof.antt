@@ -6,24 +6,23 @@ use native.Mathlib.Omega.{arith}
 use borrow.Author.Needs.{needs}
 use lib.ListN.{length, drop}
 use lib.Seq.{take-all}
-use Rattle.definition.specs.Fold.{buffer}
-use Rattle.sheet.specs.Back.{backNumbers}
-use Rattle.sheet.proofs.Backs.{copied-not, copied-fine}
+use Rattle.definition.specs.Fold.{buffer, writtenNumbers}
+use Rattle.definition.proofs.Writing.{written-not, written-fine}
 use Rattle.sheet.proofs.back.copy_back.Statement.{statement}
 use Rattle.sheet.proofs.back.copy_back.Tie as tie
 
 returns : tie.Need-returns
 returns c =
     let args = c .before .before .before .args in
-    let not = copied-not (length (args .out .now)) (args .sheet .now) (c .if1 .taken) in
-    (sym (ap backNumbers not), sym (ap (λ w. buffer (w .result) (args .out .now)) not))
+    let not = written-not (length (args .out .now)) (args .sheet .now) (c .if1 .taken) in
+    (sym (ap writtenNumbers not), sym (ap (λ w. buffer (w .result) (args .out .now)) not))
 
 returns-2 : tie.Need-returns-2
 returns-2 c =
     let args = c .before .before .before .before .before .before .before .args in
-    let fine = copied-fine (length (args .out .now)) (args .sheet .now) (omega arith) in
+    let fine = written-fine (length (args .out .now)) (args .sheet .now) (omega arith) in
     let all = take-all (length (args .sheet .now)) (args .sheet .now) (omega arith) in (
-      ap (λ n. 0 ∷ n ∷ 0 ∷ []) (c .before .before .copy .ensures .0) ∙ sym (ap backNumbers fine),
+      ap (λ n. 0 ∷ n ∷ 0 ∷ []) (c .before .before .copy .ensures .0) ∙ sym (ap writtenNumbers fine),
       c .before .before .copy .ensures .1 ∙ ap (_++ drop (length (args .sheet .now)) (args .out .now)) all ∙ sym (ap (λ w. buffer (w .result) (args .out .now)) fine),
     )
 

@@ -4,10 +4,9 @@ use mathlib.Core.Path.{sym, ap, _∙_}
 use native.Mathlib.Omega.{arith}
 use borrow.Author.Needs.{needs}
 use lib.ListN.{length}
-use Rattle.definition.specs.Fold.{buffer}
+use Rattle.definition.specs.Fold.{buffer, writtenNumbers}
 use Rattle.field.proofs.FieldAt.{known-bytes}
 use Rattle.sheet.specs.Rules.{asChecked}
-use Rattle.sheet.specs.Back.{backNumbers}
 use Rattle.sheet.proofs.Backs.{back-refused, back-copied}
 use Rattle.sheet.proofs.back.write_back.Statement.{statement}
 use Rattle.sheet.proofs.back.write_back.Tie as tie
@@ -18,14 +17,14 @@ returns c =
     let bytes = known-bytes (args .sheet .now) (λ j. omega (arith, c .before .before .before .before .before .before .before .before .before .before .shared-slice-known .given j)) in
     let check = sym (c .before .before .before .before .before .before .before .check .ensures .0) ∙ ap asChecked (c .before .before .before .before .before .checked .given .1) in
     let same = back-copied (length (args .out .now)) (args .sheet .now) bytes _ _ check in
-    (c .before .before .copy-back .ensures .0 ∙ sym (ap backNumbers same), c .before .before .copy-back .ensures .1 ∙ sym (ap (λ w. buffer (w .result) (args .out .now)) same))
+    (c .before .before .copy-back .ensures .0 ∙ sym (ap writtenNumbers same), c .before .before .copy-back .ensures .1 ∙ sym (ap (λ w. buffer (w .result) (args .out .now)) same))
 
 returns-2 : tie.Need-returns-2
 returns-2 c =
     let args = c .before .before .before .before .before .before .before .args in
     let check = sym (c .before .before .before .check .ensures .0) ∙ ap asChecked (c .before .checked2 .given .1) in
     let same = back-refused (length (args .out .now)) (args .sheet .now) _ _ check in
-    (sym (ap backNumbers same), sym (ap (λ w. buffer (w .result) (args .out .now)) same))
+    (sym (ap writtenNumbers same), sym (ap (λ w. buffer (w .result) (args .out .now)) same))
 
 pub write-back-spec : {M : Type 1} → statement M
 write-back-spec =

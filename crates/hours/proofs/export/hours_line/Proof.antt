@@ -1,0 +1,16 @@
+-- `hours::export::hours_line` meets its contract: a slice too short is left as it is, and else the answer stands at its front.
+-- Assumes nothing.
+use mathlib.Core.Path.{refl, sym, ap, _∙_}
+use borrow.Author.Needs.{needs}
+use borrow.Author.Tests.{lt-leb, le-leb}
+use Rattle.definition.specs.Fold.{buffer}
+use Rattle.hours.proofs.export.hours_line.Statement.{statement}
+use Rattle.hours.proofs.export.hours_line.Tie as tie
+
+returns-2 : tie.Need-returns-2
+returns-2 c =
+    let written = c .before .before .before .before .before .before .line .ensures in
+    (sym (le-leb 3 _ (c .before .before .before .before .before .before .before .before .if1 .left)), c .before .before .put-written .ensures ∙ ap (λ n. buffer n (c .before .before .before .before .before .before .before .before .before .before .before .before .args .lent .now)) (written .0), written .1)
+
+pub hours-line-spec : {M : Type 1} → statement M
+hours-line-spec = tie.close (tie.spec (λ c. (sym (lt-leb 3 _ (c .if1 .taken)), refl, refl)) (λ c κs. search needs) (λ c κs. search needs) (λ c. search needs) (λ c. search needs) returns-2)

@@ -1,0 +1,19 @@
+-- `item_text::day::put_month` meets its contract: the name is found in the row.
+-- Assumes nothing.
+use native.Mathlib.Omega.{arith}
+use borrow.Author.Needs.{needs}
+use Rattle.definition.specs.Text.{ascii}
+use Rattle.text.proofs.Putting.{put-as}
+use Rattle.item_text.proofs.Names.{month-found}
+use Rattle.item_text.proofs.day.put_month.Statement.{statement}
+use Rattle.item_text.proofs.day.put_month.Tie as tie
+
+put-name-requires : tie.Need-put-name-requires
+put-name-requires c κs = let k = month-found (c .before .before .before .args .month) (c .before .before .before .pre .0) in (omega (arith, k .0, k .1), omega (arith, k .3, c .before .before .before .pre .1))
+
+returns : tie.Need-returns
+unfolding ascii
+returns c = put-as (month-found (c .before .before .before .before .before .before .args .month) (c .before .before .before .before .before .before .pre .0) .2) (c .before .before .put-name .ensures)
+
+pub put-month-spec : {M : Type 1} → statement M
+put-month-spec = tie.close (tie.spec (λ c. search needs) (λ c. month-found (c .before .before .before .args .month) (c .before .before .before .pre .0) .0) put-name-requires (λ c. search needs) returns)

@@ -1,0 +1,19 @@
+-- `item_text::state::put_state` meets its contract: kind, then comment.
+-- Assumes nothing.
+use mathlib.Core.Path.{sym}
+use native.Mathlib.Omega.{arith}
+use borrow.Author.Needs.{needs}
+use Rattle.text.proofs.Putting.{put-then, put-as}
+use Rattle.item_text.specs.State.{stateOf}
+use Rattle.item_text.proofs.Spelled.{state-text, state-long}
+use Rattle.item_text.proofs.state.put_state.Statement.{statement}
+use Rattle.item_text.proofs.state.put_state.Tie as tie
+
+pub put-state-spec : {M : Type 1} → statement M
+put-state-spec =
+    tie.close
+    (tie.spec
+    (λ c κs. omega (arith, c .before .before .pre, state-long (stateOf (c .before .before .args .kind) (c .before .before .args .comment))))
+    (λ c κs. omega (arith, c .before .before .before .before .before .before .pre, state-long (stateOf (c .before .before .before .before .before .before .args .kind) (c .before .before .before .before .before .before .args .comment)), c .before .before .before .put-kind .ensures .ends))
+    (λ c. search needs)
+    (λ c. put-as (sym (state-text _)) (put-then (c .before .before .before .before .before .before .put-kind .ensures) (c .before .before .put-comment .ensures))))

@@ -1,0 +1,44 @@
+-- `item_text::time::put_span` meets its contract: start, `-`, end, and `+` where the end is open.
+-- Assumes nothing.
+use mathlib.Core.Path.{sym, ap}
+use mathlib.Core.Bool.{cond}
+use Prim.Native.Nat.{ℕ}
+use native.Mathlib.Omega.{arith}
+use borrow.Author.Needs.{needs}
+use Rattle.text.proofs.Putting.{put-then, put-as}
+use Rattle.item_text.proofs.Spelled.{clock-long, span-open, span-shut, span-long}
+use Rattle.item_text.proofs.time.put_span.Statement.{statement}
+use Rattle.item_text.proofs.time.put_span.Tie as tie
+
+put-clock-requires : tie.Need-put-clock-requires
+put-clock-requires c κs =
+    let pre = c .before .before .pre in (pre .0, omega (arith, pre .2, span-long (c .before .before .args .start) (c .before .before .args .end) (c .before .before .args .open-end) (pre .0) (pre .1), clock-long (c .before .before .args .start) (pre .0)))
+
+put-byte-requires : tie.Need-put-byte-requires
+put-byte-requires c κs =
+    let args = c .before .before .before .before .before .before .args in
+    let pre = c .before .before .before .before .before .before .pre in
+    omega (arith, pre .2, span-long (args .start) (args .end) (args .open-end) (pre .0) (pre .1), clock-long (args .start) (pre .0), c .before .before .before .put-clock .ensures .ends)
+
+put-clock-requires-2 : tie.Need-put-clock-requires-2
+put-clock-requires-2 c κs =
+    let args = c .before .before .before .before .before .before .before .before .before .before .args in
+    let pre = c .before .before .before .before .before .before .before .before .before .before .pre in
+    let long = span-long (args .start) (args .end) (args .open-end) (pre .0) (pre .1) in
+    (pre .1, omega (arith, pre .2, long, clock-long (args .start) (pre .0), clock-long (args .end) (pre .1), c .before .before .before .before .before .before .before .put-clock .ensures .ends, c .before .before .before .put-byte .ensures .ends))
+
+put-byte-requires-2 : tie.Need-put-byte-requires-2
+put-byte-requires-2 c κs =
+    let args = c .before .before .before .before .before .before .before .before .before .before .before .before .before .before .before .args in
+    let pre = c .before .before .before .before .before .before .before .before .before .before .before .before .before .before .before .pre in
+    let long = span-long (args .start) (args .end) (args .open-end) (pre .0) (pre .1) in
+    let plus = ap (λ o. cond {A = ℕ} o 1 0) (c .before .if1 .taken) in
+    omega (arith, pre .2, long, plus, clock-long (args .start) (pre .0), clock-long (args .end) (pre .1), c .before .before .before .before .before .before .before .before .before .before .before .before .put-clock .ensures .ends, c .before .before .before .before .before .before .before .before .put-byte .ensures .ends, c .before .before .before .before .put-clock2 .ensures .ends)
+
+pub put-span-spec : {M : Type 1} → statement M
+put-span-spec =
+    tie.close
+    (tie.spec put-clock-requires put-byte-requires put-clock-requires-2 put-byte-requires-2 (λ c. search needs)
+    (λ c. put-as (sym (span-open _ _ _ (c .before .before .before .before .if1 .taken))) (put-then (c .before .before .before .before .before .before .before .before .before .before .before .before .before .before .before .put-clock .ensures) (put-then (c .before .before .before .before .before .before .before .before .before .before .before .put-byte .ensures) (put-then (c .before .before .before .before .before .before .before .put-clock2 .ensures) (c .before .before .put-byte2 .ensures)))))
+    (λ c. search needs)
+    (λ c. put-as (sym (span-shut _ _ _ (c .if1 .left))) (put-then (c .before .before .before .before .before .before .before .before .before .before .before .put-clock .ensures) (put-then (c .before .before .before .before .before .before .before .put-byte .ensures) (c .before .before .before .put-clock2 .ensures)))))

@@ -1,0 +1,3 @@
+pub mod Day
+pub mod Time
+pub mod State

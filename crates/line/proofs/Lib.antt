@@ -1,0 +1,3 @@
+pub mod Prefix
+pub mod Steps
+pub mod Answers

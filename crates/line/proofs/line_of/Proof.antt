@@ -1,0 +1,37 @@
+-- `line::line_of` meets its contract: 10, then 7, then the line.
+-- Assumes nothing.
+use mathlib.Core.Path.{sym, ap, _∙_}
+use native.Mathlib.Omega.{arith}
+use lib.ListN.{length}
+use borrow.Author.Needs.{needs}
+use Rattle.definition.specs.Field.{sheetBits}
+use Rattle.definition.specs.Fold.{buffer, writtenNumbers}
+use Rattle.sheet.specs.Rules.{rulesAt}
+use Rattle.line.proofs.Answers.{lines-written, shown-to, shown-not, shown-long, shown-fine}
+use Rattle.line.proofs.line_of.Statement.{statement}
+use Rattle.line.proofs.line_of.Tie as tie
+
+returns : tie.Need-returns
+returns c =
+    let args = c .before .before .before .before .before .before .before .before .args in
+    let same = shown-long (rulesAt (sheetBits (args .sheet .now)) (args .begins .now) (args .count)) _ (c .before .before .before .before .measure .ensures) (length (args .out .now)) _ (c .before .before .measured2 .given .1) (omega arith) in
+    (sym (ap writtenNumbers same), sym (ap (λ w. buffer (w .result) (args .out .now)) same))
+
+returns-2 : tie.Need-returns-2
+returns-2 c =
+    let args = c .before .before .before .before .before .before .before .args in
+    let same = shown-not (rulesAt (sheetBits (args .sheet .now)) (args .begins .now) (args .count)) _ (c .before .before .before .measure .ensures) (length (args .out .now)) _ (c .before .measured .given .1) in
+    (sym (ap writtenNumbers same), sym (ap (λ w. buffer (w .result) (args .out .now)) same))
+
+returns-3 : tie.Need-returns-3
+returns-3 c =
+    let args = c .before .before .before .before .before .before .before .before .before .before .before .before .args in
+    let rs = rulesAt (sheetBits (args .sheet .now)) (args .begins .now) (args .count) in
+    let words = shown-to rs _ (c .before .before .before .before .before .before .before .before .measure .ensures) (length (args .out .now)) _ (c .before .before .before .before .before .before .measured2 .given .1) in
+    let same = shown-fine rs _ (c .before .before .before .before .before .before .before .before .measure .ensures) (length (args .out .now)) _ (c .before .before .before .before .before .before .measured2 .given .1) (omega arith) in (
+      sym (ap writtenNumbers same),
+      lines-written _ _ _ _ _ (c .before .before .show-rules .result) (c .before .before .show-rules .ensures) (words .0) (omega (arith, words .1)) ∙ sym (ap (λ w. buffer (w .result) (args .out .now)) same),
+    )
+
+pub line-of-spec : {M : Type 1} → statement M
+line-of-spec = tie.close (tie.spec (λ c κs. search needs) (λ c. search needs) (λ c. search needs) returns (λ c κs. search needs) returns-2 (λ c. search needs) returns-3)

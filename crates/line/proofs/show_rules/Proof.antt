@@ -1,0 +1,45 @@
+-- `line::show_rules` meets its contract: rule after rule.
+-- Assumes nothing.
+use mathlib.Core.Path.{_∙_}
+use Prim.Native.Nat.{_-_, _≤_}
+use native.Mathlib.Omega.{arith}
+use lib.Dec.{eqb}
+use lib.ListN.{getD}
+use borrow.Author.Needs.{needs}
+use Rattle.definition.specs.Field.{sheetBits}
+use Rattle.field.proofs.FieldAt.{known-bytes}
+use Rattle.text.proofs.Putting.{put-length}
+use Rattle.line.proofs.Steps.{Walked, walk-start, next-short, walk-next, walk-wordless, walk-end}
+use Rattle.line.proofs.show_rules.Statement.{statement}
+use Rattle.line.proofs.show_rules.Tie as tie
+
+abbrev Inv-loop : tie.InvT-loop
+Inv-loop sheet begins count out₀ to₀ i₀ out to i = (i ≤ count) × Walked (sheetBits sheet) begins out₀ i to out
+
+abbrev μ-loop : tie.MeasureT-loop
+μ-loop sheet begins count out₀ to₀ i₀ out to i = count - i
+
+show-rule-requires : tie.Need-show-rule-requires Inv-loop μ-loop
+show-rule-requires c κs =
+    let sheet = c .before .before .before .before .before .before .before .args .sheet .now in
+    let i = c .before .before .before .loop .i in
+    let begin = c .before .before .before .before .before .before .before .pre .0 i (omega arith) in
+    let short = next-short sheet (known-bytes sheet (λ j. omega (arith, c .before .before .before .before .before .before .shared-slice-known .given j))) (getD (c .before .before .before .before .before .before .before .args .begins .now) i 0) (begin .0) (eqb i 0) in
+    (begin .0, (begin .1, omega (arith, short, c .before .before .before .loop .inv .0, c .before .before .before .loop .inv .1 .short, c .before .before .before .before .before .before .before .pre .1)))
+
+loop-again : tie.Need-loop-again Inv-loop μ-loop
+loop-again c =
+    let sheet = c .before .before .before .before .before .before .before .before .before .before .before .args .sheet .now in
+    let i = c .before .before .before .before .before .before .before .loop .i in
+    let begin = c .before .before .before .before .before .before .before .before .before .before .before .pre .0 i (omega arith) in
+    let short = next-short sheet (known-bytes sheet (λ j. omega (arith, c .before .before .before .before .before .before .before .before .before .before .shared-slice-known .given j))) (getD (c .before .before .before .before .before .before .before .before .before .before .before .args .begins .now) i 0) (begin .0) (eqb i 0) in
+    (omega arith, walk-next (c .before .before .before .before .before .before .before .loop .inv .1) (c .before .before .before .show-rule .ensures) (c .if1 .left) short)
+
+pub show-rules-spec : {M : Type 1} → statement M
+show-rules-spec =
+    tie.close
+    (tie.spec Inv-loop μ-loop
+    (λ c. (omega arith, walk-start _ _ _)) (λ c. search needs) (λ c. omega (arith, c .before .before .before .before .before .before .pre)) show-rule-requires
+    (λ c. put-length (c .before .before .before .show-rule .ensures .put) ∙ put-length (c .before .before .before .before .before .before .before .loop .inv .1 .put)) (λ c. walk-wordless (c .before .before .before .before .before .before .before .loop .inv .1) (c .before .before .before .show-rule .ensures) (c .if1 .taken) _ (omega arith))
+    (λ c. omega arith) (λ c. omega arith) loop-again
+    (λ c. put-length (c .before .loop .inv .1 .put)) (λ c. walk-end (c .before .loop .inv .1) _ (omega arith)))

@@ -1,0 +1,72 @@
+-- Which elements of a list pass a test: all, none, and the first that does; and what is read of a list. Rests on the lists' laws.
+-- Assumes nothing.
+use mathlib.Core.Path.{_≡_, refl, sym, ap}
+use mathlib.Core.List.{List, [], _∷_}
+use mathlib.Core.Option.{Option, none, some, Option·map, Option·some-ne-none}
+use mathlib.Core.Bool.{Bool, true, false}
+use Prim.Native.Nat.{ℕ, zero, suc, _<_}
+use native.Mathlib.Omega.{arith}
+use lib.ListN.{getD, getElem?}
+use Rattle.laws.specs.Lists.{every, anyOf, All}
+use Rattle.laws.proofs.Flags.{both-and}
+use Rattle.laws.proofs.Lists.{Mem-All, any-none}
+use Rattle.definition.specs.Show.{firstIndex}
+
+-- what every element keeps to, and the default, holds of whatever is read
+pub all-read : {A : Type 0} (P : A → Type 0) (d : A) → P d → (xs : List A) → All P xs → (i : ℕ) → P (getD xs i d)
+all-read P d k [] h i = k
+all-read P d k (x ∷ xs) h zero = h .0
+all-read P d k (x ∷ xs) h (suc i) = all-read P d k xs (h .1) i
+
+pub all-every : {A : Type 0} (t : A → Bool) (xs : List A) → All (λ x. t x ≡ true) xs → every t xs ≡ true
+unfolding every
+all-every t [] h = refl
+all-every t (x ∷ xs) h = both-and (t x) (every t xs) (h .0) (all-every t xs (h .1))
+
+module _ {A : Type 0} (t : A → Bool) where
+  abbrev pub NonePasses : List A → Type 0
+  NonePasses xs = All (λ x. t x ≡ false) xs
+
+  pub none-passes : (xs : List A) → anyOf t xs ≡ false → NonePasses xs
+  none-passes xs h = Mem-All _ xs (λ x m. any-none t x xs h m)
+
+  -- ## The first index
+  abbrev pub PassesAt : List A → ℕ → Type 0
+  PassesAt xs k = (x : A) × (getElem? xs k ≡ some x) × (t x ≡ true)
+
+  abbrev pub FailsAt : List A → ℕ → Type 0
+  FailsAt xs k = (x : A) → getElem? xs k ≡ some x → t x ≡ false
+
+  -- the element of index k passes, and none before it
+  abbrev pub FirstAt : List A → ℕ → Type 0
+  FirstAt xs k = PassesAt xs k × ((j : ℕ) → j < k → FailsAt xs j)
+
+  pub first-at : (xs : List A) (k : ℕ) → FirstAt xs k → firstIndex t xs ≡ some k
+  unfolding firstIndex
+  first-at [] k h = absurd (Option·some-ne-none (h .0 .0) (sym (h .0 .1)))
+  first-at (x ∷ xs) zero h = let e : x ≡ h .0 .0 = cc (h .0 .1) in rw (rw (← e) at (h .0 .2), firstIndex)
+  first-at (x ∷ xs) (suc k) h = rw (h .1 0 (omega arith) x refl, firstIndex) (ap (Option·map suc) (first-at xs k (h .0, λ j l. h .1 (suc j) (omega arith))))
+
+  pub first-none : (xs : List A) → NonePasses xs → firstIndex t xs ≡ none
+  unfolding firstIndex
+  first-none [] h = refl
+  first-none (x ∷ xs) h = rw (h .0, firstIndex) (ap (Option·map suc) (first-none xs (h .1)))
+
+  -- an index is the first, and no index is of none
+  abbrev pub Found : List A → Option ℕ → Type 0
+  Found xs none = NonePasses xs
+  Found xs (some k) = FirstAt xs k
+
+  pub first-found : (xs : List A) → Found xs (firstIndex t xs)
+  unfolding firstIndex
+  first-found [] = tt
+  first-found (x ∷ xs) = go (t x) refl (firstIndex t xs) (first-found xs)
+    where
+      later : t x ≡ false → (k : ℕ) → ((j : ℕ) → j < k → FailsAt xs j) → (j : ℕ) → j < suc k → FailsAt (x ∷ xs) j
+      later e k h zero l = λ y g. let q : x ≡ y = cc g in rw (← q) e
+      later e k h (suc j) l = h j (omega arith)
+
+      go : (b : Bool) → t x ≡ b → (o : Option ℕ) → Found xs o → Found (x ∷ xs) (elim b [ true ↦ some 0 | false ↦ Option·map suc o ])
+      go true e o h = ((x, refl, e), λ j l. absurd (omega arith))
+      go false e none h = (e, h)
+      go false e (some k) h = (h .0, later e k (h .1))

@@ -1,0 +1,19 @@
+-- `rule_text::row::put_opening` meets its contract.
+-- Assumes nothing.
+use mathlib.Core.Path.{sym, ap}
+use native.Mathlib.Omega.{arith}
+use lib.ListN.{length}
+use borrow.Author.Needs.{needs}
+use Rattle.text.proofs.Putting.{put-none, put-as}
+use Rattle.rule_text.proofs.Rows.{opening-weeks, opening-none}
+use Rattle.rule_text.proofs.row.put_opening.Statement.{statement}
+use Rattle.rule_text.proofs.row.put_opening.Tie as tie
+
+pub put-opening-spec : {M : Type 1} → statement M
+put-opening-spec =
+    tie.close
+    (tie.spec (λ c. search needs)
+    (λ c κs. omega (arith, c .before .before .before .before .pre, ap length (opening-weeks (c .before .before .before .before .args .sort) (c .before .before .if1 .taken))))
+    (λ c. search needs)
+    (λ c. put-as (sym (opening-weeks (c .before .before .before .before .before .before .before .args .sort) (c .before .before .before .before .before .if1 .taken))) (c .before .before .put-word .ensures))
+    (λ c. put-as (sym (opening-none (c .before .before .args .sort) (c .if1 .left))) (put-none _ _)))

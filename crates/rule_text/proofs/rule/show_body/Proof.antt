@@ -1,0 +1,59 @@
+-- `rule_text::rule::show_body` meets its contract: the days and spans of the rule.
+-- Assumes nothing.
+use mathlib.Core.Path.{sym, ap, ap₂, _∙_}
+use mathlib.Core.Bool.{_||_}
+use native.Mathlib.Omega.{arith}
+use lib.Dec.{eqb}
+use lib.ListN.{length}
+use borrow.Author.Needs.{needs}
+use Rattle.definition.specs.Field.{sheetBits}
+use Rattle.sheet.specs.Begin.{ruleAt}
+use Rattle.sheet.specs.Head.{asCounts}
+use Rattle.sheet.proofs.Titles.{counts-same, counts-refused}
+use Rattle.text.proofs.Putting.{put-then, put-as}
+use Rattle.rule_text.specs.Tale.{Tale}
+use Rattle.rule_text.proofs.Telling.{shows-as}
+use Rattle.rule_text.proofs.Rules.{days-near, body-text, body-long, lacks-either}
+use Rattle.rule_text.proofs.Bodies.{counts-few, days-told, spans-told}
+use Rattle.rule_text.proofs.rule.show_body.Statement.{statement}
+use Rattle.rule_text.proofs.rule.show_body.Tie as tie
+
+show-days-requires : tie.Need-show-days-requires
+show-days-requires c κs =
+    let s = sheetBits (c .before .before .before .before .before .before .before .args .sheet .now) in
+    let read = sym (c .before .before .before .before .counts-at .ensures) ∙ ap asCounts (c .before .before .counts .given .1) in
+    let few = counts-few s (c .before .before .before .before .before .before .before .args .at) (c .before .before .before .before .before .before .before .pre .0) _ _ read in
+    let told = ap (λ x. length (x .text)) (days-told s (c .before .before .before .before .before .before .before .args .at) (c .before .before .before .before .before .before .before .pre .0) _ _ read) in
+    ((omega (arith, few .5, c .before .before .before .before .before .before .before .pre .1 .0), few .0, few .1, few .2, few .3), omega (arith, c .before .before .before .before .before .before .before .pre .1 .1, told, body-long (ruleAt s (c .before .before .before .before .before .before .before .args .at))))
+
+show-items-requires : tie.Need-show-items-requires
+show-items-requires c κs =
+    let s = sheetBits (c .before .before .before .before .before .before .before .before .before .before .before .args .sheet .now) in
+    let n = c .before .before .before .before .before .before .counts .given .0 in
+    let read = sym (c .before .before .before .before .before .before .before .before .counts-at .ensures) ∙ ap asCounts (c .before .before .before .before .before .before .counts .given .1) in
+    let few = counts-few s (c .before .before .before .before .before .before .before .before .before .before .before .args .at) (c .before .before .before .before .before .before .before .before .before .before .before .pre .0) _ _ read in
+    let near = days-near (n .0) (n .1 .0) (n .1 .1 .0) (n .1 .1 .1 .0) s (n .1 .1 .1 .1 .1 .0) in
+    let told = days-told s (c .before .before .before .before .before .before .before .before .before .before .before .args .at) (c .before .before .before .before .before .before .before .before .before .before .before .pre .0) _ _ read in
+    let days = shows-as told (c .before .before .before .show-days .ensures) in
+    let spans = ap (λ x. length (x .text)) (spans-told s (c .before .before .before .before .before .before .before .before .before .before .before .args .at) (c .before .before .before .before .before .before .before .before .before .before .before .pre .0) _ _ read _ (days .read-to)) in (
+      omega (arith, near, few .0, few .1, few .2, few .3, few .4, few .5, c .before .before .before .show-days .ensures .read-to, c .before .before .before .before .before .before .before .before .before .before .before .pre .1 .0),
+      omega (arith, c .before .before .before .before .before .before .before .before .before .before .before .pre .1 .1, days .put .ends, spans, body-long (ruleAt s (c .before .before .before .before .before .before .before .before .before .before .before .args .at))),
+    )
+
+returns : tie.Need-returns
+returns c =
+    let s = sheetBits (c .before .before .before .before .before .before .before .before .before .before .before .before .before .before .before .before .args .sheet .now) in
+    let read = sym (c .before .before .before .before .before .before .before .before .before .before .before .before .before .counts-at .ensures) ∙ ap asCounts (c .before .before .before .before .before .before .before .before .before .before .before .counts .given .1) in
+    let days = shows-as (days-told s (c .before .before .before .before .before .before .before .before .before .before .before .before .before .before .before .before .args .at) (c .before .before .before .before .before .before .before .before .before .before .before .before .before .before .before .before .pre .0) _ _ read) (c .before .before .before .before .before .before .before .before .show-days .ensures) in
+    let spans = shows-as (spans-told s (c .before .before .before .before .before .before .before .before .before .before .before .before .before .before .before .before .args .at) (c .before .before .before .before .before .before .before .before .before .before .before .before .before .before .before .before .pre .0) _ _ read _ (days .read-to)) (c .before .before .before .before .show-items .ensures) in
+    let none = lacks-either (ruleAt s (c .before .before .before .before .before .before .before .before .before .before .before .before .before .before .before .before .args .at)) _ (counts-same s (c .before .before .before .before .before .before .before .before .before .before .before .before .before .before .before .before .args .at) (c .before .before .before .before .before .before .before .before .before .before .before .before .before .before .before .before .pre .0) _ _ read .2) in
+    record {
+      put = put-as (body-text (ruleAt s (c .before .before .before .before .before .before .before .before .before .before .before .before .before .before .before .before .args .at))) (put-then (days .put) (spans .put));
+      so = c .either2 .ensures ∙ ap₂ _||_ (days .lacks) (c .before .either .ensures ∙ ap (_|| eqb (c .before .before .before .before .before .before .before .before .before .before .before .counts .given .0 .1 .1 .1 .1 .0) 0) (spans .lacks)) ∙ none;
+    }
+
+pub show-body-spec : {M : Type 1} → statement M
+show-body-spec =
+    tie.close
+    (tie.spec (λ c. search needs) (λ c κs. search needs) (λ c. search needs) show-days-requires show-items-requires (λ c κs. search needs) (λ c κs. search needs) (λ c. search needs) (λ c. search needs) returns
+    (λ c. counts-refused _ _ (c .before .before .before .before .before .before .pre .0) _ _ (sym (c .before .before .before .counts-at .ensures) ∙ ap asCounts (c .before .counts2 .given .1))))

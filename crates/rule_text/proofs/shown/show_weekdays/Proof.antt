@@ -1,0 +1,44 @@
+-- `rule_text::shown::show_weekdays` meets its contract: weekdays that stand as they are have words, and no others.
+-- Assumes nothing.
+use mathlib.Core.Path.{refl, sym, ap, _∙_}
+use native.Mathlib.Omega.{arith}
+use lib.ListN.{length}
+use borrow.Author.Needs.{needs}
+use Rattle.definition.specs.Stop.{weekdayStops}
+use Rattle.definition.specs.Line.{weekdayText}
+use Rattle.field.proofs.FieldAt.{known-bytes}
+use Rattle.item.specs.Answer.{asWeekDay}
+use Rattle.text.proofs.Putting.{put-as}
+use Rattle.rule_text.proofs.Telling.{got-within, got-shows, got-silent, refused-silent}
+use Rattle.rule_text.proofs.Items.{weekday-ends, weekdays-stand, weekdays-moved, weekday-item, weekday-silent}
+use Rattle.rule_text.proofs.shown.show_weekdays.Statement.{statement}
+use Rattle.rule_text.proofs.shown.show_weekdays.Tie as tie
+
+put-item-requires : tie.Need-put-item-requires
+put-item-requires c κs =
+    let args = c .before .before .before .before .before .before .before .before .before .args in
+    let v = c .before .before .before .before .read .given .0 in
+    let read = sym (c .before .before .before .before .before .before .week-day-range-at .ensures) ∙ ap asWeekDay (c .before .before .before .before .read .given .1) in
+    let fit = weekday-ends (args .sheet .now) (known-bytes (args .sheet .now) (λ j. omega (arith, c .before .before .before .before .before .before .before .before .shared-slice-known .given j))) (args .at) _ _ _ _ _ _ read in
+    let same = weekday-item (v .0) (v .1 .0) (v .1 .1 .0) (v .1 .1 .1 .0) (v .1 .1 .1 .1 .0) (weekdays-stand (v .0) (v .1 .0) (v .1 .1 .0) (v .1 .1 .1 .0) (v .1 .1 .1 .1 .0) _ (c .before .before .every-week .ensures) (c .before .if1 .taken)) in
+    (fit .0, fit .1, omega (arith, got-within weekdayText weekdayStops _ _ (args .place) _ _ read (c .before .before .before .before .before .before .before .before .before .pre .1), ap length same))
+
+returns : tie.Need-returns
+returns c =
+    let v = c .before .before .before .before .before .before .before .read .given .0 in
+    let stand = weekdays-stand (v .0) (v .1 .0) (v .1 .1 .0) (v .1 .1 .1 .0) (v .1 .1 .1 .1 .0) _ (c .before .before .before .before .before .every-week .ensures) (c .before .before .before .before .if1 .taken) in
+    got-shows weekdayText weekdayStops _ _ _ _ _ _ _ (sym (c .before .before .before .before .before .before .before .before .before .week-day-range-at .ensures) ∙ ap asWeekDay (c .before .before .before .before .before .before .before .read .given .1)) (sym stand)
+    (put-as (weekday-item (v .0) (v .1 .0) (v .1 .1 .0) (v .1 .1 .1 .0) (v .1 .1 .1 .1 .0) stand) (c .before .before .put-item .ensures))
+
+returns-2 : tie.Need-returns-2
+returns-2 c =
+    let v = c .before .before .before .before .read .given .0 in
+    let moved = weekdays-moved (v .0) (v .1 .0) (v .1 .1 .0) (v .1 .1 .1 .0) (v .1 .1 .1 .1 .0) _ (c .before .before .every-week .ensures) (c .before .if1 .left) in
+    got-silent weekdayText weekdayStops _ _ _ _ _ _ (sym (c .before .before .before .before .before .before .week-day-range-at .ensures) ∙ ap asWeekDay (c .before .before .before .before .read .given .1)) moved (weekday-silent _ moved) (c .silent .ensures)
+
+pub show-weekdays-spec : {M : Type 1} → statement M
+show-weekdays-spec =
+    tie.close
+    (tie.spec (λ c κs. search needs) (λ c. search needs) (λ c κs. search needs) put-item-requires (λ c κs. search needs) (λ c. search needs) (λ c κs. search needs) (λ c. search needs) (λ c κs. search needs) (λ c. search needs) returns returns-2
+    (λ c. got-silent weekdayText weekdayStops _ _ _ _ _ _ (sym (c .before .before .before .before .week-day-range-at .ensures) ∙ ap asWeekDay (c .before .before .read2 .given .1)) refl (weekday-silent _ refl) (c .silent2 .ensures))
+    (λ c. refused-silent weekdayText weekdayStops _ _ _ _ _ _ (sym (c .before .before .before .before .week-day-range-at .ensures) ∙ ap asWeekDay (c .before .before .read3 .given .1)) (c .silent3 .ensures)))

@@ -1,0 +1,4 @@
+pub mod Tale
+pub mod Shows
+pub mod Row
+pub mod Rule

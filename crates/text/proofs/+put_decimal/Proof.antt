@@ -1,0 +1,45 @@
+-- `text::put_decimal` meets its contract: one digit, or the last one behind the others. The number falls.
+-- Assumes nothing.
+use mathlib.Core.Path.{ap, _∙_}
+use mathlib.Core.List.{[], _∷_, _++_}
+use lib.ListN.{length}
+use native.Mathlib.Omega.{arith}
+use borrow.Author.Needs.{needs}
+use Rattle.definition.specs.Text.{decimal}
+use Rattle.text.proofs.Putting.{put-then, put-as, decimal-digit, decimal-more, longer}
+use Prim.Native.Nat.{ℕ, _/_, _<_}
+use borrow.Fn.Kinds.{In}
+use borrow.Fn.PlainCycle.{Measures, is, falls, and}
+use Rattle.text.proofs.put_decimal.Reads as put-decimal
+use Rattle.text.proofs.put_decimal.Kinds as put-decimal-kinds
+use Rattle.text.proofs.+put_decimal.Lts-put_decimal as put-decimal-lts
+use Rattle.text.proofs.digit.Reads as digit-reads
+use Rattle.text.proofs.put_byte.Reads as put-byte-reads
+use Rattle.text.proofs.+put_decimal.{statement}
+use Rattle.text.proofs.+put_decimal.Tie.{close}
+
+abbrev μ-put-decimal : Measures 1 put-decimal-kinds.ps ℕ
+μ-put-decimal κs a = a .1 .1 .0
+
+abbrev put-decimal-at : ℕ → In 1 put-decimal-kinds.ps
+put-decimal-at t =
+    and 1 put-decimal-kinds.ps (is 1 put-decimal-kinds.ps μ-put-decimal t) put-decimal.Pre
+
+abbrev put-decimal-below : ℕ → In 1 put-decimal-kinds.ps
+put-decimal-below t =
+    and 1 put-decimal-kinds.ps (falls 1 put-decimal-kinds.ps _<_ μ-put-decimal t) put-decimal.Pre
+
+pub +put-decimal-spec : {M : Type 1} → statement M
++put-decimal-spec = close μ-put-decimal λ t. put-decimal-lts.spec (digit-reads.Asked, digit-reads.Learnt, put-byte-reads.Asked, put-byte-reads.Learnt, put-decimal-below t, put-decimal.Post)
+    (put-decimal-at t)
+    put-decimal.Post
+    (λ c κs. omega arith)
+    (λ c κs. omega (arith, ap length (decimal-digit (c .before .before .before .before .args .value) (omega arith))))
+    (λ c. search needs)
+    (λ c. put-as (ap (_∷ []) (c .before .before .before .digit .ensures) ∙ decimal-digit (c .before .before .before .before .before .before .before .args .value) (omega arith)) (c .before .before .put-byte .ensures))
+    (λ c κs. (omega (arith, c .before .before .before .pre .0), omega (arith, c .before .before .before .pre .1, longer (c .before .before .before .args .value) (omega arith))))
+    (λ c κs. omega arith)
+    (λ c κs. omega (arith, c .before .before .before .before .before .before .before .before .pre .1, c .before .before .before .before .put-decimal .ensures .ends, longer (c .before .before .before .before .before .before .before .before .args .value) (omega arith)))
+    (λ c. search needs)
+    (λ c. let value = c .before .before .before .before .before .before .before .before .before .before .before .args .value in
+    put-as (ap (λ d. decimal (value / 10) ++ (d ∷ [])) (c .before .before .before .digit2 .ensures) ∙ decimal-more value (omega arith)) (put-then (c .before .before .before .before .before .before .before .put-decimal .ensures) (c .before .before .put-byte2 .ensures)))

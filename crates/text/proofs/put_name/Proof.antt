@@ -1,0 +1,16 @@
+-- `text::put_name` meets its contract: the name's part of the names.
+-- Assumes nothing.
+use Prim.Native.Nat.{_*_}
+use borrow.Author.Needs.{needs}
+use Rattle.text.proofs.Putting.{name-put}
+use Rattle.text.proofs.put_name.Statement.{statement}
+use Rattle.text.proofs.put_name.Tie as tie
+
+returns : tie.Need-returns
+returns c =
+    let args = c .before .before .before .before .before .before .before .args in name-put _ _ (args .names .now) _ _ (args .index * args .width) (args .width) (c .before .before .put-word .ensures)
+
+pub put-name-spec : {M : Type 1} → statement M
+put-name-spec =
+    tie.close
+    (tie.spec (λ c. search needs) (λ c. search needs) (λ c. search needs) (λ c. search needs) (λ c. search needs) (λ c κs. search needs) (λ c. search needs) returns)
