@@ -4,7 +4,7 @@
  *
  *     cc -Iinclude program.c target/staticlib/libhours.a
  *
- * What a packed sheet is, and what its fold is, stands in crates/definition/specs. Of all three functions:
+ * What a packed sheet, its fold and its line are stands in crates/definition/specs. Of all four functions:
  *
  * - Every byte string, date and length gets an answer; a sheet may hold anything.
  * - The answer goes into `numbers`, in the order of the enumerations below, and the function returns `true`. A `numbers` that is too
@@ -27,7 +27,7 @@ extern "C" {
 #endif
 
 /* The code of an answer: done, or the first reason to refuse, in the order 1, 2 and 4 as met from the first bit on, then 3, 8, 5, 6,
- * 9, 7. The place that goes with it stands in brackets; bits and rules are counted from 0, bits from the most significant one on. */
+ * 9, 10, 7. The place that goes with it stands in brackets; bits and rules are counted from 0, bits from the most significant one on. */
 enum hours_code {
     HOURS_DONE = 0,       /* done [0] */
     HOURS_PAST_END = 1,   /* a field runs past the end [its first bit] */
@@ -38,7 +38,8 @@ enum hours_code {
     HOURS_LONG_LIST = 6,  /* some point's list passes 32 entries after a drained rule [that rule's index] */
     HOURS_NO_ROOM = 7,    /* `out` is shorter than the result [bytes needed] */
     HOURS_NO_DATE = 8,    /* lookup only: no such date or minute [0] */
-    HOURS_UNSETTLED = 9   /* lookup only: a rule is left, or the point's list holds a span that isn't simple [0] */
+    HOURS_UNSETTLED = 9,  /* lookup only: a rule is left, or the point's list holds a span that isn't simple [0] */
+    HOURS_NO_LINE = 10    /* line only: a rule holds what no line says [the first such rule's index] */
 };
 
 /* Bytes of stack: more than twice what the deepest call of the bench took (oracle/README.md). That a stack is deep enough is not
@@ -80,6 +81,14 @@ enum hours_write_back_number {
     HOURS_WRITE_BACK_NUMBERS
 };
 
+/* The numbers of a line, and how many they are. */
+enum hours_line_number {
+    HOURS_LINE_CODE,  /* an hours_code: 0 to 4, 7 or 10 */
+    HOURS_LINE_BYTES, /* bytes written */
+    HOURS_LINE_PLACE, /* the code's place */
+    HOURS_LINE_NUMBERS
+};
+
 /* Folds a sheet's rules up to the first one that can't be folded exactly, and copies the rules from there on.
  *
  * Answers the HOURS_FOLD_NUMBERS numbers of hours_fold_number. On HOURS_DONE the folded sheet stands at the front of `out`, in as many
@@ -100,6 +109,18 @@ bool hours_lookup(const uint8_t *sheet, size_t sheet_length, uint64_t year, uint
  * Answers the HOURS_WRITE_BACK_NUMBERS numbers of hours_write_back_number. On HOURS_DONE the sheet stands at the front of `out`, and
  * later bytes are unchanged. On any other code `out` is unchanged, and the bytes written are 0. */
 bool hours_write_back(const uint8_t *sheet, size_t sheet_length, uint8_t *out, size_t out_length, uint64_t *numbers, size_t numbers_length);
+
+/* Writes a sheet as one line of text, in the notation of the public OpenStreetMap opening_hours specification. The sheet itself is
+ * written and not its fold: to show a fold, fold the sheet first; one that has more rules, items or spans than a sheet may is refused by
+ * HOURS_OVER_LIMIT. No rules give an empty line.
+ *
+ * HOURS_NO_LINE is given exactly when some rule, whether it can be folded or not, holds a month range of a year, a reference to a dated
+ * range, a holiday, a weekday offset, an unset nth bit, a variable time or repeats, or has no spans, or when the first rule isn't Normal.
+ *
+ * Answers the HOURS_LINE_NUMBERS numbers of hours_line_number. On HOURS_DONE the text, in ASCII and without a zero byte or a newline at
+ * its end, stands at the front of `out`, and later bytes are unchanged. On any other code `out` is unchanged, and the bytes written are
+ * 0. With an `out` of 0 bytes, HOURS_NO_ROOM tells the bytes needed. */
+bool hours_line(const uint8_t *sheet, size_t sheet_length, uint8_t *out, size_t out_length, uint64_t *numbers, size_t numbers_length);
 
 #ifdef __cplusplus
 }

@@ -1,8 +1,8 @@
-"""The stored answers: `python3 oracle/answers.py --seed N` writes crates/replay/data/{fold,lookup,back,read,day}.txt.
+"""The stored answers: `python3 oracle/answers.py --seed N` writes crates/replay/data/{fold,lookup,back,line,read,day}.txt.
 
 All answers are the reference's. Folds and days inside the Rust's domain are held against the built oracle while the
 lists are made. A case is a line, its fields separated by a space, bytes in upper-case hex and `-` for none; lines that
-start with `#` are remarks. Rests on `reference`, on `cases` for the sheets and on `compare` for the oracle.
+start with `#` are remarks. Rests on `reference`, on `cases` and `line_cases` for the sheets and on `compare` for the oracle.
 """
 
 from __future__ import annotations
@@ -13,14 +13,16 @@ from itertools import islice
 from operator import itemgetter
 from pathlib import Path
 from random import Random
-from typing import Iterable
+from typing import Callable, Iterable
 
 from cases import (
     EVERY_SORT, REFUSED_SORTS, damaged, each_refused_sort, generated, largest, named_dates, named_sheets,
     refused_sort, sample_date, twice_refused,
 )
 from compare import day_line, fold_line, oracle_lines, verdict
-from reference.fold import fold, write_back
+from line_cases import each_reason, flipped_lines, long_line, named_lines, with_a_line, without_a_line
+from reference.fold import Folded, Written, fold, write_back
+from reference.line import NO_LINE, line, reasons_against
 from reference.lookup import lookup
 from reference.points import LIST_LIMIT
 from reference.sheet import read_sheet, write_sheet
@@ -37,8 +39,7 @@ def hexed(given: bytes) -> str:
 
 
 def fold_case(sheet: bytes, room: int) -> str:
-    answer, result = fold(sheet, room)
-    return " ".join(map(str, (hexed(sheet), room, *answer, hexed(result))))
+    return written_case(fold, sheet, room)
 
 
 def lookup_case(sheet: bytes, date: tuple[int, int, int, int]) -> str:
@@ -46,7 +47,15 @@ def lookup_case(sheet: bytes, date: tuple[int, int, int, int]) -> str:
 
 
 def back_case(sheet: bytes, room: int) -> str:
-    answer, result = write_back(sheet, room)
+    return written_case(write_back, sheet, room)
+
+
+def line_case(sheet: bytes, room: int) -> str:
+    return written_case(line, sheet, room)
+
+
+def written_case(entry: Callable[[bytes, int], tuple[Folded | Written, bytes]], sheet: bytes, room: int) -> str:
+    answer, result = entry(sheet, room)
     return " ".join(map(str, (hexed(sheet), room, *answer, hexed(result))))
 
 
@@ -66,7 +75,7 @@ def telling_dates(sheet: bytes, random: Random) -> Iterable[tuple[int, int, int,
     return {lookup(sheet, *date): date for date in dates}.values()
 
 
-# The five lists, each made of remarks and cases
+# The six lists, each made of remarks and cases
 
 
 def fold_lines(seed: int) -> list[str]:
@@ -117,6 +126,32 @@ def back_lines(seed: int) -> list[str]:
     lines += ["# generated"]
     sheets = islice(generated(f"{seed}/backs", False), 400)
     lines += [back_case(sheet, some_room(random, len(sheet))) for sheet in sheets]
+    return lines
+
+
+def line_lines(seed: int) -> list[str]:
+    random = Random(f"{seed}/lines")
+    given = {name: write_sheet(rules) for name, rules in named_lines().items()}
+    lines = []
+    for name, sheet in (named_sheets() | twice_refused() | given).items():
+        needed = line(sheet, ROOM)[0].bytes
+        rooms = dict.fromkeys((ROOM, needed + 1, needed, max(needed - 1, 0), 0))
+        lines += [f"# {name}", *(line_case(sheet, room) for room in rooms)]
+    longest, needed = long_line(), line(long_line(), ROOM)[0].bytes
+    lines += ["# the longest, exactly full and a byte short"]
+    lines += [line_case(longest, room) for room in (needed, needed - 1)]
+    lines += ["# each reason against a line, at each of three rules"]
+    lines += [line_case(write_sheet(rules), ROOM) for rules in each_reason()]
+    lines += ["# each sort of refusal in reading"]
+    lines += [line_case(sheet, ROOM) for sheet in each_refused_sort(seed, 1)]
+    generated_ones = {
+        "generated, with a line": map(write_sheet, islice(with_a_line(random), 900)),
+        "generated, with reasons against a line": map(write_sheet, islice(without_a_line(random), 500)),
+        "generated with a line, one bit flipped": islice(flipped_lines(random), 400),
+        "generated anyhow": islice(generated(f"{seed}/any line", False), 300),
+    }
+    for name, sheets in generated_ones.items():
+        lines += [f"# {name}", *(line_case(sheet, some_room(random, line(sheet, ROOM)[0].bytes)) for sheet in sheets)]
     return lines
 
 
@@ -181,6 +216,16 @@ def sorts_remarks(lines: list[str]) -> list[str]:
     return [f"# code {code} at: " + ", ".join(sorts) for code, sorts in told.items()]
 
 
+def reasons_remark(lines: list[str]) -> str:
+    """How many sheets have each reason against a line at the rule that 10 names."""
+    counts: Counter = Counter()
+    for sheet in sheets_in(lines):
+        answer, _ = line(sheet, ROOM)
+        if answer.code == NO_LINE:
+            counts.update(reasons_against(read_sheet(sheet)[0][answer.place], is_first=answer.place == 0))
+    return f"# code {NO_LINE} for: " + ", ".join(f"{reason} ({number})" for reason, number in sorted(counts.items()))
+
+
 def write_list(name: str, seed: int, layout: str, remarks: list[str], lines: list[str]) -> None:
     head = [f"# made by: python3 oracle/answers.py --seed {seed}", f"# {layout}", *remarks]
     (DATA / name).write_text("\n".join(head + lines) + "\n")
@@ -197,12 +242,15 @@ def main() -> None:
         ("fold.txt", "SHEET ROOM CODE DRAINED EMITTED LEFT BYTES PLACE RESULT", fold_lines(seed)),
         ("lookup.txt", "SHEET YEAR MONTH DAY MINUTE CODE KIND COMMENT PLACE", lookup_lines(seed)),
         ("back.txt", "SHEET ROOM CODE BYTES PLACE RESULT", back_lines(seed)),
+        ("line.txt", "SHEET ROOM CODE BYTES PLACE RESULT", line_lines(seed)),
         ("read.txt", "SHEET CODE PLACE RULES", read_lines(seed)),
     )
     for name, layout, lines in coded:
         remarks = [codes_remark(lines, layout), *sorts_remarks(lines)]
         if name == "fold.txt":
             remarks.append(held_against_oracle(lines, fold_line, []))
+        if name == "line.txt":
+            remarks.append(reasons_remark(lines))
         write_list(name, seed, layout, remarks, lines)
     days = day_lines(seed)
     write_list("day.txt", seed, "SHEET RESULT", [held_against_oracle(days, day_line, ["--days"])], days)

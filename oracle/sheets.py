@@ -1,16 +1,18 @@
-"""Makes crates/replay/data/{readings,write_backs,folds,lookups}: the stored answers as records, and more readings and write-backs.
+"""Makes crates/replay/data/{readings,write_backs,lines,folds,lookups}: the stored answers as records, and more of the first three.
 
     python3 oracle/sheets.py
 
-First come the answers of crates/replay/data/{read,back,fold,lookup}.txt, as they stand there. Then, answered by the reference, every
+First come the answers of crates/replay/data/{read,back,line,fold,lookup}.txt, as they stand there. Then, answered by the reference, every
 truncation and every flipped bit of small sheets: for each field that a sheet can have, the shortest accepted ones of
-read.txt that have it. Each of these is read, and written back to a buffer one byte longer than itself.
+read.txt that have it. Each of these is read, and written back to a buffer one byte longer than itself. Likewise of the
+shortest ones of line.txt that have a line, each written as a line to a buffer one byte longer than that.
 
 A record is two numbers of three bytes each, the high byte first, the sheet, and what is told of it. So the program that
 replays them takes no text apart. The two numbers are the sheet's length, and the length of the sheet and of what is told.
 
     a reading      CODE PLACE RULES END, and the place of each rule's first bit in three bytes
     a write-back   CODE BYTES PLACE ROOM, and the bytes that stand at the front of the buffer
+    a line         the same
     a fold         CODE DRAINED EMITTED LEFT BYTES PLACE ROOM, and the bytes that stand at the front of the buffer
     a lookup       YEAR MONTH DAY MINUTE in eight bytes each, CODE KIND COMMENT PLACE
 
@@ -20,12 +22,14 @@ END is the place of the first bit after the rules, 0 where the sheet is refused;
 
 from __future__ import annotations
 
-from typing import Iterator
+from typing import Callable, Iterable, Iterator
 
-from answers import DATA, back_case, read_case, sheets_in
+from answers import DATA, back_case, line_case, read_case, sheets_in
 from cases import ALL_FIELDS, damaged, refused_sort
 from generate import fields_met
+from reference.line import line
 from reference.sheet import read_sheet
+from reference.worked import ROOM
 
 SHEETS_FOR_A_FIELD = 2
 SIZE_LIMIT = 65536  # the program's buffer for what follows a record's numbers
@@ -49,7 +53,7 @@ def cases_in(name: str) -> list[str]:
     return [line for line in (DATA / name).read_text().splitlines() if not line.startswith("#")]
 
 
-def small_sheets(accepted: list[bytes]) -> list[bytes]:
+def small_sheets(accepted: Iterable[bytes]) -> list[bytes]:
     """For each field the shortest sheets that have it, each sheet once."""
     fields = {sheet: {field for field, _ in fields_met(sheet)} for sheet in sorted(accepted, key=len)}
     chosen: dict[bytes, None] = {}
@@ -59,10 +63,22 @@ def small_sheets(accepted: list[bytes]) -> list[bytes]:
     return list(chosen)
 
 
-def damaged_sheets() -> list[bytes]:
-    """Every truncation and every flipped bit of the small sheets, each once."""
-    accepted = [sheet for sheet in sheets_in(cases_in("read.txt")) if refused_sort(sheet)[0] == 0]
-    return list(dict.fromkeys(case for sheet in small_sheets(accepted) for case in damaged(sheet)))
+def damaged_sheets(name: str, kept: Callable[[bytes], bool]) -> list[bytes]:
+    """Every truncation and every flipped bit of the small sheets among those of a file that are kept, each once."""
+    sheets = small_sheets(filter(kept, sheets_in(cases_in(name))))
+    return list(dict.fromkeys(case for sheet in sheets for case in damaged(sheet)))
+
+
+def is_accepted(sheet: bytes) -> bool:
+    return refused_sort(sheet)[0] == 0
+
+
+def has_a_line(sheet: bytes) -> bool:
+    return line(sheet, ROOM)[0].code == 0
+
+
+def line_with_a_byte_to_spare(sheet: bytes) -> str:
+    return line_case(sheet, line(sheet, ROOM)[0].bytes + 1)
 
 
 def reading(case: str) -> bytes:
@@ -77,7 +93,7 @@ def reading(case: str) -> bytes:
 
 
 def written(case: str) -> bytes:
-    """A write-back or a fold: the room stands first in the case and last in the record."""
+    """A write-back, a line or a fold: the room stands first in the case and last in the record."""
     given, room, *numbers, told = case.split()
     result = unhexed(told)
     assert len(result) == int(numbers[-2]), case
@@ -99,11 +115,13 @@ def write_records(name: str, records: Iterator[bytes]) -> None:
 
 
 def main() -> None:
-    sheets = damaged_sheets()
+    sheets = damaged_sheets("read.txt", is_accepted)
+    lines = cases_in("line.txt") + [line_with_a_byte_to_spare(sheet) for sheet in damaged_sheets("line.txt", has_a_line)]
     read = cases_in("read.txt") + [read_case(sheet) for sheet in sheets]
     back = cases_in("back.txt") + [back_case(sheet, len(sheet) + 1) for sheet in sheets]
     write_records("readings", map(reading, read))
     write_records("write_backs", map(written, back))
+    write_records("lines", map(written, lines))
     write_records("folds", map(written, cases_in("fold.txt")))
     write_records("lookups", map(lookup, cases_in("lookup.txt")))
 

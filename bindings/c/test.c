@@ -108,6 +108,49 @@ static void test_write_back(void)
     CHECK(painted(out, sizeof out) && numbers_painted_from(0));
 }
 
+static void test_line(void)
+{
+    /* The empty sheet has an empty line, so that no byte is needed. */
+    static const uint8_t empty[] = {0x00, 0x00};
+    /* The operator is Additional. */
+    static const uint8_t additional[] = {0x00, 0x01, 0x40, 0x00, 0x00, 0x00, 0x00, 0x00, 0x00, 0x00, 0x04, 0x00, 0x05, 0xA0, 0x00};
+    static const char text[] = "00:00-24:00";
+    const size_t needed = strlen(text);
+
+    paint();
+    CHECK(hours_line(always, sizeof always, out, sizeof out, numbers, HOURS_LINE_NUMBERS + 1));
+    CHECK(numbers[HOURS_LINE_CODE] == HOURS_DONE);
+    CHECK(numbers[HOURS_LINE_BYTES] == needed);
+    CHECK(numbers[HOURS_LINE_PLACE] == 0);
+    CHECK(numbers_painted_from(HOURS_LINE_NUMBERS));
+    CHECK(memcmp(out, text, needed) == 0);
+    CHECK(painted(out + needed, sizeof out - needed));
+
+    paint();
+    CHECK(hours_line(always, sizeof always, out, needed, numbers, HOURS_LINE_NUMBERS));
+    CHECK(numbers[HOURS_LINE_CODE] == HOURS_DONE);
+    CHECK(memcmp(out, text, needed) == 0);
+
+    paint();
+    CHECK(hours_line(always, sizeof always, out, needed - 1, numbers, HOURS_LINE_NUMBERS));
+    CHECK(numbers[HOURS_LINE_CODE] == HOURS_NO_ROOM);
+    CHECK(numbers[HOURS_LINE_BYTES] == 0);
+    CHECK(numbers[HOURS_LINE_PLACE] == needed);
+    CHECK(painted(out, sizeof out));
+
+    CHECK(hours_line(additional, sizeof additional, out, 0, numbers, HOURS_LINE_NUMBERS));
+    CHECK(numbers[HOURS_LINE_CODE] == HOURS_NO_LINE);
+    CHECK(numbers[HOURS_LINE_PLACE] == 0);
+
+    CHECK(hours_line(empty, sizeof empty, NULL, 0, numbers, HOURS_LINE_NUMBERS));
+    CHECK(numbers[HOURS_LINE_CODE] == HOURS_DONE);
+    CHECK(numbers[HOURS_LINE_BYTES] == 0);
+
+    paint();
+    CHECK(!hours_line(always, sizeof always, out, sizeof out, numbers, HOURS_LINE_NUMBERS - 1));
+    CHECK(painted(out, sizeof out) && numbers_painted_from(0));
+}
+
 static void test_null(void)
 {
     CHECK(hours_fold(NULL, 0, NULL, 0, numbers, HOURS_FOLD_NUMBERS));
@@ -121,6 +164,7 @@ static void test_null(void)
     CHECK(!hours_fold(NULL, 0, NULL, 0, NULL, 0));
     CHECK(!hours_lookup(NULL, 0, 2000, 2, 29, 0, NULL, 0));
     CHECK(!hours_write_back(NULL, 0, NULL, 0, NULL, 0));
+    CHECK(!hours_line(NULL, 0, NULL, 0, NULL, 0));
 }
 
 int main(void)
@@ -128,6 +172,7 @@ int main(void)
     test_fold();
     test_lookup();
     test_write_back();
+    test_line();
     test_null();
     return failures == 0 ? EXIT_SUCCESS : EXIT_FAILURE;
 }

@@ -1,7 +1,7 @@
-"""Document 01 written once more, plainly, from its text alone.
+"""Document 01 written once more, plainly, from its text alone, and what document 02 adds.
 
-One module for each section of the document: `sheet` (the packed sheet), `fold` (the numbers of the answer), `points`
+One module for each section of document 01: `sheet` (the packed sheet), `fold` (the numbers of the answer), `points`
 (from rules to points), `day` (from a list to a day), `groups` (from points to rules), `lookup` (the state lookup),
-`worked` (the worked days). `build` writes rules down shortly; `check` holds the computation over boxes against the
-literal reading at sampled points.
+`worked` (the worked days). `line` is 02's M-100, one line of text. `build` writes rules down shortly; `check` holds the
+computation over boxes against the literal reading at sampled points.
 """

@@ -5,7 +5,7 @@ Rests on `sheet`, `points`, `day` and `groups`.
 
 from __future__ import annotations
 
-from typing import NamedTuple
+from typing import Callable, NamedTuple
 
 from .day import Day, day_of
 from .groups import folded_rules
@@ -47,9 +47,14 @@ def fold(sheet: bytes, room: int) -> tuple[Folded, bytes]:
 
 def write_back(sheet: bytes, room: int) -> tuple[Written, bytes]:
     """A sheet read and written again."""
+    return written(write_sheet, sheet, room)
+
+
+def written(write: Callable[[list[Rule]], bytes], sheet: bytes, room: int) -> tuple[Written, bytes]:
+    """The three numbers of an entry that writes a sheet or text, and its bytes; what writes the rules may refuse them."""
     try:
         rules, _ = read_sheet(sheet)
-        result = checked_room(write_sheet(rules), room)
+        result = checked_room(write(rules), room)
     except Refusal as refusal:
         return Written(refusal.code, 0, refusal.place), b""
     return Written(0, len(result), 0), result

@@ -1,15 +1,19 @@
 """The worked days of document 01, and the cases it says to run, as rules that go in and what comes out.
 
 `FOLDS` holds those whose folded rules the document tells; `RUNS` those of which it tells only code and place, or what
-drains. Rests on `build`; `check_worked` holds the fold and the lookup against them.
+drains. `LINES` and `NO_LINES` are worked by hand from 02's words on the line (M-100). Rests on `build`; `check_worked`
+holds the fold, the lookup and the line against them.
 """
 
 from __future__ import annotations
 
 from .build import boxes_rule, fixed, hours, plain_rule, weekdays
 from .fold import fold
+from .line import NO_LINE, line
 from .lookup import lookup
-from .sheet import ADDITIONAL, CLOSED, NO_REPEATS, UNKNOWN, Months, Rule, Span, Time, Week, Year, write_sheet
+from .sheet import (
+    ADDITIONAL, CLOSED, FALLBACK, NO_REPEATS, UNKNOWN, Holiday, Months, Rule, Span, Time, Week, Year, write_sheet,
+)
 
 MO, TU, WE, TH, FR, SA, SU = range(7)
 ROOM = 65536
@@ -109,6 +113,60 @@ RUNS: dict[str, tuple[list[Rule], tuple[int, int, int]]] = {
 # A date at noon, and the code of its lookup in the example sheet, which is Open all day.
 LOOKUPS = (((2000, 2, 29, 720), 0), ((1900, 2, 29, 720), 8))
 
+# Name: rules, and their line.
+LINES: dict[str, tuple[list[Rule], str]] = {
+    "no rules": (FOLDS["P1"][0], ""),
+    "P2": (FOLDS["P2"][0], "Mo-Fr 10:00-18:00; Tu 12:00-13:00 off"),
+    "P2 folded": (FOLDS["P2"][1], "Mo,We-Fr 10:00-18:00; Tu 10:00-12:00,13:00-18:00"),
+    "P4": (FOLDS["P4"][0], "Fr-Mo 10:00-18:00"),
+    "P6": (FOLDS["P6"][0], "week 50-02 10:00-18:00"),
+    "P6 folded": (FOLDS["P6"][1], "week 01-02,50-53 10:00-18:00"),
+    "P7": (FOLDS["P7"][0], "week 53 10:00-18:00"),
+    "P10": (FOLDS["P10"][0], "08:00-18:00, 10:00-11:00+ unknown, 12:00-13:00 unknown"),
+    "a rule left": (FOLDS["a rule left"][0], "Fr-Th 10:00-18:00; 18:00-24:01"),
+    "18:00-18:00": (RUNS["18:00-18:00"][0], "18:00-18:00"),
+    "to 48:00": ([plain_rule(spans=(hours(24, 48), hours(48, 48, open_end=1)))], "24:00-48:00,48:00-48:00+"),
+    "equal ends and steps": (
+        [plain_rule(years=(Year(2020, 2020, 1), Year(2020, 2020, 2)), weeks=(Week(9, 9, 10), Week(9, 9, 1)))],
+        "2020,2020-2020/2 week 09-09/10,09 10:00-18:00",
+    ),
+    "each kind with a comment": (
+        [plain_rule(comment=1), plain_rule(kind=CLOSED, comment=20), plain_rule(kind=UNKNOWN, comment=65535)],
+        '10:00-18:00 open "1"; 10:00-18:00 off "20"; 10:00-18:00 unknown "65535"',
+    ),
+    "every part": (
+        [
+            plain_rule(
+                comment=1, years=(Year(2024, 1900, 100),), monthdays=(Months(11, 2),), weeks=(Week(52, 52, 1),),
+                weekdays=(weekdays(SA, SA),), spans=(fixed(1, 1439), hours(48, 48, open_end=1)),
+            ),
+            plain_rule(operator=FALLBACK, years=(Year(1900, 9999, 1),), weekdays=(weekdays(MO, SU),), spans=(fixed(1, 2),)),
+        ],
+        '2024-1900/100 Nov-Feb week 52 Sa 00:01-23:59,48:00-48:00+ open "1" || 1900-9999 Mo-Su 00:01-00:02',
+    ),
+    "every operator": (
+        [
+            plain_rule(
+                comment=10, years=(Year(2024, 9999, 65535),), monthdays=(Months(11, 1),), weekdays=(weekdays(TH, SA),),
+                spans=(hours(18, 20),),
+            ),
+            additional(years=(Year(8870, 8870, 1),), weeks=(Week(3, 15, 1),), spans=(hours(1, 9),)),
+            plain_rule(operator=FALLBACK, kind=UNKNOWN, comment=9167, weekdays=(weekdays(SA, MO),), spans=(hours(0, 9),)),
+        ],
+        '2024-9999/65535 Nov-Jan Th-Sa 18:00-20:00 open "10", 8870 week 03-15 01:00-09:00'
+        ' || Sa-Mo 00:00-09:00 unknown "9167"',
+    ),
+}
+
+# Name: rules that have no line, and the index of the first that is against it.
+NO_LINES: dict[str, tuple[list[Rule], int]] = {
+    "P9": (FOLDS["P9"][0], 0),
+    "no spans, third": ([plain_rule(), plain_rule(), plain_rule(spans=())], 2),
+    "variable, then no spans": ([plain_rule(), plain_rule(spans=(variable_to(1440),)), plain_rule(spans=())], 1),
+    "first not Normal, then a holiday": ([additional(), plain_rule(weekdays=(Holiday(0, 0),))], 0),
+    "repeats of 0 minutes": ([plain_rule(), additional(spans=(fixed(600, 1080, repeats=0),))], 1),
+}
+
 
 def check_worked() -> None:
     """Raises an assertion at the first case that comes out otherwise."""
@@ -122,3 +180,7 @@ def check_worked() -> None:
     assert (answer, result) == ((0, 1, 1, 0, 15, 0), EXAMPLE)
     for date, code in LOOKUPS:
         assert lookup(EXAMPLE, *date) == (code, 0, 0, 0), date
+    for name, (given, wanted) in LINES.items():
+        assert line(write_sheet(given), ROOM) == ((0, len(wanted), 0), wanted.encode()), name
+    for name, (given, place) in NO_LINES.items():
+        assert line(write_sheet(given), ROOM) == ((NO_LINE, 0, place), b""), name

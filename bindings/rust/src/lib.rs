@@ -1,8 +1,9 @@
 //! The fold of landing-site hours: a safe crate over the proved archive `libhours.a`.
 //!
 //! A packed sheet holds rules, one changing another. [`fold`] folds them up to the first one that can't be folded exactly and copies
-//! those from there on; [`lookup`] tells the state at a minute; [`write_back`] reads a sheet and writes it again. What each answers is
-//! proved for every byte string, date and buffer, so a sheet may hold anything. include/hours.h says the same for C.
+//! those from there on; [`lookup`] tells the state at a minute; [`write_back`] reads a sheet and writes it again; [`line()`] writes it as
+//! text. What each answers is proved for every byte string, date and buffer, so a sheet may hold anything. include/hours.h says the same
+//! for C.
 //!
 //! Nothing is kept between calls and nothing is allocated: threads may call at once. The stack must have [`STACK`] bytes left.
 //!
@@ -16,6 +17,9 @@
 //!
 //! let date = hours::Date { year: 2000, month: 2, day: 29 };
 //! assert_eq!(hours::lookup(&sheet, date, 720)?.kind, hours::Kind::Open);
+//!
+//! let bytes = hours::line(&sheet, &mut out)?;
+//! assert_eq!(out[..bytes], *b"00:00-24:00");
 //! # Ok::<(), hours::Refusal>(())
 //! ```
 
@@ -138,7 +142,25 @@ pub fn lookup(sheet: &[u8], date: Date, minute: u16) -> Result<State, Refusal> {
 ///
 /// Any refusal by codes 1 to 4 and 7, the first reason met. `out` is then unchanged.
 pub fn write_back(sheet: &[u8], out: &mut [u8]) -> Result<usize, Refusal> {
-    let [code, bytes, place] = numbers(|lent| archive::write_back(sheet, out, lent));
+    written(|lent| archive::write_back(sheet, out, lent))
+}
+
+/// Writes a sheet as one line of text, in the notation of the public OpenStreetMap opening_hours specification, to the front of `out`,
+/// and answers the bytes written; later bytes are unchanged. The text is ASCII; no rules give an empty line.
+///
+/// The sheet itself is written and not its fold: to show a fold, [`fold`] the sheet first. A fold that has more rules, items or spans than
+/// a sheet may is refused by code 4. An empty `out` is refused with the bytes needed.
+///
+/// # Errors
+///
+/// Any refusal by codes 1 to 4, 7 and 10, the first reason met. `out` is then unchanged.
+pub fn line(sheet: &[u8], out: &mut [u8]) -> Result<usize, Refusal> {
+    written(|lent| archive::line(sheet, out, lent))
+}
+
+/// The bytes that an export wrote.
+fn written(export: impl FnOnce(&mut [u64]) -> bool) -> Result<usize, Refusal> {
+    let [code, bytes, place] = numbers(export);
 
     done(code, place)?;
     Ok(size(bytes))

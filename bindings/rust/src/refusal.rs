@@ -1,10 +1,10 @@
-//! Why a sheet, a buffer or a date is refused: the codes of document 01's table, each with its place.
+//! Why a sheet, a buffer or a date is refused: the codes of document 01's table and those that 02 adds, each with its place.
 
 use core::error::Error;
 use core::fmt::{Display, Formatter, Result};
 
-/// The first reason to refuse, in the order 1, 2 and 4 as met from the first bit on, then 3, 8, 5, 6, 9, 7. Bits and rules are counted
-/// from 0, bits from the most significant one on.
+/// The first reason to refuse, in the order 1, 2 and 4 as met from the first bit on, then 3, 8, 5, 6, 9, 10, 7. Bits and rules are
+/// counted from 0, bits from the most significant one on.
 #[derive(Clone, Copy, Debug, PartialEq, Eq)]
 pub enum Refusal {
     /// 1: a field runs past the end.
@@ -46,10 +46,16 @@ pub enum Refusal {
     NoDate,
     /// 9: a lookup where a rule is left, or the point's list holds a span that isn't simple.
     Unsettled,
+    /// 10: a line where some rule holds a month range of a year, a reference to a dated range, a holiday, a weekday offset, an unset nth
+    /// bit, a variable time or repeats, or has no spans, or where the first rule isn't Normal.
+    NoLine {
+        /// The first such rule's index.
+        rule: usize,
+    },
 }
 
 impl Refusal {
-    /// The refusal of a code from 1 to 9. The archive answers no other.
+    /// The refusal of a code from 1 to 10. The archive answers no other.
     pub(crate) fn of(code: u64, place: usize) -> Self {
         match code {
             1 => Self::PastEnd { bit: place },
@@ -61,11 +67,12 @@ impl Refusal {
             7 => Self::NoRoom { needed: place },
             8 => Self::NoDate,
             9 => Self::Unsettled,
+            10 => Self::NoLine { rule: place },
             _ => unreachable!("the archive refuses by no code {code}"),
         }
     }
 
-    /// The code in document 01's table, 1 to 9.
+    /// The code, 1 to 10.
     #[must_use]
     pub fn code(self) -> u8 {
         match self {
@@ -78,10 +85,11 @@ impl Refusal {
             Self::NoRoom { .. } => 7,
             Self::NoDate => 8,
             Self::Unsettled => 9,
+            Self::NoLine { .. } => 10,
         }
     }
 
-    /// The place in that table: a bit, a number of boxes, a rule's index, a number of bytes, or 0.
+    /// The code's place: a bit, a number of boxes, a rule's index, a number of bytes, or 0.
     #[must_use]
     pub fn place(self) -> usize {
         match self {
@@ -91,7 +99,8 @@ impl Refusal {
             | Self::OverLimit { bit: place }
             | Self::ManyBoxes { boxes: place }
             | Self::LongList { rule: place }
-            | Self::NoRoom { needed: place } => place,
+            | Self::NoRoom { needed: place }
+            | Self::NoLine { rule: place } => place,
             Self::NoDate | Self::Unsettled => 0,
         }
     }
@@ -113,6 +122,7 @@ impl Display for Refusal {
             Self::NoRoom { needed } => write!(text, "the buffer needs {needed} bytes"),
             Self::NoDate => write!(text, "there is no such date or minute"),
             Self::Unsettled => write!(text, "the rules do not settle the state"),
+            Self::NoLine { rule } => write!(text, "rule {rule} can't be said in a line"),
         }
     }
 }

@@ -6,7 +6,7 @@ use std::path::Path;
 use std::{fs, thread};
 
 use common::bytes;
-use hours::{Date, Refusal, STACK, fold, lookup};
+use hours::{Date, Refusal, STACK, fold, line, lookup, write_back};
 
 /// The fields of each stored case, `-` as no bytes.
 fn check_cases(file: &str, check: fn(&[&str])) {
@@ -39,23 +39,57 @@ fn refused(refusal: Refusal, others: usize) -> Vec<usize> {
     numbers
 }
 
+/// What stands in a buffer before a call, so that a write shows.
+const PAINT: u8 = 0xC3;
+
+/// The numbers of an answer, and how many bytes it wrote.
+type Answer = (Vec<usize>, usize);
+
+/// A sheet, a room, numbers and a result held against the numbers and the bytes that a call gives.
+fn check_writing(fields: &[&str], call: fn(&[u8], &mut [u8]) -> Answer) {
+    let [sheet, room, told @ .., result] = fields else {
+        panic!("a writing has a sheet, a room, numbers and a result");
+    };
+    let mut out = vec![PAINT; numbers(&[room])[0]];
+
+    let (answer, written) = call(&bytes(sheet), &mut out);
+    assert_eq!(answer, numbers(told), "{sheet}");
+    assert_eq!(out[..written], bytes(result), "{sheet}");
+    assert!(out[written..].iter().all(|byte| *byte == PAINT), "{sheet}");
+}
+
+/// The answer of a write-back or a line: code, bytes and place.
+fn written(done: Result<usize, Refusal>) -> Answer {
+    match done {
+        Ok(bytes) => (vec![0, bytes, 0], bytes),
+        Err(refusal) => (refused(refusal, 1), 0),
+    }
+}
+
 #[test]
 fn folds() {
     check_cases("fold.txt", |fields| {
-        let [sheet, room, told @ .., result] = fields else {
-            panic!("a fold has a sheet, a room, numbers and a result");
-        };
-        let mut out = vec![0; numbers(&[room])[0]];
-
-        let (answer, written) = match fold(&bytes(sheet), &mut out) {
+        check_writing(fields, |sheet, out| match fold(sheet, out) {
             Ok(done) => {
                 let answer = vec![0, done.drained, done.emitted, done.left, done.bytes, 0];
                 (answer, done.bytes)
             }
             Err(refusal) => (refused(refusal, 4), 0),
-        };
-        assert_eq!(answer, numbers(told), "{sheet}");
-        assert_eq!(out[..written], bytes(result), "{sheet}");
+        });
+    });
+}
+
+#[test]
+fn write_backs() {
+    check_cases("back.txt", |fields| {
+        check_writing(fields, |sheet, out| written(write_back(sheet, out)));
+    });
+}
+
+#[test]
+fn lines() {
+    check_cases("line.txt", |fields| {
+        check_writing(fields, |sheet, out| written(line(sheet, out)));
     });
 }
 

@@ -1,9 +1,10 @@
-//! Document 01's worked days, and a refusal by each code. The sheets are those of crates/definition/specs/Worked.antt.
+//! Document 01's worked days, their lines by 02, and a refusal by each code. The sheets of the days are those of
+//! crates/definition/specs/Worked.antt.
 
 mod common;
 
 use common::bytes;
-use hours::{Date, Folded, Kind, Refusal, State, fold, lookup, write_back};
+use hours::{Date, Folded, Kind, Refusal, State, fold, line, lookup, write_back};
 
 const PAINT: u8 = 0xC3;
 const ROOM: usize = 256;
@@ -22,6 +23,12 @@ const LEAVES_FOLDED: &str = "00020000000000000000044B043800000000000010000104302
 const BOXES_1152: &str = "000100000020040100000476C1DB0000476E1DB800047701DC000047721DC800047741DD000047761DD800047781DE0000477A1DE80004110CC551DC208044100461804820044B043800";
 /// 33 entries on a point after the second rule.
 const ENTRIES_33: &str = "0002000000000000001004000007FE25821C0800000001600006008220882208822088220882208822240003FF120001FF890000FFC4B04380";
+
+/// Every part of a rule and every sort of number, then a Fallback.
+const EVERY_PART: &str = "00020000100401004010087E81DB00190B2D34015A0001FF8004B3E2D016814000000200000008023B64E1E0002180003FF0008008";
+const EVERY_PART_LINE: &str = "2024-1900/100 Nov-Feb week 52 Sa 00:01-23:59,48:00-48:00+ open \"1\" || 1900-9999 Mo-Su 00:01-00:02";
+/// 00:00-24:00, then a Normal Open rule with 0 spans.
+const SECOND_WITHOUT_SPANS: &str = "00020000000000000000040005A0000000000000000000";
 
 const LEAP_DAY: Date = Date {
     year: 2000,
@@ -69,7 +76,30 @@ fn unreadable(sheet: &str, refusal: Refusal) {
 
     let mut out = [PAINT; ROOM];
     assert_eq!(write_back(&bytes(sheet), &mut out), Err(refusal));
+    assert_eq!(line(&bytes(sheet), &mut out), Err(refusal));
     assert_eq!(out, [PAINT; ROOM]);
+}
+
+type Writing = fn(&[u8], &mut [u8]) -> Result<usize, Refusal>;
+
+/// A writing that is done, with bytes to spare, exactly enough, and one too few.
+fn writes(writing: Writing, sheet: &[u8], result: &[u8]) {
+    let needed = result.len();
+
+    let mut out = [PAINT; ROOM];
+    assert_eq!(writing(sheet, &mut out), Ok(needed));
+    assert_eq!(out[..needed], *result);
+    assert!(out[needed..].iter().all(|byte| *byte == PAINT));
+
+    let mut full = vec![PAINT; needed];
+    assert_eq!(writing(sheet, &mut full), Ok(needed));
+    assert_eq!(full, result);
+
+    if needed > 0 {
+        let mut short = vec![PAINT; needed - 1];
+        assert_eq!(writing(sheet, &mut short), Err(Refusal::NoRoom { needed }));
+        assert!(short.iter().all(|byte| *byte == PAINT));
+    }
 }
 
 #[test]
@@ -84,19 +114,35 @@ fn worked_days_fold() {
 fn an_accepted_sheet_is_written_back() {
     for sheet in ["0000", ALWAYS, P2, P9, LEAVES, BOXES_1152, ENTRIES_33] {
         let sheet = bytes(sheet);
-        let needed = sheet.len();
+        writes(write_back, &sheet, &sheet);
+    }
+}
 
+#[test]
+fn a_sheet_is_written_as_a_line() {
+    for (sheet, text) in [
+        ("0000", ""),
+        (ALWAYS, "00:00-24:00"),
+        (P2, "Mo-Fr 10:00-18:00; Tu 12:00-13:00 off"),
+        (
+            P2_FOLDED,
+            "Mo,We-Fr 10:00-18:00; Tu 10:00-12:00,13:00-18:00",
+        ),
+        (LEAVES, "Fr-Th 10:00-18:00; week 01-03/2 10:00-18:00"),
+        (EVERY_PART, EVERY_PART_LINE),
+    ] {
+        writes(line, &bytes(sheet), text.as_bytes());
+    }
+}
+
+#[test]
+fn a_sheet_without_a_line_is_refused_at_its_rule() {
+    for (sheet, rule) in [(P9, 0), (SECOND_WITHOUT_SPANS, 1)] {
         let mut out = [PAINT; ROOM];
-        assert_eq!(write_back(&sheet, &mut out), Ok(needed));
-        assert_eq!(out[..needed], sheet);
-        assert!(out[needed..].iter().all(|byte| *byte == PAINT));
-
-        let mut short = vec![PAINT; needed - 1];
-        assert_eq!(
-            write_back(&sheet, &mut short),
-            Err(Refusal::NoRoom { needed })
-        );
-        assert!(short.iter().all(|byte| *byte == PAINT));
+        assert_eq!(line(&bytes(sheet), &mut out), Err(Refusal::NoLine { rule }));
+        assert_eq!(out, [PAINT; ROOM]);
+        // The sheet is refused before the buffer is.
+        assert_eq!(line(&bytes(sheet), &mut []), Err(Refusal::NoLine { rule }));
     }
 }
 

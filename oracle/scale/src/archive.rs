@@ -1,4 +1,4 @@
-//! The archive's three functions. A lent slice is a pointer and a length in C.
+//! The archive's four functions. A lent slice is a pointer and a length in C.
 
 /// The sheet, the output buffer and the numbers, each as a pointer and a length.
 type Exported = unsafe extern "C" fn(*const u8, usize, *mut u8, usize, *mut u64, usize) -> bool;
@@ -15,6 +15,8 @@ unsafe extern "C" {
         _: usize,
     ) -> bool;
 
+    fn hours_line(_: *const u8, _: usize, _: *mut u8, _: usize, _: *mut u64, _: usize) -> bool;
+
     fn hours_lookup(
         sheet: *const u8,
         sheet_length: usize,
@@ -27,7 +29,7 @@ unsafe extern "C" {
     ) -> bool;
 }
 
-/// A function of the archive that writes a sheet.
+/// A function of the archive that writes a sheet or text.
 pub type Writing = fn(&[u8], &mut [u8], &mut [u64]) -> bool;
 
 /// Code, drained, emitted, left, bytes and place go into `numbers`; no where it is too short for them.
@@ -38,6 +40,11 @@ pub fn fold(sheet: &[u8], out: &mut [u8], numbers: &mut [u64]) -> bool {
 /// Code, bytes and place go into `numbers`; no where it is too short for them.
 pub fn write_back(sheet: &[u8], out: &mut [u8], numbers: &mut [u64]) -> bool {
     lend(hours_write_back, sheet, out, numbers)
+}
+
+/// Code, bytes and place go into `numbers`; no where it is too short for them.
+pub fn line(sheet: &[u8], out: &mut [u8], numbers: &mut [u64]) -> bool {
+    lend(hours_line, sheet, out, numbers)
 }
 
 fn lend(function: Exported, sheet: &[u8], out: &mut [u8], numbers: &mut [u64]) -> bool {

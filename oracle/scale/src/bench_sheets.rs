@@ -13,7 +13,7 @@ pub struct BenchSheet {
 }
 
 pub fn bench_sheets() -> Vec<BenchSheet> {
-    let sheets = [
+    named([
         ("one rule", vec![open(10, 18).on(0, 4)]),
         ("two rules (P2)", worked_day_p2()),
         ("20 rules of a landing site", landing_site()),
@@ -24,8 +24,10 @@ pub fn bench_sheets() -> Vec<BenchSheet> {
             "52 rules, 1,024 groups of lists of 32 rules",
             many_groups(28),
         ),
-    ];
+    ])
+}
 
+pub fn named<const N: usize>(sheets: [(&'static str, Vec<Rule>); N]) -> Vec<BenchSheet> {
     sheets
         .map(|(name, rules)| BenchSheet {
             name,
@@ -99,7 +101,7 @@ impl Rule {
     }
 }
 
-fn worked_day_p2() -> Vec<Rule> {
+pub fn worked_day_p2() -> Vec<Rule> {
     vec![
         open(10, 18).on(MONDAY, FRIDAY),
         closed(12, 13).on(TUESDAY, TUESDAY),
@@ -107,7 +109,7 @@ fn worked_day_p2() -> Vec<Rule> {
 }
 
 /// Seasons, holidays, years of works, comments, an evening from dusk on and one with an open end: 560 boxes.
-fn landing_site() -> Vec<Rule> {
+pub fn landing_site() -> Vec<Rule> {
     let from_dusk = Span {
         start: Time {
             tag: 1,
@@ -177,7 +179,7 @@ const MONTH_CUTS: [u32; 9] = [1, 2, 4, 5, 7, 8, 10, 11, 13];
 const YEAR_CUTS: [u32; 9] = [1900, 2020, 2021, 2022, 2023, 2024, 2025, 2026, 10000];
 
 /// Rules over some stretch of intervals in each dimension, every other one Additional: 4 by 4 by 8 by 8 boxes.
-fn all_dimensions() -> Vec<Rule> {
+pub fn all_dimensions() -> Vec<Rule> {
     let mut random = Random::new(64, 1024);
     let mut stretch = |cuts: &[u32]| {
         let (one, other) = (random.below(cuts.len()), random.below(cuts.len() - 1));

@@ -2,7 +2,7 @@
 
 use crate::archive::{self, Writing};
 use crate::dates::moment;
-use crate::expected::{Answer, FOLD_NUMBERS, LOOKUP_NUMBERS, Sheet, WRITE_BACK_NUMBERS};
+use crate::expected::{Answer, FOLD_NUMBERS, LOOKUP_NUMBERS, Sheet, WRITTEN_NUMBERS};
 use crate::random::Random;
 use crate::tally::Tally;
 
@@ -20,7 +20,7 @@ const NUMBER_FILL: u64 = 0xA5A5_5A5A_A5A5_5A5A;
 /// Numbers lent beyond those that are answered.
 const NUMBERS_MORE: usize = 2;
 
-/// Compares the fold, the write-back and some lookups of a sheet. What the fold answered goes into the tally.
+/// Compares the fold, the write-back, the line and some lookups of a sheet. What was expected goes into the tally.
 pub fn compare(bytes: &[u8], random: &mut Random, tally: &mut Tally) -> Result<(), Difference> {
     let sheet = Sheet::new(bytes);
     let folded = sheet.fold();
@@ -41,6 +41,10 @@ pub fn compare(bytes: &[u8], random: &mut Random, tally: &mut Tally) -> Result<(
         random,
         tally,
     )?;
+
+    let line = sheet.line();
+    tally.line(&line.numbers, sheet.unsaid());
+    compare_rooms("line", archive::line, bytes, &line, random, tally)?;
 
     let (rules, lookups) = match sheet.accepted() {
         Ok(accepted) => (accepted.rules(), LOOKUPS),
@@ -130,9 +134,10 @@ fn compare_lookup(sheet: &[u8], moment: [u64; 4], expected: &Answer) -> Result<(
 
 /// A slice too short for the numbers is answered no, with nothing written anywhere.
 fn compare_short_numbers(sheet: &[u8], random: &mut Random) -> Result<(), Difference> {
-    let writings: [(Writing, usize); 2] = [
+    let writings: [(Writing, usize); 3] = [
         (archive::fold, FOLD_NUMBERS),
-        (archive::write_back, WRITE_BACK_NUMBERS),
+        (archive::write_back, WRITTEN_NUMBERS),
+        (archive::line, WRITTEN_NUMBERS),
     ];
     let room = sheet.len();
     let untouched = |length| (false, vec![NUMBER_FILL; length], vec![FILLS[0]; room]);

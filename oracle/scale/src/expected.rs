@@ -1,4 +1,4 @@
-//! What document 01 expects of a sheet: refusals and lookups by the modules beside this one, folds by the Rust.
+//! What documents 01 and 02 expect of a sheet: refusals, lookups and lines by the modules beside this one, folds by the Rust.
 //!
 //! Where the sheet stands for a value of the Rust, the Rust folds it whole. It has no years and weeks that wrap, and turns some steps into
 //! 1 (docs/DIFFERENCES.md). Where a sheet has such items, the Rust folds the drained rules alone, those that wrap as their two halves, and
@@ -9,6 +9,7 @@ use oracle::fold::{Folded, fold_sheet, read_expression};
 
 use crate::calendar::point_of;
 use crate::layout::Refusal;
+use crate::line::{Unsaid, first_unsaid, line_of};
 use crate::points::{
     DIMENSIONS, Extent, Selector, check_limits, is_simple, list_at, selector_of, split, stops,
 };
@@ -22,9 +23,9 @@ pub struct Answer {
     pub result: Vec<u8>,
 }
 
-/// How many numbers each function answers. Code comes first and place last.
+/// How many numbers a fold, a write-back or line, and a lookup answer. Code comes first and place last.
 pub const FOLD_NUMBERS: usize = 6;
-pub const WRITE_BACK_NUMBERS: usize = 3;
+pub const WRITTEN_NUMBERS: usize = 3;
 pub const LOOKUP_NUMBERS: usize = 4;
 
 impl Answer {
@@ -41,6 +42,16 @@ impl Answer {
 
     fn of(outcome: Result<Self, Refusal>, count: usize) -> Self {
         outcome.unwrap_or_else(|refusal| Self::refused(refusal, count))
+    }
+
+    /// Code, bytes and place of a sheet or text that was written.
+    fn written(outcome: Result<Vec<u8>, Refusal>) -> Self {
+        let done = outcome.map(|result| Self {
+            numbers: vec![0, result.len() as u64, 0],
+            result,
+        });
+
+        Self::of(done, WRITTEN_NUMBERS)
     }
 
     /// The answer where the buffer has so many bytes.
@@ -160,12 +171,21 @@ impl<'a> Sheet<'a> {
 
     /// The sheet written back into an ample buffer: reading and writing are inverse.
     pub fn write_back(&self) -> Answer {
-        let written = self.accepted().map(|_| Answer {
-            numbers: vec![0, self.bytes.len() as u64, 0],
-            result: self.bytes.into(),
-        });
+        Answer::written(self.accepted().map(|_| self.bytes.into()))
+    }
 
-        Answer::of(written, WRITE_BACK_NUMBERS)
+    /// The sheet's line in an ample buffer.
+    pub fn line(&self) -> Answer {
+        let line = self
+            .accepted()
+            .and_then(|accepted| line_of(accepted.rules()));
+
+        Answer::written(line.map(String::into_bytes))
+    }
+
+    /// Why an accepted sheet has no line.
+    pub fn unsaid(&self) -> Option<Unsaid> {
+        first_unsaid(self.accepted().ok()?.rules())
     }
 
     /// The lookup at a year, month, day and minute; it writes no bytes.

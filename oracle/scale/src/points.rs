@@ -68,7 +68,7 @@ pub fn stops(rule: &Rule) -> bool {
         || rule.spans.iter().any(may_reach_tomorrow)
 }
 
-fn is_plain_weekday(item: &Weekday) -> bool {
+pub fn is_plain_weekday(item: &Weekday) -> bool {
     (
         item.tag,
         item.offset,

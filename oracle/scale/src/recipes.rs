@@ -1,24 +1,38 @@
-//! Recipes of sound sheets: drained whole, stopped, at the limits and one past them.
+//! Recipes of sound sheets: drained whole, stopped, at the limits and one past them, each anyhow or so that it has a line.
 
 use crate::points::{DIMENSIONS, LIST_LIMIT};
 use crate::random::Random;
-use crate::rule::{ITEM_LIMIT, RULE_LIMIT, Rule, fixed, months, range, weekdays};
+use crate::rule::{ITEM_LIMIT, RULE_LIMIT, Rule, Stepped, fixed, months, range, weekdays};
 use crate::stock::Stock;
 use crate::stoppers::stop;
+use crate::telling::{add_unsaid, make_sayable};
 
 /// The rules of one sheet. Half of them stay where the Rust's constructors take the values as they are.
 pub fn rules(random: &mut Random) -> Vec<Rule> {
     let recipe = random.weighed(&[
-        (60, drained as fn(&mut Stock) -> Vec<Rule>),
-        (26, stopped),
-        (4, boxes_at_the_limit),
-        (4, lists_at_the_limit),
-        (6, counts_at_the_limit),
+        (600, drained as fn(&mut Stock) -> Vec<Rule>),
+        (260, stopped),
+        (40, boxes_at_the_limit),
+        (40, lists_at_the_limit),
+        (57, counts_at_the_limit),
+        (3, all_at_the_limit),
     ]);
     let rising = random.percent(50);
+    let mut rules = recipe(&mut Stock::new(random, rising));
 
-    recipe(&mut Stock::new(random, rising))
+    if random.percent(SAYABLE_PERCENT) {
+        make_sayable(&mut rules, random, rising);
+        if random.percent(UNSAID_PERCENT) {
+            add_unsaid(&mut rules, random);
+        }
+    }
+
+    rules
 }
+
+/// How many sheets are made to have a line, and how many of those then lose it by one thing alone.
+const SAYABLE_PERCENT: usize = 45;
+const UNSAID_PERCENT: usize = 20;
 
 fn drained(stock: &mut Stock) -> Vec<Rule> {
     stock.rules()
@@ -157,4 +171,36 @@ fn counts_at_the_limit(stock: &mut Stock) -> Vec<Rule> {
     }
 
     rules
+}
+
+/// 64 rules of 16 items of each sort and 16 spans. Each has a step, so that no such rule is drawn, which would take long.
+fn all_at_the_limit(stock: &mut Stock) -> Vec<Rule> {
+    let full = |stock: &mut Stock| Rule {
+        operator: stock.random.within(0, 2),
+        years: filled(stock.random, |random| Stepped {
+            step: random.within(2, 9),
+            ..rising(random, 1900, 9980)
+        }),
+        monthdays: filled(stock.random, |random| {
+            months(random.within(1, 12), random.within(1, 12))
+        }),
+        weeks: filled(stock.random, |random| rising(random, 1, 33)),
+        weekdays: filled(stock.random, |random| {
+            weekdays(random.within(0, 6), random.within(0, 6))
+        }),
+        spans: stock.some_spans(ITEM_LIMIT),
+        ..stock.rule_of_all_days()
+    };
+
+    (0..RULE_LIMIT).map(|_| full(stock)).collect()
+}
+
+fn filled<T>(random: &mut Random, item: fn(&mut Random) -> T) -> Vec<T> {
+    (0..ITEM_LIMIT).map(|_| item(random)).collect()
+}
+
+/// A range that rises by more than any step here.
+fn rising(random: &mut Random, lowest: u32, highest: u32) -> Stepped {
+    let start = random.within(lowest, highest);
+    range(start, start + random.within(10, 19))
 }

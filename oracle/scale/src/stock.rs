@@ -141,7 +141,7 @@ impl<'a> Stock<'a> {
             }
             _ => {
                 span = Span {
-                    start: self.variable_time(),
+                    start: variable_time(self.random),
                     end: fixed_time(MIDNIGHT),
                     ..Span::default()
                 };
@@ -174,15 +174,6 @@ impl<'a> Stock<'a> {
         }
 
         sibling
-    }
-
-    pub fn variable_time(&mut self) -> Time {
-        Time {
-            tag: 1,
-            event: self.random.within(0, 3),
-            offset: self.random.of(&OFFSETS),
-            ..Time::default()
-        }
     }
 
     /// A few of the items, at times the same one twice.
@@ -234,5 +225,14 @@ impl<'a> Stock<'a> {
             .random
             .weighed(&[(6, 1), (14, 2), (30, 4), (30, 7), (15, 12), (5, 20)]);
         (0..count).map(|_| self.rule()).collect()
+    }
+}
+
+pub fn variable_time(random: &mut Random) -> Time {
+    Time {
+        tag: 1,
+        event: random.within(0, 3),
+        offset: random.of(&OFFSETS),
+        ..Time::default()
     }
 }

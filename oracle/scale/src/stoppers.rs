@@ -1,10 +1,11 @@
 //! Stoppers: each makes a draining rule into one that stops.
 
+use crate::random::Random;
 use crate::rule::{
     ALL_NTH, DATED, FALLBACK, MIDNIGHT, MONTHS_OF_YEAR, Monthday, Rule, Span, Stepped, Weekday,
     fixed, fixed_time, months, weekdays,
 };
-use crate::stock::{MINUTES, Stock, YEAR_VALUES};
+use crate::stock::{MINUTES, Stock, YEAR_VALUES, variable_time};
 
 pub fn stop(rule: &mut Rule, stock: &mut Stock) {
     match stock.random.below(7) {
@@ -17,8 +18,8 @@ pub fn stop(rule: &mut Rule, stock: &mut Stock) {
             let item = stepped(stock, 1, 40, 53, &[2, 3, 10]);
             rule.weeks.push(item);
         }
-        3 => rule.monthdays.insert(0, stopping_monthday(stock)),
-        4 => rule.weekdays.push(stopping_weekday(stock)),
+        3 => rule.monthdays.insert(0, stopping_monthday(stock.random)),
+        4 => rule.weekdays.push(stopping_weekday(stock.random)),
         _ => {
             let place = stock.random.below(rule.spans.len() + 1);
             rule.spans.insert(place, stopping_span(stock));
@@ -44,9 +45,7 @@ fn stepped(
     Stepped { start, end, step }
 }
 
-fn stopping_monthday(stock: &mut Stock) -> Monthday {
-    let random = &mut *stock.random;
-
+pub fn stopping_monthday(random: &mut Random) -> Monthday {
     match random.below(2) {
         0 => Monthday {
             tag: MONTHS_OF_YEAR,
@@ -61,8 +60,7 @@ fn stopping_monthday(stock: &mut Stock) -> Monthday {
     }
 }
 
-fn stopping_weekday(stock: &mut Stock) -> Weekday {
-    let random = &mut *stock.random;
+pub fn stopping_weekday(random: &mut Random) -> Weekday {
     let days = weekdays(random.within(0, 6), random.within(0, 6));
     let offset = random.of(&[1, 0xFFFF, 0x7FFF, 0x8000]);
     let one_missing = ALL_NTH ^ (1 << random.below(5));
@@ -90,7 +88,7 @@ fn stopping_span(stock: &mut Stock) -> Span {
     let minute = stock.random.of(&MINUTES);
     let later = stock.random.of(&[1441, 1500, 2880]);
     let no_midnight = stock.random.of(&[0, 1439, 1441, 2880]);
-    let (first_event, second_event) = (stock.variable_time(), stock.variable_time());
+    let (first_event, second_event) = (variable_time(stock.random), variable_time(stock.random));
 
     match stock.random.below(9) {
         0 => fixed(minute, later),

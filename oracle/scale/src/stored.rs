@@ -6,7 +6,7 @@ use std::path::Path;
 use oracle::bits::from_hex;
 
 use crate::archive::{self, Writing};
-use crate::expected::{Answer, FOLD_NUMBERS, LOOKUP_NUMBERS, Sheet, WRITE_BACK_NUMBERS};
+use crate::expected::{Answer, FOLD_NUMBERS, LOOKUP_NUMBERS, Sheet, WRITTEN_NUMBERS};
 
 /// Sheet, numbers and, where the file has one, result of each stored case.
 fn cases(file: &str, numbers: usize) -> Vec<(Vec<u8>, Vec<u64>, Vec<u8>)> {
@@ -68,12 +68,16 @@ fn folds() {
 
 #[test]
 fn write_backs() {
-    check_writing(
-        "back.txt",
-        archive::write_back,
-        WRITE_BACK_NUMBERS,
-        |sheet| sheet.write_back(),
-    );
+    check_writing("back.txt", archive::write_back, WRITTEN_NUMBERS, |sheet| {
+        sheet.write_back()
+    });
+}
+
+#[test]
+fn lines() {
+    check_writing("line.txt", archive::line, WRITTEN_NUMBERS, |sheet| {
+        sheet.line()
+    });
 }
 
 #[test]

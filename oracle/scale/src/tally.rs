@@ -1,9 +1,13 @@
-//! What a run met: how often each code, and how many rules were drained, emitted and left.
+//! What a run met: how often each code and each reason, how many rules were drained, emitted and left, how long lines were.
 
 use std::fmt::{Display, Formatter, Result};
 
+use crate::line::{REASONS, Unsaid};
 use crate::points::{BOX_LIMIT, Extent, LIST_LIMIT};
 use crate::rule::{ITEM_LIMIT, RULE_LIMIT, Rule};
+
+/// Codes go from 0 to 10.
+const CODES: usize = 11;
 
 /// Numbers by their count of binary digits: 0, 1, 2 to 3, 4 to 7 and so on.
 #[derive(Default)]
@@ -72,6 +76,32 @@ fn day_items(rule: &Rule) -> [usize; 4] {
     ]
 }
 
+/// What lines came out as.
+#[derive(Default)]
+struct Lines {
+    codes: [u64; CODES],
+    reasons: [u64; REASONS.len()],
+    bytes: Sizes,
+}
+
+impl Lines {
+    fn add(&mut self, other: &Self) {
+        add_each(&mut self.codes, &other.codes);
+        add_each(&mut self.reasons, &other.reasons);
+        add_each(&mut self.bytes.0, &other.bytes.0);
+    }
+}
+
+impl Display for Lines {
+    fn fmt(&self, f: &mut Formatter<'_>) -> Result {
+        let reasons = REASONS.map(|(name, _)| name).into_iter().zip(self.reasons);
+
+        writeln!(f, "  lines by code: {}", by_code(&self.codes))?;
+        writeln!(f, "  lines refused by 10 for {}", met(reasons))?;
+        write!(f, "  line bytes {}", self.bytes)
+    }
+}
+
 /// The counts of the sheets of one sort, sound or damaged.
 #[derive(Default)]
 pub struct Tally {
@@ -79,8 +109,9 @@ pub struct Tally {
     pub short_buffers: u64,
     folded_whole: u64,
     at_limits: AtLimits,
-    fold_codes: [u64; 10],
-    lookup_codes: [u64; 10],
+    fold_codes: [u64; CODES],
+    lookup_codes: [u64; CODES],
+    lines: Lines,
     sheet_bytes: Sizes,
     drained: Sizes,
     emitted: Sizes,
@@ -109,6 +140,17 @@ impl Tally {
         self.lookup_codes[numbers[0] as usize] += 1;
     }
 
+    pub fn line(&mut self, numbers: &[u64], unsaid: Option<Unsaid>) {
+        self.lines.codes[numbers[0] as usize] += 1;
+
+        if numbers[0] == 0 {
+            self.lines.bytes.count(numbers[1]);
+        }
+        if let Some(unsaid) = unsaid {
+            self.lines.reasons[unsaid.reason] += 1;
+        }
+    }
+
     pub fn add(&mut self, other: &Self) {
         self.sheets += other.sheets;
         self.short_buffers += other.short_buffers;
@@ -116,6 +158,7 @@ impl Tally {
         add_each(&mut self.at_limits.0, &other.at_limits.0);
         add_each(&mut self.fold_codes, &other.fold_codes);
         add_each(&mut self.lookup_codes, &other.lookup_codes);
+        self.lines.add(&other.lines);
         add_each(&mut self.sheet_bytes.0, &other.sheet_bytes.0);
         add_each(&mut self.drained.0, &other.drained.0);
         add_each(&mut self.emitted.0, &other.emitted.0);
@@ -142,13 +185,20 @@ impl Display for Tally {
         writeln!(f, "  sheet bytes {}", self.sheet_bytes)?;
         writeln!(f, "  drained {}", self.drained)?;
         writeln!(f, "  emitted {}", self.emitted)?;
-        write!(f, "  left {}", self.left)
+        writeln!(f, "  left {}", self.left)?;
+        write!(f, "{}", self.lines)
     }
 }
 
-fn by_code(codes: &[u64; 10]) -> String {
-    let met = codes.iter().enumerate().filter(|(_, times)| **times > 0);
-    met.map(|(code, times)| format!("{code}: {times}"))
+fn by_code(codes: &[u64; CODES]) -> String {
+    met(codes.iter().copied().enumerate())
+}
+
+/// What was met at all, and how often.
+fn met(counts: impl Iterator<Item = (impl Display, u64)>) -> String {
+    counts
+        .filter(|(_, times)| *times > 0)
+        .map(|(name, times)| format!("{name}: {times}"))
         .collect::<Vec<_>>()
         .join(", ")
 }

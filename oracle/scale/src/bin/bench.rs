@@ -1,6 +1,7 @@
-//! The bench: `bench` times the archive and the Rust on the same sheets, from sheet bytes to result bytes, and prints a table.
-//! `bench --sheets` prints the sheets, in hex and in the Rust's own words; `bench --profile SHEET RUNS` folds one of them, by its number
-//! from 1, that many times by the archive alone, for a profiler.
+//! The bench: `bench` times the archive and the Rust on the same sheets, from sheet bytes to result bytes, and prints a table; and lines
+//! of text, for which the Rust has no writer, by the archive alone, in another. `bench --sheets` prints the sheets of the first, in hex
+//! and in the Rust's own words; `bench --profile SHEET RUNS` folds one of them, by its number from 1, that many times by the archive
+//! alone, for a profiler.
 
 use std::hint::black_box;
 use std::process::ExitCode;
@@ -8,8 +9,9 @@ use std::time::{Duration, Instant};
 
 use oracle::bits::to_hex;
 use oracle::fold::{normalize_sheet, read_expression};
-use scale::archive;
+use scale::archive::{self, Writing};
 use scale::bench_sheets::{BenchSheet, bench_sheets};
+use scale::line_sheets::line_sheets;
 use scale::stack::stack_of;
 
 fn main() -> ExitCode {
@@ -17,7 +19,10 @@ fn main() -> ExitCode {
     let words: Vec<&str> = words.iter().map(String::as_str).collect();
 
     match words.as_slice() {
-        [] => print_times(),
+        [] => {
+            print_times();
+            print_line_times();
+        }
         ["--sheets"] => bench_sheets().iter().for_each(print_sheet),
         ["--profile", sheet, runs] => match (sheet.parse(), runs.parse()) {
             (Ok(sheet), Ok(runs)) => profile(sheet, runs),
@@ -59,9 +64,18 @@ fn profile(sheet: usize, runs: usize) {
 
 /// The six numbers of a fold.
 fn fold(sheet: &[u8], out: &mut [u8]) -> [u64; 6] {
-    let mut numbers = [0; 6];
+    numbers(archive::fold, sheet, out)
+}
+
+/// Code, bytes and place of a line.
+fn line(sheet: &[u8], out: &mut [u8]) -> [u64; 3] {
+    numbers(archive::line, sheet, out)
+}
+
+fn numbers<const N: usize>(function: Writing, sheet: &[u8], out: &mut [u8]) -> [u64; N] {
+    let mut numbers = [0; N];
     assert!(
-        archive::fold(sheet, out, &mut numbers),
+        function(sheet, out, &mut numbers),
         "there is room for the numbers"
     );
     numbers
@@ -121,6 +135,43 @@ fn print_row(sheet: &BenchSheet) {
         normalized.median,
         ours.best / rust.best,
         ours.median / rust.median,
+    );
+}
+
+fn print_line_times() {
+    println!("\nLines, by the archive alone: the Rust has no writer of them.\n");
+    println!("| sheet | bytes in, out | best | median | best, ns a byte | median | stack |");
+    println!("|---|---|---|---|---|---|---|");
+
+    for sheet in line_sheets() {
+        print_line_row(&sheet);
+    }
+
+    println!("\nTimes in µs, those for a byte of the line in ns.");
+}
+
+fn print_line_row(sheet: &BenchSheet) {
+    let bytes = &sheet.bytes;
+    let mut out = vec![0; ROOM];
+    let [code, length, _] = line(bytes, &mut out);
+    assert!(code == 0, "{} has a line", sheet.name);
+
+    let [ours] = times([&mut || {
+        black_box(line(black_box(bytes), &mut out));
+    }]);
+    let a_byte = |time: f64| 1e3 * time / length as f64;
+    let stack = stack_of(|| {
+        line(bytes, &mut out);
+    });
+
+    println!(
+        "| {} | {}, {length} | {:.1} | {:.1} | {:.1} | {:.1} | {stack} |",
+        sheet.name,
+        bytes.len(),
+        ours.best,
+        ours.median,
+        a_byte(ours.best),
+        a_byte(ours.median),
     );
 }
 
