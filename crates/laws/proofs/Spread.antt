@@ -1,7 +1,8 @@
--- Laws of `flatMap` where a test or an answer is constant on what each element is replaced by. Rests on the lists' laws.
+-- Laws of `flatMap`: where a test or an answer is constant on what each element is replaced by, and how it goes over lists behind each other.
+-- Rests on the lists' laws.
 -- Assumes nothing.
-use mathlib.Core.Path.{_≡_, refl, ap₂, _∙_}
-use mathlib.Core.List.{List, [], _∷_, _++_, map, flatMap}
+use mathlib.Core.Path.{_≡_, refl, sym, ap, ap₂, _∙_}
+use mathlib.Core.List.{List, [], _∷_, _++_, map, flatMap, append-nil, append-assoc}
 use mathlib.Core.Option.{Option, none, some, Option·map}
 use mathlib.Core.Bool.{Bool, true, false}
 use Prim.Native.Nat.{ℕ, _*_, _≤_}
@@ -70,6 +71,16 @@ module _ {A B : Type 0} (block : A → List B) where
           → firstOf k (block a ++ flatMap block D) ≡ Option·map F (firstOf t (a ∷ D))
       go none e ih = rw (e, firstOf) (firstOf-skip k (block a) (flatMap block D) (rw e at (h .0)) ∙ ih)
       go (some c) e ih = rw (e, firstOf) (firstOf-hit k (F c) (block a) (flatMap block D) (f a) (rw e at (h .0)))
+
+-- of two lists behind each other, and of one element more
+pub flatMap-append : {A B : Type 0} (f : A → List B) (xs ys : List A) → flatMap f (xs ++ ys) ≡ flatMap f xs ++ flatMap f ys
+unfolding flatMap
+flatMap-append f [] ys = refl
+flatMap-append f (x ∷ xs) ys = ap (f x ++_) (flatMap-append f xs ys) ∙ sym (append-assoc (f x) (flatMap f xs) (flatMap f ys))
+
+pub flatMap-last : {A B : Type 0} (f : A → List B) (xs : List A) (x : A) → flatMap f (xs ++ (x ∷ [])) ≡ flatMap f xs ++ f x
+unfolding flatMap
+flatMap-last f xs x = flatMap-append f xs (x ∷ []) ∙ ap (flatMap f xs ++_) (append-nil (f x))
 
 -- what a list of images is replaced by
 pub flatMap-map : {A B C : Type 0} (h : B → List C) (k : A → List C) (F : A → B) (xs : List A) → All (λ x. h (F x) ≡ k x) xs

@@ -11,6 +11,7 @@ use lib.ListN.{length, getD}
 use borrow.Author.Tests.{ne-eqb}
 use Rattle.laws.specs.Lists.{from}
 use Rattle.laws.proofs.Numbers.{from-append}
+use Rattle.laws.proofs.Spread.{flatMap-last}
 use Rattle.definition.specs.Rule.{Rule}
 use Rattle.definition.specs.Point.{isNormal}
 use Rattle.definition.specs.Text.{Text, isNone}
@@ -21,16 +22,11 @@ use Rattle.sheet.specs.Rules.{rulesAt}
 use Rattle.rule_text.specs.Rule.{shownText, lacksWords}
 
 -- ## One rule more
-spread-more : {A : Type 0} (f : A → List ℕ) (xs : List A) (x : A) → flatMap f (xs ++ (x ∷ [])) ≡ flatMap f xs ++ f x
-unfolding flatMap
-spread-more f [] x = append-nil (f x)
-spread-more f (y ∷ xs) x = ap (f y ++_) (spread-more f xs x) ∙ sym (append-assoc (f y) (flatMap f xs) (f x))
-
 pub line-more : (xs : List Rule) (r : Rule) → lineOf (xs ++ (r ∷ [])) ≡ lineOf xs ++ shownText (isNone xs) r
 unfolding lineOf shownText flatMap
 line-more [] r = append-nil (ruleText .write r)
 line-more (x ∷ xs) r =
-    ap (ruleText .write x ++_) (spread-more (λ q. before (q .operator) ++ ruleText .write q) xs r)
+    ap (ruleText .write x ++_) (flatMap-last (λ q. before (q .operator) ++ ruleText .write q) xs r)
     ∙ sym (append-assoc (ruleText .write x) (flatMap (λ q. before (q .operator) ++ ruleText .write q) xs) (before (r .operator) ++ ruleText .write r))
 
 -- an index one further on

@@ -1,1 +1,1 @@
-// What is proved about the definition of lines: worked lines in specs/, laws in proofs/; nothing runs here.
+// What is proved about the definition of lines, in proofs/; nothing runs here.

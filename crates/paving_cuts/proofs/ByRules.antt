@@ -3,7 +3,7 @@
 -- Assumes nothing.
 use mathlib.Core.Path.{_≡_, refl, sym, ap, ap₂, _∙_}
 use mathlib.Core.Bool.{Bool, true, false, cond}
-use mathlib.Core.List.{List, [], _∷_, _++_, flatMap, map, append-nil, append-assoc}
+use mathlib.Core.List.{List, [], _∷_, _++_, map}
 use Prim.Native.Nat.{ℕ, suc, _+_, _-_, _*_, _≤_, _<_}
 use native.Mathlib.Omega.{arith}
 use native.Mathlib.Nat.{mul-le-mul-right}
@@ -12,6 +12,7 @@ use lib.ListN.{length, getD, length-append, length-map}
 use borrow.Author.Tests.{eqb-true, eqb-false, lt-ltb}
 use Rattle.laws.specs.Lists.{from}
 use Rattle.laws.proofs.Numbers.{length-from}
+use Rattle.laws.proofs.Spread.{flatMap-last}
 use Rattle.grid.specs.Cut.{Range, cuts}
 use Rattle.grid.proofs.Count.{cuts-count}
 use Rattle.definition.specs.Rule.{Rule}
@@ -24,11 +25,6 @@ use Rattle.paving_update.specs.Boxes.{selectorOf}
 use Rattle.paving_cuts.specs.Cuts.{rangesFrom, cutsOnto, Rowed, rowOf, cutRows, Space}
 use Rattle.paving_cuts.specs.Rules.{CutBy, Roomy}
 use Rattle.paving_cuts.proofs.Rows.{cuts-more, row-length, next, rows-cut}
-
-ranges-append : (f : Rule → List Range) (rs : List Rule) (r : Rule) → flatMap f (rs ++ (r ∷ [])) ≡ flatMap f rs ++ f r
-unfolding flatMap
-ranges-append f [] r = append-nil (f r)
-ranges-append f (q ∷ rs) r = ap (f q ++_) (ranges-append f rs r) ∙ sym (append-assoc (f q) (flatMap f rs) (f r))
 
 -- ## The loaded ranges of a rule
 abbrev head : List (List Range) → List Range
@@ -63,7 +59,7 @@ module _ (rows counts loaded : List ℕ) (room : ℕ) (rs : List Rule) (r : Rule
   row-room sizes table (d ∷ ds) e c w k h = go (eqb k (length ds)) refl (row-room sizes table ds (later-ranges counts loaded r d ds e) (c .1) (w .1) k)
     where
       long : length (allRanges (rs ++ (r ∷ [])) d) ≡ length (allRanges rs d) + length (ranges (d .bounds) (d .items r))
-      long = ap length (ranges-append (λ q. ranges (d .bounds) (d .items q)) rs r) ∙ length-append (allRanges rs d) (ranges (d .bounds) (d .items r))
+      long = ap length (flatMap-last (λ q. ranges (d .bounds) (d .items q)) rs r) ∙ length-append (allRanges rs d) (ranges (d .bounds) (d .items r))
 
       go : (b : Bool) → eqb k (length ds) ≡ b → (k < length ds → getD sizes k 0 + 1 + 2 * getD counts k 0 ≤ room) → getD sizes k 0 + 1 + 2 * getD counts k 0 ≤ room
       go true q ih =
@@ -112,7 +108,7 @@ module _ (rows counts loaded : List ℕ) (room : ℕ) (rs : List Rule) (r : Rule
         go [] l q k = tt
         go (d ∷ es) l q k = (
           cut (length es) l ∙ ap₂ cutsOnto (first-ranges counts loaded r d es q) (k .0) ∙ cuts-more (d .bounds) (allRanges rs d) (ranges (d .bounds) (d .items r))
-              ∙ ap (cuts (d .bounds)) (sym (ranges-append (λ o. ranges (d .bounds) (d .items o)) rs r)),
+              ∙ ap (cuts (d .bounds)) (sym (flatMap-last (λ o. ranges (d .bounds) (d .items o)) rs r)),
           go es (omega arith) (later-ranges counts loaded r d es q) (k .1),
         )
 

@@ -7,6 +7,7 @@ use Prim.Native.Nat.{ℕ, suc, _+_, _≤_}
 use native.Mathlib.Omega.{arith}
 use lib.ListN.{length, length-append}
 use lib.Seq.{sets}
+use Rattle.laws.proofs.Spread.{flatMap-append}
 use Rattle.grid.specs.Group.{Group, groups}
 use Rattle.words.proofs.Sets.{sets-append}
 use Rattle.paving.specs.Grid.{grid}
@@ -14,7 +15,6 @@ use Rattle.paving.specs.Sweep.{swept, classesFrom, groupsFrom, emitted}
 use Rattle.paving.proofs.Room.{from-cons}
 use Rattle.paving.proofs.Sweeping.{groups-step}
 use Rattle.paving_pages.specs.Pages.{state, groupNumbers, groupsNumbers, putPage}
-use Rattle.paving_pages.proofs.Writing.{spread-append}
 
 module _ (rows cuts sizes : List ℕ) (l : ℕ) where
   pub pages-put : (text : List ℕ) (next : ℕ) (gs : List (Group ℕ ℕ))
@@ -49,7 +49,7 @@ module _ (rows cuts sizes : List ℕ) (l : ℕ) where
   front : (gs hs : List (Group ℕ ℕ)) → length (groupsNumbers rows cuts sizes l gs) ≤ length (groupsNumbers rows cuts sizes l (gs ++ hs))
   unfolding groupsNumbers
   front gs hs =
-      omega (arith, ap length (spread-append (groupNumbers rows cuts sizes l) gs hs), length-append (flatMap (groupNumbers rows cuts sizes l) gs) (flatMap (groupNumbers rows cuts sizes l) hs))
+      omega (arith, ap length (flatMap-append (groupNumbers rows cuts sizes l) gs hs), length-append (flatMap (groupNumbers rows cuts sizes l) gs) (flatMap (groupNumbers rows cuts sizes l) hs))
 
   module _ (cells kinds : List ℕ) (last k next : ℕ) (text : List ℕ) (on : k ≤ last)
       (h : next + length (groupsNumbers rows cuts sizes l (groupsFrom cells kinds sizes last k l)) ≤ length text) where

@@ -2,11 +2,12 @@
 -- laid over a buffer.
 -- Assumes nothing.
 use mathlib.Core.Path.{_≡_, refl, sym, ap, ap₂, _∙_}
-use mathlib.Core.List.{List, [], _∷_, _++_, map, flatMap, append-nil, append-assoc, map-append}
+use mathlib.Core.List.{List, [], _∷_, _++_, map, flatMap, map-append}
 use Prim.Native.Nat.{ℕ, zero, suc, _+_, _*_, _≤_, _<_}
 use native.Mathlib.Omega.{arith}
 use lib.ListN.{length, getD, set, length-append, length-map}
 use lib.Seq.{sets}
+use Rattle.laws.proofs.Spread.{flatMap-last}
 use Rattle.definition.specs.Range.{Ends}
 use Rattle.words.proofs.Sets.{sets-next, sets-append, sets-set}
 use Rattle.paving.specs.Grid.{widthOf, marksFrom, chosen}
@@ -19,14 +20,9 @@ unfolding numbers
 numbers-length [] = refl
 numbers-length (e ∷ es) = omega (arith, numbers-length es)
 
-pub spread-append : {A : Type 0} (f : A → List ℕ) (xs ys : List A) → flatMap f (xs ++ ys) ≡ flatMap f xs ++ flatMap f ys
-unfolding flatMap
-spread-append f [] ys = refl
-spread-append f (x ∷ xs) ys = ap (f x ++_) (spread-append f xs ys) ∙ sym (append-assoc (f x) (flatMap f xs) (flatMap f ys))
-
 last-numbers : (Es : List (List Ends)) (F : List Ends) → endNumbers (Es ++ (F ∷ [])) ≡ endNumbers Es ++ numbers F
 unfolding endNumbers flatMap
-last-numbers Es F = spread-append numbers Es (F ∷ []) ∙ ap (flatMap numbers Es ++_) (append-nil (numbers F))
+last-numbers Es F = flatMap-last numbers Es F
 
 pub last-length : (Es : List (List Ends)) (F : List Ends) → length (endNumbers (Es ++ (F ∷ []))) ≡ length (endNumbers Es) + 2 * length F
 last-length Es F = ap length (last-numbers Es F) ∙ length-append (endNumbers Es) (numbers F) ∙ ap (length (endNumbers Es) +_) (numbers-length F)
