@@ -9,6 +9,7 @@ use Prim.Native.Nat.{ℕ, suc, _+_, _*_, _≤_}
 use lib.Dec.{eqb}
 use lib.ListN.{length, set}
 use lib.Seq.{sets}
+use Rattle.laws.proofs.Flags.{split-or}
 use Rattle.laws.specs.Lists.{anyOf, All}
 use Rattle.grid.specs.Cut.{Range}
 use Rattle.definition.specs.Field.{got, sheetBits, readAll, Layout}
@@ -25,7 +26,7 @@ use Rattle.canonical_date.specs.Days.{loaded, loadRows, daysLoaded}
 use Rattle.canonical_date.specs.Rule.{daysStop, daysRows, layRows, countRows}
 use Rattle.canonical_date.proofs.Saying.{as-years, as-months, as-weeks, as-weekdays}
 use Rattle.canonical_date.proofs.DayRows.{row-few, count-few}
-use Rattle.canonical_date.proofs.RowMeaning.{row-pass, items-halt, neither, yearEnds, weekEnds, years-pass, years-halt, months-pass, months-halt, weeks-pass, weeks-halt, weekdays-pass, weekdays-halt}
+use Rattle.canonical_date.proofs.RowMeaning.{row-pass, items-halt, yearEnds, weekEnds, years-pass, years-halt, months-pass, months-halt, weeks-pass, weeks-halt, weekdays-pass, weekdays-halt}
 
 -- ## A row of each sort
 single : {A B : Type 0} (f : A → B) (xs : List A) → flatMap (λ x. f x ∷ []) xs ≡ map f xs
@@ -96,9 +97,9 @@ module _ (s : List ℕ) (p : ℕ) (r : Rule) (q : ℕ) (w : RuleParts s p r q) (
   pub days-pass : daysStop r ≡ false → daysLoaded s p l c ≡ loaded (layRows 0 (daysRows r) l) (countRows 0 (daysRows r) c) (some (length (r .spans), w .spans-at))
   unfolding daysStop layRows countRows
   days-pass f =
-      let a = neither _ _ f in
-      let b = neither _ _ (a .1) in
-      let d = neither _ _ (b .1) in
+      let a = split-or _ _ f in
+      let b = split-or _ _ (a .1) in
+      let d = split-or _ _ (b .1) in
       row-done s (p + 20) 0 (p + 70) _ _ _ (w .count-years) 3 _ _ (years-passed _ s (p + 70) _ (r .years) (w .years-read) (a .0))
       ∙ row-done s (p + 20) 1 (w .monthdays-at) _ _ _ (w .count-monthdays) 2 _ _ (months-passed _ s (w .monthdays-at) _ (r .monthdays) (w .monthdays-read) (b .0))
       ∙ row-done s (p + 20) 2 (w .weeks-at) _ _ _ (w .count-weeks) 1 _ _ (weeks-passed _ s (w .weeks-at) _ (r .weeks) (w .weeks-read) (d .0))
@@ -131,9 +132,9 @@ pub days-few : (sheet : List ℕ) → Bytes sheet → (p : ℕ) (r : Rule) (q : 
 unfolding daysStop
 days-few sheet b p r q w f =
     let s = sheetBits sheet in
-    let a = neither _ _ f in
-    let d = neither _ _ (a .1) in
-    let e = neither _ _ (d .1) in (
+    let a = split-or _ _ f in
+    let d = split-or _ _ (a .1) in
+    let e = split-or _ _ (d .1) in (
       few 0 _ (p + 70) _ _ (w .count-years) (years-passed _ s (p + 70) _ (r .years) (w .years-read) (a .0)),
       (
         few 1 _ (w .monthdays-at) _ _ (w .count-monthdays) (months-passed _ s (w .monthdays-at) _ (r .monthdays) (w .monthdays-read) (d .0)),

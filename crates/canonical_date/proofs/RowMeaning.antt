@@ -9,6 +9,7 @@ use Prim.Native.Nat.{ℕ, zero, suc}
 use native.Mathlib.Omega.{arith}
 use lib.Dec.{eqb}
 use borrow.Author.Tests.{ne-eqb}
+use Rattle.laws.proofs.Flags.{split-or}
 use Rattle.laws.specs.Lists.{anyOf, onlyIf}
 use Rattle.grid.specs.Cut.{Range}
 use Rattle.definition.specs.Field.{got, readAll, Layout}
@@ -26,10 +27,6 @@ Passes {A} says stop ends b = (x : A) → stop x ≡ false → (e : Ends) × (en
 
 abbrev pub Halts : {A : Type 0} → (A → Option (List Range)) → (A → Bool) → Type 0
 Halts {A} says stop = (x : A) → stop x ≡ true → says x ≡ none
-
-pub neither : (a b : Bool) → a || b ≡ false → (a ≡ false) × (b ≡ false)
-neither true b h = absurd (false≢true (sym h))
-neither false b h = (refl, h)
 
 -- ## Over the layout
 module _ {A : Type 0} (L : Layout A) (says : A → Option (List Range)) (stop : A → Bool) (ends : A → List Ends) (sort : ℕ)
@@ -49,7 +46,7 @@ module _ {A : Type 0} (L : Layout A) (says : A → Option (List Range)) (stop : 
       (ap (λ ys. flatMap (split (boundsOf sort)) (flatMap ends ys)) v, ap some z)
   items-pass pass (suc n) s p xs q e f =
       let w = all-parts (L .read) n s p xs q e in
-      let g = neither (stop (w .0)) (anyOf stop (w .2)) (ap (anyOf stop) (w .5) ∙ f) in
+      let g = split-or (stop (w .0)) (anyOf stop (w .2)) (ap (anyOf stop) (w .5) ∙ f) in
       let k = pass (w .0) (g .0) in
       let rest = items-pass pass n s (w .1) (w .2) q (w .4) (g .1) in
       rw (item-said s p (w .0) (w .1) _ (w .3) (k .2), itemsRanges, itemsEnd) (
@@ -77,7 +74,7 @@ module _ {A : Type 0} (L : Layout A) (says : A → Option (List Range)) (stop : 
   row-pass pass zero s p xs q e f = let v : [] ≡ xs = cc in (ap (λ ys. ranges (boundsOf sort) (flatMap ends ys)) v, items-pass pass zero s p xs q e f .1)
   row-pass pass (suc n) s p xs q e f =
       let w = all-parts (L .read) n s p xs q e in
-      let k = pass (w .0) (neither (stop (w .0)) (anyOf stop (w .2)) (ap (anyOf stop) (w .5) ∙ f) .0) in
+      let k = pass (w .0) (split-or (stop (w .0)) (anyOf stop (w .2)) (ap (anyOf stop) (w .5) ∙ f) .0) in
       let rest = items-pass pass (suc n) s p xs q e f in
       let front : flatMap ends xs ≡ k .0 ∷ flatMap ends (w .2) = ap (flatMap ends) (sym (w .5)) ∙ ap (λ es. es ++ flatMap ends (w .2)) (k .1) in
       rw (ne-eqb (suc n) 0 (λ z. omega arith)) (rest .0 ∙ ap (flatMap (split (boundsOf sort))) front ∙ sym (ap (ranges (boundsOf sort)) front), rest .1)

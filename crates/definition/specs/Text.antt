@@ -3,7 +3,7 @@
 -- and the text of a rule reads like 02's sentence.
 -- Assumes nothing.
 use mathlib.Core.List.{List, [], _∷_, _++_, map, flatMap}
-use mathlib.Core.Bool.{Bool, true, false, _&&_, cond}
+use mathlib.Core.Bool.{Bool, true, false, _&&_, not, cond}
 use Prim.Native.Nat.{ℕ, zero, suc, _+_, _-_, _/_, _%_, _^_}
 use Prim.Native.Char.{code}
 use Prim.Native.String.{String, [] as []ˢ, _∷_ as _∷ˢ_}
@@ -76,9 +76,5 @@ abbrev pub isNone : {A : Type 0} → List A → Bool
 isNone [] = true
 isNone (x ∷ xs) = false
 
-abbrev pub isSome : {A : Type 0} → List A → Bool
-isSome [] = false
-isSome (x ∷ xs) = true
-
 unfoldable pub several : {A : Type 0} → String → Text A → Text (List A)
-several between T = record { write = listed (T .write) (ascii between); fits = λ xs. isSome xs && every (T .fits) xs }
+several between T = record { write = listed (T .write) (ascii between); fits = λ xs. not (isNone xs) && every (T .fits) xs }

@@ -9,13 +9,13 @@ use lib.Dec.{eqb}
 use lib.ListN.{length, getD, set, length-map}
 use lib.Seq.{sets, getD-set-same, getD-set-other}
 use borrow.Author.Tests.{eqb-true, eqb-false}
+use Rattle.laws.proofs.Flags.{split-or}
 use Rattle.laws.specs.Lists.{anyOf}
 use Rattle.definition.specs.Rule.{Rule}
 use Rattle.definition.specs.Stop.{spanStops, stops, drained}
 use Rattle.sheet.specs.Begin.{noRule, ruleAt}
 use Rattle.span_number.specs.Number.{stateNumber, spanNumber}
 use Rattle.canonical_date.specs.Rule.{daysStop}
-use Rattle.canonical_date.proofs.RowMeaning.{neither}
 use Rattle.canonical_date.proofs.Table.{sets-before, sets-inside}
 use Rattle.draining.specs.Rule.{loadedSpans, partsStop, replaceNumber, setUnless, DrainedRule}
 use Rattle.draining.specs.Table.{TabledAt, Tabled, rulesFrom}
@@ -60,7 +60,7 @@ module _ (x : Rule) (i : ℕ) (st co sp re st′ co′ sp′ re′ : List ℕ) (
       go false e = e
 
       all : loadedSpans x ≡ x .spans
-      all = let k = neither (daysStop x) (anyOf spanStops (x .spans)) (go (partsStop x) refl) in rw (k .0) (today-all (x .spans) (k .1))
+      all = let k = split-or (daysStop x) (anyOf spanStops (x .spans)) (go (partsStop x) refl) in rw (k .0) (today-all (x .spans) (k .1))
 
 -- ## The rules before the first stopper
 pub drained-at : (rs : List Rule) (k : ℕ) → k < length (drained rs) → getD (drained rs) k noRule ≡ getD rs k noRule

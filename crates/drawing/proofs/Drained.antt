@@ -8,6 +8,7 @@ use Prim.Native.Nat.{ℕ, zero, suc, _+_, _*_, _≤_, _<_}
 use native.Mathlib.Omega.{arith}
 use lib.Dec.{eqb}
 use lib.ListN.{length, getD, replicate}
+use Rattle.laws.proofs.Flags.{split-or}
 use Rattle.laws.specs.Lists.{anyOf}
 use Rattle.definition.specs.Field.{got, sheetBits}
 use Rattle.definition.specs.Rule.{Rule}
@@ -19,7 +20,6 @@ use Rattle.sheet.specs.Begin.{noRule, ruleAt}
 use Rattle.sheet.specs.Rules.{begun, rulesAt}
 use Rattle.sheet.proofs.Begins.{Begins, begun-length, rules-few, rules-begin}
 use Rattle.canonical_date.specs.Rule.{daysStop}
-use Rattle.canonical_date.proofs.RowMeaning.{neither}
 use Rattle.canonical_date.proofs.Table.{map-from}
 use Rattle.paving_update.specs.Update.{listPlaces}
 use Rattle.paving_points.specs.Listed.{Listed}
@@ -65,10 +65,10 @@ stops-days r h =
     let w = anyOf (λ w. not (eqb (w .step) 1)) (r .weeks) in
     let d = anyOf weekdayStops (r .weekdays) in
     let rest = anyOf spanStops (r .spans) in
-    let years = neither y (m || (w || (d || rest))) (neither (isFallback (r .operator)) (y || (m || (w || (d || rest)))) h .1) in
-    let months = neither m (w || (d || rest)) (years .1) in
-    let weeks = neither w (d || rest) (months .1) in
-    let weekdays = neither d rest (weeks .1) in
+    let years = split-or y (m || (w || (d || rest))) (split-or (isFallback (r .operator)) (y || (m || (w || (d || rest)))) h .1) in
+    let months = split-or m (w || (d || rest)) (years .1) in
+    let weeks = split-or w (d || rest) (months .1) in
+    let weekdays = split-or d rest (weeks .1) in
     both-false y (m || (w || d)) (years .0) (both-false m (w || d) (months .0) (both-false w d (weeks .0) (weekdays .0)))
 
 -- ## A sheet that was read

@@ -1,7 +1,7 @@
 -- Laws of flags (`Bool`).
 -- Assumes nothing.
 use mathlib.Core.Path.{_≡_, refl, sym}
-use mathlib.Core.Bool.{Bool, true, false, _&&_, _||_, false≢true}
+use mathlib.Core.Bool.{Bool, true, false, _&&_, _||_, true≢false, false≢true}
 
 pub and-assoc : (a b c : Bool) → a && b && c ≡ a && (b && c)
 and-assoc true b c = refl
@@ -18,6 +18,10 @@ split-and false b h = absurd (false≢true h)
 pub both-and : (a b : Bool) → a ≡ true → b ≡ true → a && b ≡ true
 both-and true b h k = k
 both-and false b h k = h
+
+pub split-or : (a b : Bool) → a || b ≡ false → (a ≡ false) × (b ≡ false)
+split-or true b h = absurd (true≢false h)
+split-or false b h = (refl, h)
 
 pub or-left : (a b : Bool) → a ≡ true → a || b ≡ true
 or-left true b h = refl

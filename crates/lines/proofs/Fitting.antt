@@ -1,15 +1,15 @@
 -- WHAT IS SHOWN HAS WORDS: rules that a sheet carries, where none is refused by 10, are a line. Rests on what a sheet's rules keep to.
 -- Assumes nothing.
 use mathlib.Core.Path.{_≡_, refl, ap, subst}
-use mathlib.Core.List.{List, [], _∷_}
+use mathlib.Core.List.{List}
 use mathlib.Core.Option.{none, Option·some-ne-none}
-use mathlib.Core.Bool.{Bool, true, false, _&&_, _||_, not, cond, true≢false}
+use mathlib.Core.Bool.{Bool, true, false, _&&_, not, cond, true≢false}
 use Prim.Native.Nat.{ℕ, _/_, _%_, _^_, _<_, _≤_}
 use native.Mathlib.Omega.{arith}
 use lib.Dec.{eqb}
 use borrow.Author.Tests.{le-leb, eqb-false, not-false}
 use Rattle.laws.specs.Lists.{every, anyOf, All}
-use Rattle.laws.proofs.Flags.{both-and}
+use Rattle.laws.proofs.Flags.{both-and, split-or}
 use Rattle.laws.proofs.Lists.{All-map₂, every-all}
 use Rattle.grid.specs.Cut.{Range, holds}
 use Rattle.grid.proofs.Cut.{in-holds}
@@ -18,7 +18,7 @@ use Rattle.definition.specs.Rule.{weekdayBounds, weekBounds, monthBounds, yearB
 use Rattle.definition.specs.Sheet.{Form, Limits, yearRange, monthdayRange, weekRange, weekDayRange, span, rule, rules}
 use Rattle.definition.specs.Stop.{monthdayStops, weekdayStops}
 use Rattle.definition.specs.Day.{minuteOf}
-use Rattle.definition.specs.Text.{Text, word, padded, plain, named, _then_, of, unless, only, isNone, isSome, several}
+use Rattle.definition.specs.Text.{Text, word, padded, plain, named, _then_, of, unless, only, isNone, several}
 use Rattle.definition.specs.Line.{Item, single, item, yearSteps, weekSteps, monthNames, weekdayNames, yearText, weekText, monthText, weekdayText, clock, isPlain, spanText, comments, isOpen, stateText, part, ruleText, firstNormal, line}
 use Rattle.definition.specs.Show.{wordless, firstWordless}
 use Rattle.definition.proofs.Lawful.{year-lawful, week-lawful, month-lawful, weekday-lawful, items-fit, rules-each}
@@ -72,17 +72,9 @@ span-fits s f h =
     (both-and _ _ (clock-fits (minuteOf (s .end)) (small .1)) (unless-fits (not (s .openEnd)) true (λ e. refl))))
 
 -- ## Rules
-split-or : (a b : Bool) → a || b ≡ false → (a ≡ false) × (b ≡ false)
-split-or true b e = absurd (true≢false e)
-split-or false b e = (refl, e)
-
 part-fits : {A : Type 0} (T : Text (List A)) (xs : List A) → (isNone xs ≡ false → T .fits xs ≡ true) → (part T) .fits xs ≡ true
 unfolding part unless _then_ word
 part-fits T xs h = unless-fits (isNone xs) _ (λ e. both-and (T .fits xs) true (h e) refl)
-
-some-of : {A : Type 0} (xs : List A) → isNone xs ≡ false → isSome xs ≡ true
-some-of [] e = absurd (true≢false e)
-some-of (x ∷ xs) e = refl
 
 state-fits : (S : State) → S .comment < 2 ^ 24 → stateText .fits S ≡ true
 unfolding stateText _then_ unless word of plain
@@ -97,11 +89,11 @@ module _ (form : Form) (limits : Limits) where
       let a = split-or (anyOf monthdayStops (r .monthdays)) _ w in
       let b = split-or (anyOf weekdayStops (r .weekdays)) _ (a .1) in
       let d = split-or (anyOf (λ s. not (isPlain s)) (r .spans)) (isNone (r .spans)) (b .1) in
-      both-and _ _ (part-fits _ (r .years) (λ e. both-and _ _ (some-of (r .years) e) (all-every _ (r .years) (every-all _ (yearRange .fits) year-fits (r .years) (i .years-fit)))))
-      (both-and _ _ (part-fits _ (r .monthdays) (λ e. both-and _ _ (some-of (r .monthdays) e) (items-fitting month-fits (r .monthdays) (i .monthdays-fit) (a .0))))
-      (both-and _ _ (part-fits _ (r .weeks) (λ e. both-and _ _ (some-of (r .weeks) e) (all-every _ (r .weeks) (every-all _ (weekRange .fits) week-fits (r .weeks) (i .weeks-fit)))))
-      (both-and _ _ (part-fits _ (r .weekdays) (λ e. both-and _ _ (some-of (r .weekdays) e) (items-fitting weekday-fits (r .weekdays) (i .weekdays-fit) (b .0))))
-      (both-and _ _ (both-and _ _ (some-of (r .spans) (d .1)) (items-fitting span-fits (r .spans) (i .spans-fit) (d .0))) (state-fits (r .state) c)))))
+      both-and _ _ (part-fits _ (r .years) (λ e. both-and _ _ (ap not e) (all-every _ (r .years) (every-all _ (yearRange .fits) year-fits (r .years) (i .years-fit)))))
+      (both-and _ _ (part-fits _ (r .monthdays) (λ e. both-and _ _ (ap not e) (items-fitting month-fits (r .monthdays) (i .monthdays-fit) (a .0))))
+      (both-and _ _ (part-fits _ (r .weeks) (λ e. both-and _ _ (ap not e) (all-every _ (r .weeks) (every-all _ (weekRange .fits) week-fits (r .weeks) (i .weeks-fit)))))
+      (both-and _ _ (part-fits _ (r .weekdays) (λ e. both-and _ _ (ap not e) (items-fitting weekday-fits (r .weekdays) (i .weekdays-fit) (b .0))))
+      (both-and _ _ (both-and _ _ (ap not (d .1)) (items-fitting span-fits (r .spans) (i .spans-fit) (d .0))) (state-fits (r .state) c)))))
     where
       -- items that a sheet carries, of which none is refused
       items-fitting : {A : Type 0} {t u v : A → Bool} → ((x : A) → u x ≡ true → t x ≡ false → v x ≡ true) → (xs : List A) → every u xs ≡ true → anyOf t xs ≡ false → every v xs ≡ true

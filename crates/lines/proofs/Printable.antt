@@ -2,7 +2,7 @@
 -- Assumes nothing.
 use mathlib.Core.Path.{_≡_, refl}
 use mathlib.Core.List.{List, [], _∷_, map}
-use mathlib.Core.Bool.{Bool, true, false, _&&_, cond}
+use mathlib.Core.Bool.{Bool, true, false, _&&_, cond, not}
 use Prim.Native.Nat.{ℕ, zero, suc, _+_, _-_, _/_, _%_, _^_, _≤_, _<_}
 use Prim.Native.String.{String}
 use native.Mathlib.Nat.{mod-lt, div-lt-iff-lt-mul}
@@ -16,7 +16,7 @@ use Rattle.laws.proofs.Spread.{flatMap-all}
 use Rattle.grid.specs.Cut.{Range}
 use Rattle.grid.proofs.Cut.{holds-in}
 use Rattle.definition.specs.Rule.{weekdayBounds, weekBounds, monthBounds, yearBounds, Operator, Normal, Additional, Fallback, Kind, Open, Closed, Unknown, Rule}
-use Rattle.definition.specs.Text.{Text, ascii, digits, decimalIn, word, padded, plain, named, _then_, of, unless, only, isSome, listed, several}
+use Rattle.definition.specs.Text.{Text, ascii, digits, decimalIn, word, padded, plain, named, _then_, of, unless, only, isNone, listed, several}
 use Rattle.definition.specs.Line.{item, yearSteps, weekSteps, monthNames, weekdayNames, yearText, weekText, monthText, weekdayText, clock, spanText, kindWord, kindText, comments, stateText, part, ruleText, before, firstNormal, lineOf, line}
 use Rattle.lines.proofs.Passing.{all-read}
 
@@ -100,7 +100,7 @@ module _ {A : Type 0} {T : Text A} (h : Prints T) where
   unfolding several
   several-prints between b = record { prints = go }
     where
-      go : (xs : List A) → isSome xs && every (T .fits) xs ≡ true → All Printable (listed (T .write) (ascii between) xs)
+      go : (xs : List A) → not (isNone xs) && every (T .fits) xs ≡ true → All Printable (listed (T .write) (ascii between) xs)
       go [] f = tt
       go (x ∷ xs) f =
           let k = every-all _ (T .fits) (h .prints) (x ∷ xs) f in

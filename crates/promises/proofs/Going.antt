@@ -3,10 +3,11 @@
 -- Assumes nothing.
 use mathlib.Core.Path.{_≡_, refl, sym, ap, _∙_, subst}
 use mathlib.Core.List.{List, [], _∷_, _++_, map, append-nil}
-use mathlib.Core.Bool.{Bool, true, false, _||_, not, true≢false}
+use mathlib.Core.Bool.{Bool, true, false, not, true≢false}
 use Prim.Native.Nat.{ℕ}
 use lib.Dec.{eqb}
 use borrow.Author.Tests.{lt-ltb, le-leb}
+use Rattle.laws.proofs.Flags.{split-or}
 use Rattle.laws.specs.Lists.{anyOf, All}
 use Rattle.laws.proofs.Lists.{All-map, image-All}
 use Rattle.laws.proofs.Spread.{flatMap-all}
@@ -75,14 +76,14 @@ plain-stays : (r : Range) → ProperRun r → Stays (plainSpan r)
 plain-stays r h = rw (lt-ltb (r .0) (r .1) (h .0), le-leb (r .1) 1440 (h .1))
 
 -- the spans of a rule that doesn't stop
-second : (a b : Bool) → a || b ≡ false → b ≡ false
-second false b h = h
-second true b h = absurd (true≢false h)
-
 spans-stay : (r : Rule) → Goes r → All Stays (r .spans)
 unfolding stops
-spans-stay r h = all-stay (r .spans) (second (anyOf weekdayStops (r .weekdays)) _ (second (anyOf (λ w. not (eqb (w .step) 1)) (r .weeks)) _
-    (second (anyOf monthdayStops (r .monthdays)) _ (second (anyOf (λ y. not (eqb (y .step) 1)) (r .years)) _ (second (isFallback (r .operator)) _ h)))))
+spans-stay r h =
+    let years = split-or (isFallback (r .operator)) _ h .1 in
+    let monthdays = split-or (anyOf (λ y. not (eqb (y .step) 1)) (r .years)) _ years .1 in
+    let weeks = split-or (anyOf monthdayStops (r .monthdays)) _ monthdays .1 in
+    let weekdays = split-or (anyOf (λ w. not (eqb (w .step) 1)) (r .weeks)) _ weeks .1 in
+    all-stay (r .spans) (split-or (anyOf weekdayStops (r .weekdays)) _ weekdays .1)
 
 -- ## The folded rules
 module _ (ds : List Rule) (h : All Goes ds) where

@@ -2,7 +2,7 @@
 -- Assumes nothing.
 use mathlib.Core.Path.{_≡_, refl, sym, ap, ap₂, _∙_}
 use mathlib.Core.List.{List, [], _∷_, _++_, append-nil, append-assoc}
-use mathlib.Core.Bool.{Bool, true, false, _||_, cond}
+use mathlib.Core.Bool.{Bool, true, false, _||_, cond, or-false}
 use Prim.Native.Nat.{ℕ, zero, suc, _+_, _*_, _-_, _≤_, _<_}
 use native.Mathlib.Omega.{arith}
 use lib.Dec.{eqb}
@@ -93,13 +93,9 @@ module _ {whole : Tale} {sort : ℕ} {s l : List ℕ} {place at to : ℕ} {wordl
   unfolding othersTold
   ahead-end e =
       let same : tale (ahead .done) wordless at ≡ whole =
-      ap₂ (λ t b. tale t b at) (sym (append-nil (ahead .done))) (none-more wordless) ∙ sym (ap (λ k. followed (tale (ahead .done) wordless at) (othersTold sort k s at)) e) ∙ ahead .rest
+      ap₂ (λ t b. tale t b at) (sym (append-nil (ahead .done))) (sym (or-false wordless)) ∙ sym (ap (λ k. followed (tale (ahead .done) wordless at) (othersTold sort k s at)) e) ∙ ahead .rest
       in
       shows-as same (record { read-to = refl; lacks = refl; put = ahead .put })
-    where
-      none-more : (b : Bool) → b ≡ b || false
-      none-more true = refl
-      none-more false = refl
 
 -- ## A row
 others-near : (sort n : ℕ) (s : List ℕ) (p : ℕ) → (othersTold sort n s p) .next ≤ p + n * 52
