@@ -97,7 +97,7 @@ enum hours_line_number {
 bool hours_fold(const uint8_t *sheet, size_t sheet_length, uint8_t *out, size_t out_length, uint64_t *numbers, size_t numbers_length);
 
 /* The state at a minute (0 to 1439) of a Gregorian date (years 1900 to 9999, months and days from 1), by a sheet without a rule that
- * can't be folded exactly.
+ * can't be folded exactly. A date's week is that of ISO 8601, its year that of the calendar: 1 January 2027 is in week 53 and in 2027.
  *
  * Answers the HOURS_LOOKUP_NUMBERS numbers of hours_lookup_number. On HOURS_DONE kind and comment are those of the last span that
  * covers the minute, HOURS_CLOSED and 0 where none does. On any other code both are 0. */

@@ -16,7 +16,7 @@ from random import Random
 from typing import Callable, Iterable
 
 from cases import (
-    EVERY_SORT, REFUSED_SORTS, damaged, each_refused_sort, generated, largest, named_dates, named_sheets,
+    EVERY_SORT, REFUSED_SORTS, damaged, each_refused_sort, generated, largest, named_dates, named_sheets, new_year_dates,
     refused_sort, sample_date, twice_refused,
 )
 from compare import day_line, fold_line, oracle_lines, verdict
@@ -26,7 +26,7 @@ from reference.line import NO_LINE, line, reasons_against
 from reference.lookup import lookup
 from reference.points import LIST_LIMIT
 from reference.sheet import read_sheet, write_sheet
-from reference.worked import EXAMPLE, FOLDS, ROOM, check_worked
+from reference.worked import EXAMPLE, FOLDS, NUMBERED_WEEKS, ROOM, check_worked
 
 DATA = Path(__file__).parent.parent / "crates" / "replay" / "data"
 
@@ -105,6 +105,8 @@ def lookup_lines(seed: int) -> list[str]:
     lines += ["# dates, and numbers that are no dates"]
     weeks = write_sheet(FOLDS["P6"][0])
     lines += [lookup_case(sheet, date) for date in named_dates() for sheet in (EXAMPLE, weeks)]
+    lines += ["# weeks whose comment is their number, around new years"]
+    lines += [lookup_case(write_sheet(NUMBERED_WEEKS), date) for date in new_year_dates()]
     lines += ["# each sort of refusal in reading"]
     lines += [lookup_case(sheet, sample_date(random)) for sheet in each_refused_sort(seed, 1)]
     lines += ["# generated, answered and then anyhow"]

@@ -205,6 +205,12 @@ def named_dates() -> list[tuple[int, int, int, int]]:
     return [date for date, _ in LOOKUPS] + ends + none + large + far
 
 
+def new_year_dates() -> list[tuple[int, int, int, int]]:
+    """The days from 28 December to 4 January, from years of every length and first weekday, and both ends of the calendar."""
+    days = ((12, 28), (12, 29), (12, 30), (12, 31), (1, 1), (1, 2), (1, 3), (1, 4))
+    return [(year, month, day, 720) for year in (1900, 1901, *range(2000, 2029), 2100, 2101, 9999) for month, day in days]
+
+
 def sample_date(random: Random) -> tuple[int, int, int, int]:
     """Mostly a date of the generator's years, near the start or end of the year or anywhere, at a span's edge."""
     year = random.choice(YEAR_VALUES) if random.random() < 0.8 else random.randint(1890, 10010)

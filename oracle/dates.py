@@ -1,20 +1,24 @@
-"""Makes crates/calendar_replay/data/dates.txt: what Python's calendar says of dates from 1900 to 9999.
+"""Makes crates/calendar_replay/data/: what Python's calendar says of dates from 1900 to 9999.
 
     python3 oracle/dates.py [--seed N]
 
-The weekday and the day of the year come from `datetime`, the week from the day of the year, by sevens. A record is 23 bytes:
-YEAR MONTH DAY in five digits each, WEEKDAY in one (Monday 0), WEEK in two; 9 and 99 where there is no such date. The first line is
-padded to four records. So every record stands at a known place, and the program that replays them takes no text apart.
+The weekday and the ISO week come from `datetime`. A record is 23 bytes, and the first line is as long as four of them; so every record
+stands at a known place, and the program that replays them takes no text apart.
+
+- dates.txt, a date a record: YEAR MONTH DAY in five digits each, WEEKDAY in one (Monday 0), WEEK in two; 9 and 99 where there is no such date.
+- years.txt, a year a record: YEAR in five digits, and a digest of the weekdays and weeks of all its days in sixteen. With each day the
+  digest is taken 500 times, 8 * WEEK + WEEKDAY is added, and the remainder by the largest prime below 10 ** 16 is kept.
 """
 import argparse
 import datetime
 import random
 
 FIRST, LAST = 1900, 9999
-PATH = "crates/calendar_replay/data/dates.txt"
+DATA = "crates/calendar_replay/data/"
+PRIME = 10**16 - 63
 
 
-def record(year, month, day):
+def date_record(year, month, day):
     try:
         date = datetime.date(year, month, day)
     except ValueError:
@@ -22,8 +26,16 @@ def record(year, month, day):
     if date is None or not FIRST <= year <= LAST:
         weekday, week = 9, 99
     else:
-        weekday, week = date.weekday(), (date.timetuple().tm_yday - 1) // 7 + 1
+        weekday, week = date.weekday(), date.isocalendar().week
     return f"{year:05} {month:05} {day:05} {weekday} {week:02}\n"
+
+
+def year_record(year):
+    digest = 0
+    for day in range(datetime.date(year, 1, 1).toordinal(), datetime.date(year, 12, 31).toordinal() + 1):
+        date = datetime.date.fromordinal(day)
+        digest = (digest * 500 + 8 * date.isocalendar().week + date.weekday()) % PRIME
+    return f"{year:05} {digest:016}\n"
 
 
 def around_months(year):
@@ -63,13 +75,18 @@ def dates(seed):
         yield date.year, date.month, date.day
 
 
+def store(name, seed, fields, records):
+    head = f"# made by: python3 oracle/dates.py --seed {seed}. {fields}".ljust(91) + "\n"
+    with open(DATA + name, "w", encoding="ascii") as out:
+        out.write(head + "".join(records))
+
+
 def main():
     parser = argparse.ArgumentParser()
     parser.add_argument("--seed", type=int, default=1)
     seed = parser.parse_args().seed
-    head = f"# made by: python3 oracle/dates.py --seed {seed}. YEAR MONTH DAY WEEKDAY WEEK".ljust(91) + "\n"
-    with open(PATH, "w", encoding="ascii") as out:
-        out.write(head + "".join(record(*date) for date in dates(seed)))
+    store("dates.txt", seed, "YEAR MONTH DAY WEEKDAY WEEK", (date_record(*date) for date in dates(seed)))
+    store("years.txt", seed, "YEAR DIGEST", map(year_record, range(FIRST, LAST + 1)))
 
 
 main()

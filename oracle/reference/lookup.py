@@ -1,6 +1,6 @@
 """The state lookup: kind and comment at a date and minute.
 
-Dates are those of the standard library's Gregorian calendar. Rests on `sheet`, `points` and `day`.
+Dates and their ISO weeks (document 02, M-104) are those of the standard library's Gregorian calendar. Rests on `sheet`, `points` and `day`.
 """
 
 from __future__ import annotations
@@ -51,12 +51,11 @@ def last_covering(spans: list[StatedSpan], minute: int) -> State:
 
 
 def point_of(year: int, month: int, day: int) -> Point | None:
-    """The point of a date, or none where there is no such date."""
+    """The point of a date, its week by ISO 8601 and its year that of the calendar, or none where there is no such date."""
     if not FIRST_YEAR <= year <= MAXYEAR:
         return None
     try:
         found = date(year, month, day)
     except (ValueError, OverflowError):
         return None
-    week = (found.timetuple().tm_yday - 1) // 7 + 1
-    return found.weekday(), week, month, year
+    return found.weekday(), found.isocalendar().week, month, year

@@ -12,7 +12,7 @@ from .fold import fold
 from .line import NO_LINE, line
 from .lookup import lookup
 from .sheet import (
-    ADDITIONAL, CLOSED, FALLBACK, NO_REPEATS, UNKNOWN, Holiday, Months, Rule, Span, Time, Week, Year, write_sheet,
+    ADDITIONAL, CLOSED, FALLBACK, NO_REPEATS, OPEN, UNKNOWN, Holiday, Months, Rule, Span, Time, Week, Year, write_sheet,
 )
 
 MO, TU, WE, TH, FR, SA, SU = range(7)
@@ -113,6 +113,13 @@ RUNS: dict[str, tuple[list[Rule], tuple[int, int, int]]] = {
 # A date at noon, and the code of its lookup in the example sheet, which is Open all day.
 LOOKUPS = (((2000, 2, 29, 720), 0), ((1900, 2, 29, 720), 8))
 
+# Rules whose comment is the number of their week, and the ISO weeks of days around new years.
+NUMBERED_WEEKS = [plain_rule(comment=week, weeks=(Week(week, week, 1),)) for week in (1, 2, 51, 52, 53)]
+ISO_WEEKS = (
+    ((2026, 12, 31), 53), ((2027, 1, 1), 53), ((2024, 12, 29), 52), ((2024, 12, 30), 1), ((2020, 12, 31), 53), ((2021, 1, 3), 53),
+    ((2021, 1, 4), 1), ((2023, 1, 1), 52), ((2005, 1, 1), 53), ((1900, 1, 1), 1), ((9999, 12, 31), 52),
+)
+
 # Name: rules, and their line.
 LINES: dict[str, tuple[list[Rule], str]] = {
     "no rules": (FOLDS["P1"][0], ""),
@@ -180,6 +187,8 @@ def check_worked() -> None:
     assert (answer, result) == ((0, 1, 1, 0, 15, 0), EXAMPLE)
     for date, code in LOOKUPS:
         assert lookup(EXAMPLE, *date) == (code, 0, 0, 0), date
+    for date, week in ISO_WEEKS:
+        assert lookup(write_sheet(NUMBERED_WEEKS), *date, 720) == (0, OPEN, week, 0), date
     for name, (given, wanted) in LINES.items():
         assert line(write_sheet(given), ROOM) == ((0, len(wanted), 0), wanted.encode()), name
     for name, (given, place) in NO_LINES.items():

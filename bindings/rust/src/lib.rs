@@ -114,7 +114,8 @@ pub fn fold(sheet: &[u8], out: &mut [u8]) -> Result<Folded, Refusal> {
 }
 
 /// The state at a minute of a date, 0 to 1439, by a sheet without a rule that can't be folded exactly: that of the last span that
-/// covers the minute, else closed without a comment.
+/// covers the minute, else closed without a comment. The date's week is that of ISO 8601, its year that of the calendar: 1 January 2027 is in
+/// week 53 and in 2027.
 ///
 /// # Errors
 ///

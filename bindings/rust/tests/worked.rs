@@ -14,6 +14,8 @@ const ALWAYS: &str = "00010000000000000000040005A000";
 const P2: &str = "0002000000000000001004200007FE25821C020000000000000200890000FFC5A030C0";
 const P2_FOLDED: &str =
     "0002000000000000002004000007FE500003FF12C10E0000000000000001008480007FE258168030C21C00";
+/// Week 53, 10:00-18:00.
+const P7: &str = "00010000000000004000075D4044B04380";
 /// Additional Open, 10:00-12:00 with `open_end`.
 const P9: &str = "0001400000000000002004100007FE2C0003FF12C0B420";
 /// Fr-Th 10:00-18:00, then weeks 1-3 with a step of 2, which stops.
@@ -187,6 +189,22 @@ fn the_state_at_a_minute_is_found() {
     ] {
         let state = State { kind, comment: 0 };
         assert_eq!(lookup(&sheet, LEAP_DAY, minute), Ok(state));
+    }
+}
+
+#[test]
+fn weeks_are_those_of_iso_8601() {
+    let sheet = bytes(P7);
+    for (year, month, day, kind) in [
+        (2026, 12, 27, Kind::Closed),
+        (2026, 12, 28, Kind::Open),
+        (2027, 1, 1, Kind::Open),
+        (2027, 1, 3, Kind::Open),
+        (2027, 1, 4, Kind::Closed),
+        (2024, 12, 30, Kind::Closed),
+    ] {
+        let state = State { kind, comment: 0 };
+        assert_eq!(lookup(&sheet, Date { year, month, day }, 720), Ok(state));
     }
 }
 

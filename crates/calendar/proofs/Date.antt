@@ -1,11 +1,11 @@
--- What a date's numbers lie in: years, months and days within their bounds, the day of the year within the year, the week from 1 to 53;
--- how the code's loop sums the months before; and the two ways of the answer. Rests on the flags' laws.
+-- What a date's numbers lie in: years, months and days within their bounds, the day of the year within the year; how the code's loop sums the
+-- months before; and the two ways of the answer. Rests on the flags' laws and on the laws of days.
 -- Assumes nothing.
-use mathlib.Core.Path.{_≡_}
+use mathlib.Core.Path.{_≡_, refl}
 use mathlib.Core.List.{List, [], _∷_}
-use mathlib.Core.Bool.{Bool, true, false, _&&_}
+use mathlib.Core.Bool.{Bool, true, false, _&&_, cond}
 use mathlib.Core.Option.{none, some}
-use Prim.Native.Nat.{ℕ, zero, suc, _+_, _-_, _/_, _≤_, _<_}
+use Prim.Native.Nat.{ℕ, zero, suc, _+_, _-_, _≤_, _<_}
 use native.Mathlib.Numerals.{add-one}
 use native.Mathlib.Omega.{arith}
 use lib.Dec.{leb}
@@ -15,9 +15,11 @@ use Rattle.laws.specs.Lists.{sum}
 use Rattle.laws.proofs.Flags.{split-and}
 use Rattle.grid.specs.Cut.{holds}
 use Rattle.grid.proofs.Cut.{holds-in, in-holds}
-use Rattle.definition.specs.Rule.{monthBounds, weekBounds, yearBounds}
-use Rattle.definition.specs.Date.{isLeap, monthLengths, monthLength, isDate, dayOfYear, weekdayOf, weekOf, pointOf}
+use Rattle.definition.specs.Rule.{monthBounds, yearBounds}
+use Rattle.definition.specs.Date.{isLeap, monthLengths, monthLength, isDate, dayOfYear, yearLength, weekdayAt, weekdayOf, weekAt, weekOf, pointOf}
 use Rattle.calendar.specs.Dated.{pointAt}
+use Rattle.calendar.specs.Days.{InYear}
+use Rattle.calendar.proofs.Days.{year-long}
 
 -- ## Days of the months before
 pub sum-take-next : (xs : List ℕ) (k : ℕ) → k < length xs → sum (λ n. n) (take (suc k) xs) ≡ sum (λ n. n) (take k xs) + getD xs k 0
@@ -47,10 +49,14 @@ sum-take-within [] (suc k) = omega arith
 sum-take-within (x ∷ xs) zero = omega arith
 sum-take-within (x ∷ xs) (suc k) = omega (arith, sum-take-within xs k)
 
-year-days : (leap : Bool) → sum (λ n. n) (monthLengths leap) ≤ 366
-unfolding sum
-year-days true = omega arith
-year-days false = omega arith
+-- the months have the year's days
+year-days : (y : ℕ) → sum (λ n. n) (monthLengths (isLeap y)) ≡ yearLength y
+unfolding sum yearLength
+year-days y = go (isLeap y)
+  where
+    go : (leap : Bool) → sum (λ n. n) (monthLengths leap) ≡ cond leap 366 365
+    go true = refl
+    go false = refl
 
 -- ## A date
 pub make-date : (y m d : ℕ) → (1900 ≤ y) × (y < 10000) → (1 ≤ m) × (m < 13) → (1 ≤ d) × (d ≤ monthLength y m) → isDate y m d ≡ true
@@ -76,20 +82,19 @@ module _ (y m d : ℕ) (h : isDate y m d ≡ true) where
       (leb-true 1 d (k .0), leb-true d (monthLength y m) (k .1))
 
   -- the day of the year lies in the year
-  pub day-within : (d ≤ dayOfYear y m d) × (dayOfYear y m d ≤ 366)
+  pub day-in-year : InYear (y, dayOfYear y m d)
   unfolding dayOfYear monthLength
-  day-within = omega (arith, date-day, sum-take-within (monthLengths (isLeap y)) (m - 1), year-days (isLeap y))
+  day-in-year = omega (arith, date-day, sum-take-within (monthLengths (isLeap y)) (m - 1), year-days y)
 
-  -- the week lies in 1 to 53
-  pub week-within : holds (weekOf y m d) weekBounds ≡ true
-  unfolding weekOf
-  week-within = in-holds ((dayOfYear y m d - 1) / 7 + 1) weekBounds (omega arith) (omega (arith, day-within))
+  pub day-within : (d ≤ dayOfYear y m d) × (dayOfYear y m d ≤ 366)
+  unfolding dayOfYear
+  day-within = (omega arith, omega (arith, day-in-year, year-long y))
 
 -- ## The answer
-pub point-some : (y m d weekday week : ℕ) → isDate y m d ≡ true → weekday ≡ weekdayOf y m d → week ≡ weekOf y m d
+pub point-some : (y m d n weekday week : ℕ) → isDate y m d ≡ true → n ≡ dayOfYear y m d → weekday ≡ weekdayAt (y, n) → week ≡ weekAt (y, n)
     → some (weekday ∷ week ∷ m ∷ y ∷ []) ≡ pointAt y m d
-unfolding pointAt pointOf
-point-some y m d weekday week h e f = rw (e, f, h)
+unfolding pointAt pointOf weekdayOf weekOf
+point-some y m d n weekday week h e f g = rw (f, g, e, h)
 
 pub point-none : (y m d : ℕ) → isDate y m d ≡ false → none ≡ pointAt y m d
 unfolding pointAt

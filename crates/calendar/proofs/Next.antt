@@ -1,7 +1,7 @@
--- The day after a date is a date, and weekdays of consecutive days follow each other, over the ends of months and years too.
--- Rests on the dates' laws.
+-- THE DAY AFTER A DATE is a date, the day after it in the year, and the weekdays of both follow each other, over the ends of months and years
+-- too. Rests on the laws of dates and of days.
 -- Assumes nothing.
-use mathlib.Core.Path.{_≡_, refl}
+use mathlib.Core.Path.{_≡_, refl, sym, ap, _∙_}
 use mathlib.Core.List.{List, [], _∷_}
 use mathlib.Core.Bool.{Bool, true, false, cond}
 use Prim.Native.Nat.{ℕ, zero, suc, _+_, _-_, _%_, _≤_, _<_}
@@ -10,25 +10,19 @@ use lib.Dec.{ltb}
 use lib.ListN.{length, getD, take}
 use borrow.Author.Tests.{ltb-true, ltb-false}
 use Rattle.laws.specs.Lists.{sum, All}
-use Rattle.definition.specs.Date.{isLeap, monthLengths, monthLength, isDate, dayOfYear, newYear, weekdayOf}
-use Rattle.calendar.specs.Next.{next}
-use Rattle.calendar.proofs.Date.{date-year, date-month, date-day, make-date, day-within, sum-take-next}
+use Rattle.definition.specs.Date.{isLeap, monthLengths, monthLength, isDate, dayOfYear, YearDay, yearLength, dayAfter, weekdayAt, weekdayOf}
+use Rattle.calendar.specs.Next.{Date, next}
+use Rattle.calendar.proofs.Days.{same-year, next-year, weekday-after}
+use Rattle.calendar.proofs.Date.{date-year, date-month, date-day, make-date, day-in-year, sum-take-next}
 
--- a year more moves 1 January on by its days
-year-more : (y : ℕ) → 1900 ≤ y → newYear (suc y - 1900) ≡ (newYear (y - 1900) + cond (isLeap y) 2 1) % 7
-unfolding newYear
-year-more y h =
-    let e : suc y - 1900 ≡ suc (y - 1900) = omega arith in
-    let f : 1900 + (y - 1900) ≡ y = omega arith in rw (e, f)
-
--- the day of the year goes on over a month's end, and starts anew after the year's last
+-- ## The day of the year goes on
 month-end : (y m : ℕ) → 1 ≤ m → m < 12 → dayOfYear y (suc m) 1 ≡ suc (dayOfYear y m (monthLength y m))
 unfolding dayOfYear monthLength
 month-end y m h l =
     let e : suc m - 1 ≡ suc (m - 1) = omega arith in rw (e, sum-take-next (monthLengths (isLeap y)) (m - 1) (omega arith)) (omega arith)
 
-year-end : (y : ℕ) → dayOfYear y 12 (monthLength y 12) ≡ cond (isLeap y) 366 365
-unfolding dayOfYear monthLength sum
+year-end : (y : ℕ) → dayOfYear y 12 (monthLength y 12) ≡ yearLength y
+unfolding dayOfYear monthLength sum yearLength
 year-end y = go (isLeap y)
   where
     go : (leap : Bool) → sum (λ n. n) (take 11 (monthLengths leap)) + getD (monthLengths leap) 11 0 ≡ cond leap 366 365
@@ -39,41 +33,7 @@ year-start : (y : ℕ) → dayOfYear y 1 1 ≡ 1
 unfolding dayOfYear sum
 year-start y = refl
 
-module _ (y m d : ℕ) (h : isDate y m d ≡ true) where
-  next-day : (more : ℕ) → more ≡ suc (dayOfYear y m d) → (newYear (y - 1900) + (more - 1)) % 7 ≡ (weekdayOf y m d + 1) % 7
-  unfolding weekdayOf
-  next-day more e = omega (arith, date-day y m d h, day-within y m d h)
-
-  same-month : weekdayOf y m (suc d) ≡ (weekdayOf y m d + 1) % 7
-  unfolding weekdayOf dayOfYear
-  same-month = next-day (dayOfYear y m (suc d)) (omega arith)
-
-  next-month : m < 12 → d ≡ monthLength y m → weekdayOf y (suc m) 1 ≡ (weekdayOf y m d + 1) % 7
-  unfolding weekdayOf
-  next-month l e = next-day (dayOfYear y (suc m) 1) (rw e (month-end y m (date-month y m d h .0) l))
-
-  next-year : m ≡ 12 → d ≡ monthLength y m → weekdayOf (suc y) 1 1 ≡ (weekdayOf y m d + 1) % 7
-  unfolding weekdayOf
-  next-year l e = rw (year-start (suc y), year-more y (date-year y m d h .0), e, l, year-end y) (go (newYear (y - 1900)) (isLeap y))
-    where
-      go : (first : ℕ) (leap : Bool) → ((first + cond leap 2 1) % 7 + (1 - 1)) % 7 ≡ ((first + (cond leap 366 365 - 1)) % 7 + 1) % 7
-      go first true = omega arith
-      go first false = omega arith
-
-  -- the weekday of the day after
-  pub weekday-follows : weekdayOf (next y m d .0) (next y m d .1) (next y m d .2) ≡ (weekdayOf y m d + 1) % 7
-  unfolding next
-  weekday-follows = go (ltb d (monthLength y m)) refl (ltb m 12) refl
-    where
-      go : (s : Bool) → ltb d (monthLength y m) ≡ s → (t : Bool) → ltb m 12 ≡ t
-          → weekdayOf (next y m d .0) (next y m d .1) (next y m d .2) ≡ (weekdayOf y m d + 1) % 7
-      go true e t f = rw (e, next) same-month
-      go false e true f = rw (e, f, next) (next-month (ltb-true m 12 f) (omega (arith, ltb-false d (monthLength y m) e, date-day y m d h)))
-      go false e false f =
-          rw (e, f, next)
-          (next-year (omega (arith, ltb-false m 12 f, date-month y m d h)) (omega (arith, ltb-false d (monthLength y m) e, date-day y m d h)))
-
--- ## The day after is a date
+-- ## The day after
 at-least : (n : ℕ) (xs : List ℕ) → All (λ x. n ≤ x) xs → (k : ℕ) → k < length xs → n ≤ getD xs k 0
 at-least n [] a k l = absurd (omega arith)
 at-least n (x ∷ xs) a zero l = a .0
@@ -87,21 +47,50 @@ month-long y m h l = go (isLeap y)
     go true = at-least 1 (monthLengths true) (omega arith) (m - 1) (omega arith)
     go false = at-least 1 (monthLengths false) (omega arith) (m - 1) (omega arith)
 
--- but for the last year's end
-pub next-date : (y m d : ℕ) → isDate y m d ≡ true → y < 9999 → isDate (next y m d .0) (next y m d .1) (next y m d .2) ≡ true
-unfolding next
-next-date y m d h l = go (ltb d (monthLength y m)) refl (ltb m 12) refl
-  where
-    year : (1900 ≤ y) × (y < 10000)
-    year = date-year y m d h
+-- a date's place in its year
+abbrev pub yearDay : Date → YearDay
+yearDay a = (a .0, dayOfYear (a .0) (a .1) (a .2))
 
-    month : (1 ≤ m) × (m < 13)
-    month = date-month y m d h
+module _ (y m d : ℕ) (h : isDate y m d ≡ true) where
+  same-month : ltb d (monthLength y m) ≡ true → isDate y m (suc d) ≡ true
+  same-month e = make-date y m (suc d) (date-year y m d h) (date-month y m d h) (omega arith, ltb-true d (monthLength y m) e)
 
-    go : (s : Bool) → ltb d (monthLength y m) ≡ s → (t : Bool) → ltb m 12 ≡ t → isDate (next y m d .0) (next y m d .1) (next y m d .2) ≡ true
-    go true e t f = rw (e, next) (make-date y m (suc d) year month (omega arith, ltb-true d (monthLength y m) e))
-    go false e true f =
-        let k : suc m < 13 = omega (arith, ltb-true m 12 f) in
-        rw (e, f, next) (make-date y (suc m) 1 year (omega arith, k) (omega arith, month-long y (suc m) (omega arith) k))
-    go false e false f =
-        rw (e, f, next) (make-date (suc y) 1 1 (omega (arith, year), omega arith) (omega arith, omega arith) (omega arith, month-long (suc y) 1 (omega arith) (omega arith)))
+  next-month : ltb m 12 ≡ true → isDate y (suc m) 1 ≡ true
+  next-month f =
+      let k : suc m < 13 = omega (arith, ltb-true m 12 f) in
+      make-date y (suc m) 1 (date-year y m d h) (omega arith, k) (omega arith, month-long y (suc m) (omega arith) k)
+
+  last-day : ltb d (monthLength y m) ≡ false → d ≡ monthLength y m
+  last-day e = omega (arith, ltb-false d (monthLength y m) e, date-day y m d h)
+
+  -- A DATE, but for the last year's end
+  pub next-date : y < 9999 → isDate (next y m d .0) (next y m d .1) (next y m d .2) ≡ true
+  unfolding next
+  next-date l = go (ltb d (monthLength y m)) refl (ltb m 12) refl
+    where
+      go : (s : Bool) → ltb d (monthLength y m) ≡ s → (t : Bool) → ltb m 12 ≡ t → isDate (next y m d .0) (next y m d .1) (next y m d .2) ≡ true
+      go true e t f = rw (e, next) (same-month e)
+      go false e true f = rw (e, f, next) (next-month f)
+      go false e false f =
+          let years : (1900 ≤ suc y) × (suc y < 10000) = (omega (arith, date-year y m d h), omega arith) in
+          rw (e, f, next) (make-date (suc y) 1 1 years (omega arith, omega arith) (omega arith, month-long (suc y) 1 (omega arith) (omega arith)))
+
+  -- its place is the day after in the same year, or the next year's first
+  pub next-after : yearDay (next y m d) ≡ dayAfter (y, dayOfYear y m d)
+  unfolding next
+  next-after = go (ltb d (monthLength y m)) refl (ltb m 12) refl
+    where
+      on : (m′ d′ : ℕ) → isDate y m′ d′ ≡ true → dayOfYear y m′ d′ ≡ suc (dayOfYear y m d) → yearDay (y, m′, d′) ≡ dayAfter (y, dayOfYear y m d)
+      on m′ d′ k e = rw e (sym (same-year y (dayOfYear y m d) (omega (arith, e, day-in-year y m′ d′ k))))
+
+      go : (s : Bool) → ltb d (monthLength y m) ≡ s → (t : Bool) → ltb m 12 ≡ t → yearDay (next y m d) ≡ dayAfter (y, dayOfYear y m d)
+      go true e t f = rw (e, next) (on m (suc d) (same-month e) (unfold dayOfYear in omega arith))
+      go false e true f = rw (e, f, next) (on (suc m) 1 (next-month f) (rw (last-day e) (month-end y m (date-month y m d h .0) (ltb-true m 12 f))))
+      go false e false f =
+          let twelve : m ≡ 12 = omega (arith, ltb-false m 12 f, date-month y m d h) in
+          rw (e, f, next) (rw (year-start (suc y)) (sym (next-year y (dayOfYear y m d) (rw (last-day e, twelve) (year-end y)))))
+
+  -- its weekday is the next one
+  pub weekday-follows : weekdayOf (next y m d .0) (next y m d .1) (next y m d .2) ≡ (weekdayOf y m d + 1) % 7
+  unfolding weekdayOf
+  weekday-follows = ap weekdayAt next-after ∙ weekday-after y (dayOfYear y m d) (day-in-year y m d h) (date-year y m d h .0)

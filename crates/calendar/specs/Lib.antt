@@ -1,2 +1,3 @@
 pub mod Dated
+pub mod Days
 pub mod Next

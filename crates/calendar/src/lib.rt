@@ -1,4 +1,4 @@
-// Gregorian dates from 1900 to 9999: leap years, month lengths, the weekday of 1 January, day of the year, weekday and week.
+// Gregorian dates from 1900 to 9999: leap years, month lengths, the weekday of 1 January, day of the year, weekday and ISO week.
 // What is right stands in definition's specs/Date. Whatever is no date is answered so.
 mod new_years;
 
@@ -7,8 +7,9 @@ ghost use mathlib.Core.Path.{_≡_};
 ghost use mathlib.Core.Bool.{true};
 ghost use Prim.Native.Nat.{_-_, _<_, _≤_};
 ghost use lib.ListN.{getD};
-ghost use Rattle.definition.specs.Date.{isLeap, monthLengths, isDate, dayOfYear, newYear, weekdayOf, weekOf};
+ghost use Rattle.definition.specs.Date.{isLeap, monthLengths, isDate, dayOfYear, newYear, yearLength, weekdayAt, thursdayOf, weekAt};
 ghost use Rattle.calendar.specs.Dated.{pointIn, pointAt};
+ghost use Rattle.calendar.specs.Days.{InYear};
 
 // The point of a date, or that there is no such date.
 pub enum Dated {
@@ -82,31 +83,58 @@ fn new_year(year: u64) -> u8
     NEW_YEARS[(year % 400) as usize]
 }
 
-// A date's weekday, Monday 0.
-fn weekday_of(year: u64, month: u64, day: u64) -> u8
-    requires { ⌜ isDate year month day ≡ true ⌝ }
-    ensures { λ r. ⌜ r ≡ weekdayOf year month day ⌝ }
+// The weekday of a day of a year, Monday 0.
+fn weekday_of(year: u64, day: u16) -> u8
+    requires { ⌜ (1900 ≤ year) × InYear (year, day) ⌝ }
+    ensures { λ r. ⌜ r ≡ weekdayAt (year, day) ⌝ }
 {
-    let passed = day_of_year(year, month, day) - 1;
-    ((new_year(year) as u16 + passed) % 7) as u8
+    ((new_year(year) as u16 + (day - 1)) % 7) as u8
 }
 
-// A date's week. The week's rule stands here and in definition's `weekOf` alone.
-fn week_of(year: u64, month: u64, day: u64) -> u8
-    requires { ⌜ isDate year month day ≡ true ⌝ }
-    ensures { λ r. ⌜ r ≡ weekOf year month day ⌝ }
+fn year_length(year: u64) -> u16
+    ensures { λ r. ⌜ r ≡ yearLength year ⌝ }
 {
-    ((day_of_year(year, month, day) - 1) / 7 + 1) as u8
+    if is_leap(year) { 366 } else { 365 }
 }
 
-// The point of a date: its weekday, week, month and year.
+// The Thursday of the week that a day of a year is in, as a day of the Thursday's own year: that one, the year before it or the next.
+fn thursday_of(year: u64, day: u16, weekday: u8) -> u16
+    requires { ⌜ (1900 ≤ year) × InYear (year, day) × (weekday ≡ weekdayAt (year, day)) ⌝ }
+    ensures { λ r. ⌜ r ≡ thursdayOf (year, day) .1 ⌝ }
+{
+    let days = day + 3;
+    let passed = weekday as u16;
+    if days <= passed {
+        return year_length(year - 1) + days - passed;
+    }
+    let thursday = days - passed;
+    let length = year_length(year);
+    if thursday <= length {
+        thursday
+    } else {
+        thursday - length
+    }
+}
+
+// The ISO week of a day of a year: the number of the week's Thursday among the Thursdays of that Thursday's year. The week's rule stands
+// here, in `thursday_of` and in the definition's `weekAt` alone.
+fn week_of(year: u64, day: u16, weekday: u8) -> u8
+    requires { ⌜ (1900 ≤ year) × InYear (year, day) × (weekday ≡ weekdayAt (year, day)) ⌝ }
+    ensures { λ r. ⌜ r ≡ weekAt (year, day) ⌝ }
+{
+    ((thursday_of(year, day, weekday) - 1) / 7 + 1) as u8
+}
+
+// The point of a date: its weekday, ISO week, month and calendar year.
 pub fn point_of(year: u64, month: u64, day: u64) -> Dated
     ensures { λ r. ⌜ pointIn r ≡ pointAt year month day ⌝ }
 {
     if is_date(year, month, day) {
+        let passed = day_of_year(year, month, day);
+        let weekday = weekday_of(year, passed);
         Dated::Point {
-            weekday: weekday_of(year, month, day),
-            week: week_of(year, month, day),
+            weekday,
+            week: week_of(year, passed, weekday),
             month: month as u8,
             year: year as u16,
         }

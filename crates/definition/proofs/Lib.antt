@@ -23,3 +23,4 @@ pub mod DayAgain
 pub mod Writing
 pub mod Worked
 pub mod WorkedLines
+pub mod WorkedDates

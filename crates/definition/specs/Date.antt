@@ -1,13 +1,14 @@
--- 01, "State lookup": "Dates are Gregorian, 1900 to 9999. The week is the day of the year less one, divided by seven without remainder,
--- plus one. Month lengths stand in two rows of twelve, common and leap. The weekday of 1 January comes from a table of 400, one
--- entry for each year of the Gregorian cycle".
+-- 01, "State lookup": "Dates are Gregorian, 1900 to 9999. .. Month lengths stand in two rows of twelve, common and leap. The weekday of
+-- 1 January comes from a table of 400, one entry for each year of the Gregorian cycle".
+-- 02, M-104: "Planners publish week numbers by ISO 8601, where week 1 holds the year's first Thursday. .. The lookup takes the ISO week
+-- from now on. The year in the point stays the calendar year".
 -- Assumes nothing.
 use mathlib.Core.List.{List, [], _∷_}
-use mathlib.Core.Bool.{Bool, _&&_, _||_, not, cond}
-use Prim.Native.Nat.{ℕ, zero, suc, _+_, _-_, _/_, _%_}
-use lib.Dec.{eqb, leb}
+use mathlib.Core.Bool.{Bool, true, false, _&&_, _||_, not, cond}
+use Prim.Native.Nat.{ℕ, zero, suc, _+_, _-_, _%_}
+use lib.Dec.{eqb, leb, ltb}
 use lib.ListN.{getD, take}
-use Rattle.laws.specs.Lists.{sum}
+use Rattle.laws.specs.Lists.{from, count, sum}
 use Rattle.grid.specs.Cut.{holds}
 use Rattle.definition.specs.Rule.{monthBounds, yearBounds}
 
@@ -35,13 +36,60 @@ unfoldable pub newYear : ℕ → ℕ
 newYear zero = 0
 newYear (suc n) = (newYear n + cond (isLeap (1900 + n)) 2 1) % 7
 
+-- the weekday of a year's nth day, where 1 January is `first`
+unfoldable pub weekdayFrom : ℕ → ℕ → ℕ
+weekdayFrom first n = (first + (n - 1)) % 7
+
+-- ## Days, over the ends of years
+-- a year, and a day of it, 1 January the first
+abbrev pub YearDay : Type 0
+YearDay = ℕ × ℕ
+
+unfoldable pub yearLength : ℕ → ℕ
+yearLength y = cond (isLeap y) 366 365
+
+unfoldable pub dayAfter : YearDay → YearDay
+dayAfter a = elim (ltb (a .1) (yearLength (a .0))) [ true ↦ (a .0, suc (a .1)) | false ↦ (suc (a .0), 1) ]
+
+unfoldable pub dayBefore : YearDay → YearDay
+dayBefore a = elim (ltb 1 (a .1)) [ true ↦ (a .0, a .1 - 1) | false ↦ (a .0 - 1, yearLength (a .0 - 1)) ]
+
+-- a step taken n times
+unfoldable pub times : ℕ → (YearDay → YearDay) → YearDay → YearDay
+times zero step a = a
+times (suc n) step a = times n step (step a)
+
+-- a day's weekday, Monday 0
+unfoldable pub weekdayAt : YearDay → ℕ
+weekdayAt a = weekdayFrom (newYear (a .0 - 1900)) (a .1)
+
 unfoldable pub weekdayOf : ℕ → ℕ → ℕ → ℕ
-weekdayOf y m d = (newYear (y - 1900) + (dayOfYear y m d - 1)) % 7
+weekdayOf y m d = weekdayAt (y, dayOfYear y m d)
 
--- "The week is the day of the year less one, divided by seven without remainder, plus one."
+-- ## Weeks, by ISO 8601
+abbrev pub thursday : ℕ
+thursday = 3
+
+-- weeks go from Monday to Sunday: the Thursday comes 3, 2 or 1 days after the week's Monday, Tuesday or Wednesday, and 1, 2 or 3 days
+-- before its Friday, Saturday or Sunday. What goes below 0 is 0, so one walks one way alone.
+unfoldable pub thursdayOf : YearDay → YearDay
+thursdayOf a = times (thursday - weekdayAt a) dayAfter (times (weekdayAt a - thursday) dayBefore a)
+
+-- how many of a year's first n days are Thursdays, where 1 January is `first`
+unfoldable pub thursdaysAmong : ℕ → ℕ → ℕ
+thursdaysAmong first n = count (λ k. eqb (weekdayFrom first k) thursday) (from 1 n)
+
+-- how many Thursdays a year has had by the end of a day
+unfoldable pub thursdaysBy : YearDay → ℕ
+thursdaysBy a = thursdaysAmong (newYear (a .0 - 1900)) (a .1)
+
+-- a week belongs to the year that its Thursday lies in, and "week 1 holds the year's first Thursday": so week k holds its kth
+unfoldable pub weekAt : YearDay → ℕ
+weekAt a = thursdaysBy (thursdayOf a)
+
 unfoldable pub weekOf : ℕ → ℕ → ℕ → ℕ
-weekOf y m d = (dayOfYear y m d - 1) / 7 + 1
+weekOf y m d = weekAt (y, dayOfYear y m d)
 
--- the point of a date
+-- the point of a date: "The year in the point stays the calendar year"
 unfoldable pub pointOf : ℕ → ℕ → ℕ → List ℕ
 pointOf y m d = weekdayOf y m d ∷ weekOf y m d ∷ m ∷ y ∷ []

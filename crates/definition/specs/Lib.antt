@@ -17,3 +17,4 @@ pub mod Line
 pub mod Show
 pub mod Worked
 pub mod WorkedLines
+pub mod WorkedDates

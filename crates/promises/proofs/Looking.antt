@@ -4,8 +4,7 @@
 use mathlib.Core.Path.{_≡_, refl, sym, ap, _∙_}
 use mathlib.Core.List.{List, [], _∷_, map}
 use mathlib.Core.Bool.{true, cond}
-use Prim.Native.Nat.{ℕ, _+_, _-_, _≤_, _<_}
-use native.Mathlib.Nat.{mod-lt}
+use Prim.Native.Nat.{ℕ, _≤_, _<_}
 use native.Mathlib.Omega.{arith}
 use lib.Dec.{ltb}
 use borrow.Author.Tests.{ltb-true}
@@ -19,10 +18,12 @@ use Rattle.definition.specs.Sheet.{Form, Limits}
 use Rattle.definition.specs.Stop.{drained}
 use Rattle.definition.specs.Point.{listAt}
 use Rattle.definition.specs.Day.{Stated, entryOf, flattened, simple, within, lastOver}
-use Rattle.definition.specs.Date.{isDate, dayOfYear, newYear, weekdayOf, weekOf, pointOf}
+use Rattle.definition.specs.Date.{isDate, dayOfYear, weekdayOf, weekOf, pointOf}
 use Rattle.definition.specs.Lookup.{Looked, found, lookup}
 use Rattle.definition.specs.Saying.{Cover, says}
-use Rattle.calendar.proofs.Date.{date-year, date-month, week-within}
+use Rattle.calendar.proofs.Days.{weekday-within}
+use Rattle.calendar.proofs.Date.{date-year, date-month}
+use Rattle.calendar.proofs.Week.{week-within}
 use Rattle.promises.specs.Meaning.{isPoint}
 use Rattle.promises.specs.Looking.{Tells, LookupSays, LookupSilent}
 use Rattle.promises.proofs.Meaning.{folded-says}
@@ -39,7 +40,7 @@ last-simple c m S (x ∷ xs) h =
 date-point : (y mo d : ℕ) → isDate y mo d ≡ true → isPoint (pointOf y mo d) ≡ true
 unfolding pointOf inside weekdayOf
 date-point y mo d h =
-    both-and _ _ (from-inside (weekdayOf y mo d) 0 7 (omega arith) (mod-lt (newYear (y - 1900) + (dayOfYear y mo d - 1)) (omega arith)))
+    both-and _ _ (from-inside (weekdayOf y mo d) 0 7 (omega arith) (weekday-within (y, dayOfYear y mo d)))
     (both-and _ _ (from-inside (weekOf y mo d) 1 53 (omega (arith, week)) (omega (arith, week)))
     (both-and _ _ (from-inside mo 1 12 (omega (arith, month)) (omega (arith, month))) (both-and _ _ (from-inside y 1900 8100 (omega (arith, year)) (omega (arith, year))) refl)))
   where

@@ -10,9 +10,11 @@ use Rattle.laws.specs.Lists.{onlyIf}
 use Rattle.grid.proofs.Cut.{holds-in}
 use Rattle.definition.specs.Rule.{weekBounds}
 use Rattle.definition.specs.Point.{allBounds}
-use Rattle.definition.specs.Date.{isDate, weekdayOf, weekOf, pointOf}
+use Rattle.definition.specs.Date.{isDate, dayOfYear, weekdayOf, weekOf, pointOf}
 use Rattle.calendar.specs.Dated.{pointAt}
-use Rattle.calendar.proofs.Date.{date-year, date-month, week-within}
+use Rattle.calendar.proofs.Days.{weekday-within}
+use Rattle.calendar.proofs.Date.{date-year, date-month}
+use Rattle.calendar.proofs.Week.{week-within}
 use Rattle.state_at.specs.Boxes.{InBounds}
 
 pub date-bounds : (y m d : ℕ) → isDate y m d ≡ true → InBounds allBounds (pointOf y m d)
@@ -21,7 +23,7 @@ date-bounds y m d h =
     let week = holds-in (weekOf y m d) weekBounds (week-within y m d h) in
     let month = date-month y m d h in
     let year = date-year y m d h in
-    (omega arith, omega arith, (week .0, week .1, (month .0, month .1, (year .0, year .1, tt))))
+    (omega arith, weekday-within (y, dayOfYear y m d), (week .0, week .1, (month .0, month .1, (year .0, year .1, tt))))
 
 -- ## The calendar's answer
 isPoint : Option (List ℕ) → Bool

@@ -3,7 +3,7 @@
 use mathlib.Core.Path.{sym, _∙_}
 use native.Mathlib.Omega.{arith}
 use borrow.Author.Needs.{needs}
-use Rattle.calendar.proofs.Date.{date-year, date-month, point-some, point-none}
+use Rattle.calendar.proofs.Date.{date-year, date-month, day-in-year, point-some, point-none}
 use Rattle.calendar.proofs.point_of.Statement.{statement}
 use Rattle.calendar.proofs.point_of.Tie as tie
 
@@ -13,8 +13,16 @@ point-of-spec =
     (tie.spec
     (λ c κs. search needs)
     (λ c κs. sym (c .before .is-date .ensures) ∙ c .if1 .taken)
-    (λ c κs. sym (c .before .before .is-date .ensures) ∙ c .before .if1 .taken)
-    (λ c. omega (arith, date-month _ _ _ (sym (c .before .before .before .is-date .ensures) ∙ c .before .before .if1 .taken)))
-    (λ c. omega (arith, date-year _ _ _ (sym (c .before .before .before .is-date .ensures) ∙ c .before .before .if1 .taken)))
-    (λ c. point-some _ _ _ _ _ (sym (c .before .before .before .is-date .ensures) ∙ c .before .before .if1 .taken) (c .before .weekday-of .ensures) (c .week-of .ensures))
+    (λ c κs.
+    let dated = sym (c .before .before .is-date .ensures) ∙ c .before .if1 .taken in
+    (date-year _ _ _ dated .0, rw (c .day-of-year .ensures) (day-in-year _ _ _ dated)))
+    (λ c κs.
+    let known = c .before .before in
+    let dated = sym (known .before .is-date .ensures) ∙ known .if1 .taken in
+    (date-year _ _ _ dated .0, rw (c .before .day-of-year .ensures) (day-in-year _ _ _ dated), c .weekday-of .ensures))
+    (λ c. let known = c .before .before .before in omega (arith, date-month _ _ _ (sym (known .before .is-date .ensures) ∙ known .if1 .taken)))
+    (λ c. let known = c .before .before .before in omega (arith, date-year _ _ _ (sym (known .before .is-date .ensures) ∙ known .if1 .taken)))
+    (λ c.
+    let known = c .before .before .before in
+    point-some _ _ _ _ _ _ (sym (known .before .is-date .ensures) ∙ known .if1 .taken) (c .before .before .day-of-year .ensures) (c .before .weekday-of .ensures) (c .week-of .ensures))
     (λ c. point-none _ _ _ (sym (c .before .is-date .ensures) ∙ c .if1 .left)))

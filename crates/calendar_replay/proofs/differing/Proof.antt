@@ -7,10 +7,10 @@ use Rattle.calendar_replay.proofs.differing.Statement.{statement}
 use Rattle.calendar_replay.proofs.differing.Tie as tie
 
 abbrev Inv-loop : tie.InvT-loop
-Inv-loop s records n₀ i₀ n i = (i ≤ records) × (n ≤ i)
+Inv-loop sort s records n₀ i₀ n i = (i ≤ records) × (n ≤ i)
 
 abbrev μ-loop : tie.MeasureT-loop
-μ-loop s records n₀ i₀ n i = records - i
+μ-loop sort s records n₀ i₀ n i = records - i
 
 pub differing-spec : {M : Type 1} → statement M
 differing-spec =

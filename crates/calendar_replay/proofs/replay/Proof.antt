@@ -6,10 +6,10 @@ use Rattle.calendar_replay.proofs.replay.Statement.{statement}
 use Rattle.calendar_replay.proofs.replay.Tie as tie
 
 abbrev Inv-loop : tie.InvT-loop
-Inv-loop fd compared₀ differing₀ turn₀ compared differing turn = (turn ≤ 1000) × (compared ≤ 178 * turn) × (differing ≤ 178 * turn)
+Inv-loop fd sort compared₀ differing₀ turn₀ compared differing turn = (turn ≤ 1000) × (compared ≤ 178 * turn) × (differing ≤ 178 * turn)
 
 abbrev μ-loop : tie.MeasureT-loop
-μ-loop fd compared₀ differing₀ turn₀ compared differing turn = 1000 - turn
+μ-loop fd sort compared₀ differing₀ turn₀ compared differing turn = 1000 - turn
 
 pub replay-spec : {M : Type 1} → statement M
 replay-spec =

@@ -1,0 +1,7 @@
+-- A day that its year has. Rests on definition's specs/Date.
+-- Assumes nothing.
+use Prim.Native.Nat.{_≤_}
+use Rattle.definition.specs.Date.{YearDay, yearLength}
+
+abbrev pub InYear : YearDay → Type 0
+InYear a = (1 ≤ a .1) × (a .1 ≤ yearLength (a .0))
