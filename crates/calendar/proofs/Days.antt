@@ -1,14 +1,13 @@
--- DAYS, OVER THE ENDS OF YEARS: how long a year is, the day after a day and the day before it undo each other, weekdays follow each other,
--- and where one comes by walking some days on or back.
+-- DAYS, OVER THE ENDS OF YEARS: how long a year is, a day is the one before the day after it, weekdays follow each other, and where one comes
+-- by walking some days on or back.
 -- Assumes nothing.
 use mathlib.Core.Path.{_≡_, refl, ap, _∙_}
 use mathlib.Core.Bool.{Bool, true, false, cond}
-use mathlib.Core.Logic.{_⊎_, inl, inr}
+use mathlib.Core.Logic.{⊎-elim}
 use Prim.Native.Nat.{ℕ, zero, suc, _+_, _-_, _%_, _≤_, _<_}
-use native.Mathlib.Nat.{mod-lt}
+use native.Mathlib.Nat.{mod-lt, eq-or-lt-of-le}
 use native.Mathlib.Omega.{arith}
 use borrow.Author.Tests.{lt-ltb, le-ltb}
-use Rattle.laws.proofs.Numbers.{order}
 use Rattle.definition.specs.Date.{isLeap, newYear, weekdayFrom, YearDay, yearLength, dayAfter, dayBefore, times, weekdayAt}
 use Rattle.calendar.specs.Days.{InYear}
 
@@ -50,49 +49,36 @@ year-before y = refl
 
 module _ (y n : ℕ) (inside : InYear (y, n)) where
   pub before-after : dayBefore (dayAfter (y, n)) ≡ (y, n)
-  before-after = go (order n (yearLength y))
+  before-after = ⊎-elim next same (eq-or-lt-of-le (inside .1))
     where
-      go : (n < yearLength y) ⊎ ((n ≡ yearLength y) ⊎ (yearLength y < n)) → dayBefore (dayAfter (y, n)) ≡ (y, n)
-      go (inl l) =
-          let f : suc n - 1 ≡ n = omega arith in
-          ap dayBefore (same-year y n l) ∙ own-year y (suc n) (omega (arith, inside)) ∙ rw f
-      go (inr (inl e)) =
-          let f : suc y - 1 ≡ y = omega arith in
-          ap dayBefore (next-year y n e) ∙ year-before (suc y) ∙ rw (f, e)
-      go (inr (inr l)) = absurd (omega (arith, inside))
+      same : n < yearLength y → dayBefore (dayAfter (y, n)) ≡ (y, n)
+      same l = let f : suc n - 1 ≡ n = omega arith in ap dayBefore (same-year y n l) ∙ own-year y (suc n) (omega (arith, inside)) ∙ rw f
 
-  pub after-before : 1 ≤ y → dayAfter (dayBefore (y, n)) ≡ (y, n)
-  after-before h = go (order 1 n)
-    where
-      go : (1 < n) ⊎ ((1 ≡ n) ⊎ (n < 1)) → dayAfter (dayBefore (y, n)) ≡ (y, n)
-      go (inl l) =
-          let e : suc (n - 1) ≡ n = omega arith in
-          ap dayAfter (own-year y n l) ∙ same-year y (n - 1) (omega (arith, inside)) ∙ rw e
-      go (inr (inl e)) =
-          let f : suc (y - 1) ≡ y = omega (arith, h) in
-          rw (← e) (ap dayAfter (year-before y) ∙ next-year (y - 1) (yearLength (y - 1)) refl ∙ rw f)
-      go (inr (inr l)) = absurd (omega (arith, inside))
+      next : n ≡ yearLength y → dayBefore (dayAfter (y, n)) ≡ (y, n)
+      next e = let f : suc y - 1 ≡ y = omega arith in ap dayBefore (next-year y n e) ∙ year-before (suc y) ∙ rw (f, e)
 
   pub after-inside : (y ≤ dayAfter (y, n) .0) × InYear (dayAfter (y, n))
-  after-inside = go (order n (yearLength y))
+  after-inside = ⊎-elim next same (eq-or-lt-of-le (inside .1))
     where
-      go : (n < yearLength y) ⊎ ((n ≡ yearLength y) ⊎ (yearLength y < n)) → (y ≤ dayAfter (y, n) .0) × InYear (dayAfter (y, n))
-      go (inl l) = rw (same-year y n l) (omega arith, (omega arith, omega arith))
-      go (inr (inl e)) = rw (next-year y n e) (omega arith, (omega arith, omega (arith, year-long (suc y))))
-      go (inr (inr l)) = absurd (omega (arith, inside))
+      same : n < yearLength y → (y ≤ dayAfter (y, n) .0) × InYear (dayAfter (y, n))
+      same l = rw (same-year y n l) (omega arith, (omega arith, omega arith))
+
+      next : n ≡ yearLength y → (y ≤ dayAfter (y, n) .0) × InYear (dayAfter (y, n))
+      next e = rw (next-year y n e) (omega arith, (omega arith, omega (arith, year-long (suc y))))
 
   -- WEEKDAYS FOLLOW EACH OTHER
   pub weekday-after : 1900 ≤ y → weekdayAt (dayAfter (y, n)) ≡ (weekdayAt (y, n) + 1) % 7
-  weekday-after h = go (order n (yearLength y))
+  weekday-after h = ⊎-elim next same (eq-or-lt-of-le (inside .1))
     where
+      same : n < yearLength y → weekdayAt (dayAfter (y, n)) ≡ (weekdayAt (y, n) + 1) % 7
+      same l = rw (same-year y n l) (unfold weekdayAt weekdayFrom in omega (arith, inside))
+
       over : (first : ℕ) (leap : Bool) → ((first + cond leap 2 1) % 7 + (1 - 1)) % 7 ≡ ((first + (cond leap 366 365 - 1)) % 7 + 1) % 7
       over first true = omega arith
       over first false = omega arith
 
-      go : (n < yearLength y) ⊎ ((n ≡ yearLength y) ⊎ (yearLength y < n)) → weekdayAt (dayAfter (y, n)) ≡ (weekdayAt (y, n) + 1) % 7
-      go (inl l) = rw (same-year y n l) (unfold weekdayAt weekdayFrom in omega (arith, inside))
-      go (inr (inl e)) = rw (next-year y n e, e) (unfold weekdayAt weekdayFrom yearLength in rw (year-more y h) (over (newYear (y - 1900)) (isLeap y)))
-      go (inr (inr l)) = absurd (omega (arith, inside))
+      next : n ≡ yearLength y → weekdayAt (dayAfter (y, n)) ≡ (weekdayAt (y, n) + 1) % 7
+      next e = rw (next-year y n e, e) (unfold weekdayAt weekdayFrom yearLength in rw (year-more y h) (over (newYear (y - 1900)) (isLeap y)))
 
 -- ## Some days on, some days back
 pub on-within : (k y n : ℕ) → n + k ≤ yearLength y → times k dayAfter (y, n) ≡ (y, n + k)
@@ -105,17 +91,15 @@ on-within (suc k) y n l =
 pub on-over : (k y n : ℕ) → n ≤ yearLength y → yearLength y < n + k → k ≤ 365 → times k dayAfter (y, n) ≡ (suc y, n + k - yearLength y)
 unfolding times
 on-over zero y n l h j = absurd (omega arith)
-on-over (suc k) y n l h j = go (λ q. on-over k y (suc n) q (omega arith) (omega arith)) (order n (yearLength y))
+on-over (suc k) y n l h j = ⊎-elim next (λ q. same q (on-over k y (suc n) q (omega arith) (omega arith))) (eq-or-lt-of-le l)
   where
-    go : (n < yearLength y → times k dayAfter (y, suc n) ≡ (suc y, suc n + k - yearLength y))
-        → (n < yearLength y) ⊎ ((n ≡ yearLength y) ⊎ (yearLength y < n)) → times k dayAfter (dayAfter (y, n)) ≡ (suc y, n + suc k - yearLength y)
-    go on (inl q) =
-        let e : suc n + k - yearLength y ≡ n + suc k - yearLength y = omega arith in
-        ap (times k dayAfter) (same-year y n q) ∙ on q ∙ rw e
-    go on (inr (inl q)) =
+    same : n < yearLength y → times k dayAfter (y, suc n) ≡ (suc y, suc n + k - yearLength y) → times k dayAfter (dayAfter (y, n)) ≡ (suc y, n + suc k - yearLength y)
+    same q on = let e : suc n + k - yearLength y ≡ n + suc k - yearLength y = omega arith in ap (times k dayAfter) (same-year y n q) ∙ on ∙ rw e
+
+    next : n ≡ yearLength y → times k dayAfter (dayAfter (y, n)) ≡ (suc y, n + suc k - yearLength y)
+    next q =
         let e : 1 + k ≡ n + suc k - yearLength y = omega arith in
         ap (times k dayAfter) (next-year y n q) ∙ on-within k (suc y) 1 (omega (arith, year-long (suc y))) ∙ rw e
-    go on (inr (inr q)) = absurd (omega arith)
 
 pub back-within : (k y n : ℕ) → k < n → times k dayBefore (y, n) ≡ (y, n - k)
 unfolding times
@@ -127,14 +111,15 @@ back-within (suc k) y n l =
 pub back-over : (k y n : ℕ) → 1 ≤ n → n ≤ k → k ≤ 365 → times k dayBefore (y, n) ≡ (y - 1, yearLength (y - 1) + n - k)
 unfolding times
 back-over zero y n l h j = absurd (omega arith)
-back-over (suc k) y n l h j = go (λ q. back-over k y (n - 1) q (omega arith) (omega arith)) (order 1 n)
+back-over (suc k) y n l h j = ⊎-elim first (λ q. later q (back-over k y (n - 1) (omega (arith, q)) (omega arith) (omega arith))) (eq-or-lt-of-le l)
   where
-    go : (1 ≤ n - 1 → times k dayBefore (y, n - 1) ≡ (y - 1, yearLength (y - 1) + (n - 1) - k))
-        → (1 < n) ⊎ ((1 ≡ n) ⊎ (n < 1)) → times k dayBefore (dayBefore (y, n)) ≡ (y - 1, yearLength (y - 1) + n - suc k)
-    go on (inl q) =
+    later : 1 < n → times k dayBefore (y, n - 1) ≡ (y - 1, yearLength (y - 1) + (n - 1) - k)
+        → times k dayBefore (dayBefore (y, n)) ≡ (y - 1, yearLength (y - 1) + n - suc k)
+    later q on =
         let e : yearLength (y - 1) + (n - 1) - k ≡ yearLength (y - 1) + n - suc k = omega arith in
-        ap (times k dayBefore) (own-year y n q) ∙ on (omega arith) ∙ rw e
-    go on (inr (inl q)) =
+        ap (times k dayBefore) (own-year y n q) ∙ on ∙ rw e
+
+    first : 1 ≡ n → times k dayBefore (dayBefore (y, n)) ≡ (y - 1, yearLength (y - 1) + n - suc k)
+    first q =
         let e : yearLength (y - 1) - k ≡ yearLength (y - 1) + 1 - suc k = omega arith in
         rw (← q) (ap (times k dayBefore) (year-before y) ∙ back-within k (y - 1) (yearLength (y - 1)) (omega (arith, year-long (y - 1))) ∙ rw e)
-    go on (inr (inr q)) = absurd (omega arith)

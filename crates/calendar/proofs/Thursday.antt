@@ -3,13 +3,14 @@
 -- Assumes nothing.
 use mathlib.Core.Path.{_≡_, refl, sym, ap, _∙_}
 use mathlib.Core.Bool.{Bool, true, false, cond}
-use mathlib.Core.Logic.{_⊎_, inl, inr}
+use mathlib.Core.Logic.{⊎-elim}
 use Prim.Native.Nat.{ℕ, zero, suc, _+_, _-_, _/_, _%_, _≤_, _<_}
+use native.Mathlib.Nat.{eq-or-lt-of-le}
 use native.Mathlib.Omega.{arith}
 use lib.Dec.{eqb}
 use borrow.Author.Tests.{eqb-true, eqb-false}
 use Rattle.laws.specs.Lists.{from, count}
-use Rattle.laws.proofs.Numbers.{order}
+use Rattle.laws.proofs.Numbers.{at-most}
 use Rattle.definition.specs.Date.{isLeap, newYear, weekdayFrom, YearDay, yearLength, dayAfter, dayBefore, times, weekdayAt, thursday, thursdayOf, thursdaysAmong, thursdaysBy}
 use Rattle.calendar.specs.Days.{InYear}
 use Rattle.calendar.proofs.Days.{year-long, year-more, before-after, weekday-within, weekday-after, on-within, on-over, back-within, back-over}
@@ -47,19 +48,13 @@ module _ (y n : ℕ) (inside : InYear (y, n)) where
   w = weekdayAt (y, n)
 
   pub thursday-same : w < n + 3 → n + 3 - w ≤ yearLength y → thursdayOf (y, n) ≡ (y, n + 3 - w)
-  thursday-same l h = go (order w 3)
+  thursday-same l h = ⊎-elim on back (at-most w 3)
     where
-      back : 3 ≤ w → thursdayOf (y, n) ≡ (y, n + 3 - w)
-      back k =
-          let e : n - (w - 3) ≡ n + 3 - w = omega arith in
-          walk-back (y, n) k ∙ back-within (w - 3) y n (omega arith) ∙ rw e
+      on : w ≤ 3 → thursdayOf (y, n) ≡ (y, n + 3 - w)
+      on k = let e : n + (3 - w) ≡ n + 3 - w = omega arith in walk-on (y, n) k ∙ on-within (3 - w) y n (omega arith) ∙ rw e
 
-      go : (w < 3) ⊎ ((w ≡ 3) ⊎ (3 < w)) → thursdayOf (y, n) ≡ (y, n + 3 - w)
-      go (inl q) =
-          let e : n + (3 - w) ≡ n + 3 - w = omega arith in
-          walk-on (y, n) (omega arith) ∙ on-within (3 - w) y n (omega arith) ∙ rw e
-      go (inr (inl q)) = back (omega arith)
-      go (inr (inr q)) = back (omega arith)
+      back : 3 < w → thursdayOf (y, n) ≡ (y, n + 3 - w)
+      back k = let e : n - (w - 3) ≡ n + 3 - w = omega arith in walk-back (y, n) (omega arith) ∙ back-within (w - 3) y n (omega arith) ∙ rw e
 
   pub thursday-before : n + 3 ≤ w → thursdayOf (y, n) ≡ (y - 1, yearLength (y - 1) + n + 3 - w)
   thursday-before l =
@@ -78,30 +73,15 @@ module _ (y n : ℕ) (inside : InYear (y, n)) where
       → (n + 3 ≤ w → P (y - 1, yearLength (y - 1) + n + 3 - w))
       → (yearLength y < n + 3 - w → P (suc y, n + 3 - w - yearLength y))
       → P (thursdayOf (y, n))
-  thursday-in P same before next = go (order w (n + 3)) (order (n + 3 - w) (yearLength y))
+  thursday-in P same before next = ⊎-elim (λ l. rw (thursday-before l) (before l)) here (at-most (n + 3) w)
     where
-      own : w < n + 3 → n + 3 - w ≤ yearLength y → P (thursdayOf (y, n))
-      own l h = rw (thursday-same l h) (same l h)
-
-      early : n + 3 ≤ w → P (thursdayOf (y, n))
-      early l = rw (thursday-before l) (before l)
-
-      go : (w < n + 3) ⊎ ((w ≡ n + 3) ⊎ (n + 3 < w)) → (n + 3 - w < yearLength y) ⊎ ((n + 3 - w ≡ yearLength y) ⊎ (yearLength y < n + 3 - w)) → P (thursdayOf (y, n))
-      go (inl l) (inl h) = own l (omega arith)
-      go (inl l) (inr (inl h)) = own l (omega arith)
-      go (inl l) (inr (inr h)) = rw (thursday-next h) (next h)
-      go (inr (inl l)) h = early (omega arith)
-      go (inr (inr l)) h = early (omega arith)
+      here : w < n + 3 → P (thursdayOf (y, n))
+      here l = ⊎-elim (λ h. rw (thursday-same l h) (same l h)) (λ h. rw (thursday-next h) (next h)) (at-most (n + 3 - w) (yearLength y))
 
   -- 1 January 1900 was a Monday, so no week of 1900 has its Thursday in the year before
   first-year : 1900 ≤ y → n + 3 ≤ w → 1901 ≤ y
   unfolding weekdayAt weekdayFrom newYear
-  first-year h l = go (order 1900 y)
-    where
-      go : (1900 < y) ⊎ ((1900 ≡ y) ⊎ (y < 1900)) → 1901 ≤ y
-      go (inl q) = omega arith
-      go (inr (inl q)) = absurd (omega (arith, rw (← q) at l))
-      go (inr (inr q)) = absurd (omega arith)
+  first-year h l = ⊎-elim (λ e. absurd (omega (arith, rw (← e) at l))) (λ k. k) (eq-or-lt-of-le h)
 
   in-same : w < n + 3 → weekdayAt (y, n + 3 - w) ≡ thursday
   unfolding weekdayAt weekdayFrom
@@ -143,22 +123,20 @@ module _ (y n : ℕ) (inside : InYear (y, n)) where
   -- THE SAME FROM MONDAY TO SUNDAY: the day after any other day than a Sunday is in its week
   pub thursday-stays : 1900 ≤ y → w < 6 → thursdayOf (dayAfter (y, n)) ≡ thursdayOf (y, n)
   unfolding times
-  thursday-stays h l = go (order w 3)
+  thursday-stays h l = ⊎-elim back on (at-most 3 w)
     where
       follows : weekdayAt (dayAfter (y, n)) ≡ suc w
       follows = weekday-after y n inside h ∙ omega (arith, l)
+
+      on : w < 3 → thursdayOf (dayAfter (y, n)) ≡ thursdayOf (y, n)
+      on k =
+          let e : 3 - w ≡ suc (3 - weekdayAt (dayAfter (y, n))) = omega (arith, follows) in
+          walk-on (dayAfter (y, n)) (omega (arith, follows)) ∙ sym (walk-on (y, n) (omega arith) ∙ rw e)
 
       back : 3 ≤ w → thursdayOf (dayAfter (y, n)) ≡ thursdayOf (y, n)
       back k =
           let e : weekdayAt (dayAfter (y, n)) - 3 ≡ suc (w - 3) = omega (arith, follows) in
           walk-back (dayAfter (y, n)) (omega (arith, follows)) ∙ rw e (ap (times (w - 3) dayBefore) (before-after y n inside)) ∙ sym (walk-back (y, n) k)
-
-      go : (w < 3) ⊎ ((w ≡ 3) ⊎ (3 < w)) → thursdayOf (dayAfter (y, n)) ≡ thursdayOf (y, n)
-      go (inl q) =
-          let e : 3 - w ≡ suc (3 - weekdayAt (dayAfter (y, n))) = omega (arith, follows) in
-          walk-on (dayAfter (y, n)) (omega (arith, follows)) ∙ sym (walk-on (y, n) (omega arith) ∙ rw e)
-      go (inr (inl q)) = back (omega arith)
-      go (inr (inr q)) = back (omega arith)
 
   -- after a Sunday comes the Monday of the next week, whose Thursday is 4 days after the Sunday
   pub thursday-after : 1900 ≤ y → w ≡ 6 → thursdayOf (dayAfter (y, n)) ≡ times 4 dayAfter (y, n)

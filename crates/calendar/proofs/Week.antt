@@ -4,11 +4,12 @@
 -- Assumes nothing.
 use mathlib.Core.Path.{_≡_, refl, ap, _∙_}
 use mathlib.Core.Bool.{true}
-use mathlib.Core.Logic.{_⊎_, inl, inr}
+use mathlib.Core.Logic.{_⊎_, inl, inr, ⊎-elim}
 use Prim.Native.Nat.{ℕ, suc, _+_, _-_, _/_, _≤_, _<_}
+use native.Mathlib.Nat.{eq-or-lt-of-le}
 use native.Mathlib.Omega.{arith}
 use Rattle.laws.specs.Lists.{sum}
-use Rattle.laws.proofs.Numbers.{order}
+use Rattle.laws.proofs.Numbers.{at-most}
 use Rattle.grid.specs.Cut.{holds}
 use Rattle.grid.proofs.Cut.{in-holds}
 use Rattle.definition.specs.Rule.{weekBounds}
@@ -37,7 +38,7 @@ abbrev pub Turns : ℕ → ℕ → Type 0
 Turns week after = (after ≡ suc week) ⊎ ((after ≡ 1) × (52 ≤ week))
 
 week-after : (y n : ℕ) → InYear (y, n) → 1900 ≤ y → weekdayAt (y, n) ≡ 6 → Turns (weekAt (y, n)) (weekAt (dayAfter (y, n)))
-week-after y n inside h e = go (order n 3) (order (n + 3) (yearLength y))
+week-after y n inside h e = ⊎-elim early late (at-most n 3)
   where
     old : weekAt (y, n) ≡ (thursdayOf (y, n) .1 - 1) / 7 + 1
     old = week-number y n inside h
@@ -62,13 +63,12 @@ week-after y n inside h e = go (order n 3) (order (n + 3) (yearLength y))
         let before = ap (λ t. t .1) (thursday-before y n inside (omega (arith, e))) in
         inr (omega (arith, new, here (omega (arith, year-long y)), inside), omega (arith, old, before, e, year-long (y - 1), inside))
 
-    go : (n < 3) ⊎ ((n ≡ 3) ⊎ (3 < n)) → (n + 3 < yearLength y) ⊎ ((n + 3 ≡ yearLength y) ⊎ (yearLength y < n + 3))
-        → Turns (weekAt (y, n)) (weekAt (dayAfter (y, n)))
-    go (inl l) k = early (omega arith)
-    go (inr (inl l)) k = early (omega arith)
-    go (inr (inr l)) (inl k) = inl (omega (arith, new, old, here (omega arith), same l, e))
-    go (inr (inr l)) (inr (inl k)) = inr (omega (arith, new, over (omega arith), inside), omega (arith, old, same l, e, year-long y))
-    go (inr (inr l)) (inr (inr k)) = inr (omega (arith, new, over (omega arith), inside), omega (arith, old, same l, e, year-long y))
+    late : 3 < n → Turns (weekAt (y, n)) (weekAt (dayAfter (y, n)))
+    late l =
+        ⊎-elim
+        (λ k. inl (omega (arith, new, old, here k, same l, e)))
+        (λ k. inr (omega (arith, new, over k, inside), omega (arith, old, same l, e, k, year-long y)))
+        (at-most (n + 4) (yearLength y))
 
 -- 1 January 9999 is a Friday, so the year's last Thursday comes before its last day
 last-year : (y n : ℕ) → y ≡ 9999 → InYear (y, n) → n + 3 - weekdayAt (y, n) ≤ yearLength y
@@ -115,12 +115,7 @@ module _ (y m d : ℕ) (h : isDate y m d ≡ true) where
       (is-thursday y n inside from-1900 .0, thursday-in y n inside (λ t. t .0 < 10000) (λ l k. years .1) (λ l. omega (arith, years)) last)
     where
       last : yearLength y < n + 3 - weekdayAt (y, n) → suc y < 10000
-      last l = go (order y 9999)
-        where
-          go : (y < 9999) ⊎ ((y ≡ 9999) ⊎ (9999 < y)) → suc y < 10000
-          go (inl k) = omega arith
-          go (inr (inl k)) = absurd (omega (arith, last-year y n k inside, l))
-          go (inr (inr k)) = absurd (omega (arith, date-year y m d h))
+      last l = ⊎-elim (λ e. absurd (omega (arith, last-year y n (omega arith) inside, l))) (λ k. k) (eq-or-lt-of-le (date-year y m d h .1))
 
 -- 4 JANUARY IS IN WEEK 1
 pub fourth-of-january : (y : ℕ) → 1900 ≤ y → weekOf y 1 4 ≡ 1

@@ -55,6 +55,14 @@ Mem-from b s n h k = any-Mem exact-eqb b (from s n) (from-inside b s n h k)
 pub every-below : (t : ℕ → Bool) (n : ℕ) → every t (from 0 n) ≡ true → (k : ℕ) → k < n → t k ≡ true
 every-below t n e k l = every-at (λ i. t i ≡ true) t eqb k (λ y s h. ap t (eqb-true k y s) ∙ h) (from 0 n) e (from-inside k 0 n (omega arith) (omega arith))
 
+-- at most as large, or larger
+pub at-most : (x y : ℕ) → (x ≤ y) ⊎ (y < x)
+at-most x y = go (ltb y x) refl
+  where
+    go : (t : Bool) → ltb y x ≡ t → (x ≤ y) ⊎ (y < x)
+    go true e = inr (ltb-true y x e)
+    go false e = inl (ltb-false y x e)
+
 -- below, there or above
 pub order : (x y : ℕ) → (x < y) ⊎ ((x ≡ y) ⊎ (y < x))
 order x y = go (ltb x y) refl (eqb x y) refl
