@@ -47,6 +47,16 @@ pub fn line(sheet: &[u8], out: &mut [u8], numbers: &mut [u64]) -> bool {
     lend(hours_line, sheet, out, numbers)
 }
 
+/// The numbers that such a function answers, as many as there are of its sort.
+pub fn numbers<const N: usize>(function: Writing, sheet: &[u8], out: &mut [u8]) -> [u64; N] {
+    let mut numbers = [0; N];
+    assert!(
+        function(sheet, out, &mut numbers),
+        "there is room for the numbers"
+    );
+    numbers
+}
+
 fn lend(function: Exported, sheet: &[u8], out: &mut [u8], numbers: &mut [u64]) -> bool {
     let (sheet_length, room, count) = (sheet.len(), out.len(), numbers.len());
     let (sheet, out, numbers) = (sheet.as_ptr(), out.as_mut_ptr(), numbers.as_mut_ptr());

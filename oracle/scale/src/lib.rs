@@ -1,10 +1,13 @@
 //! The archive of crates/hours held against the Rust oracle, sheet for sheet, in one program.
 //!
 //! What a fold gives is the Rust's to say (`oracle::fold`). Where a sheet is refused, what a lookup finds, and what a sheet's line is, the
-//! Rust has no say: that is document 01 written plainly (`sheet`, `points`, `calendar`, `expected`), and 02's M-100 (`line`), as in
-//! oracle/reference.
+//! Rust has no say: that is document 01 written plainly (`sheet`, `points`, `calendar`, `expected`), and 02's M-100 (`line`) and M-104
+//! (`calendar`), as in oracle/reference.
+//!
+//! For oracle/public, where a public evaluator is asked, there are sheets and moments (`public_sheets`, `public_moments`).
 
 pub mod archive;
+pub mod arguments;
 pub mod bench_sheets;
 mod calendar;
 mod compare;
@@ -15,6 +18,8 @@ mod layout;
 mod line;
 pub mod line_sheets;
 mod points;
+mod public_moments;
+pub mod public_sheets;
 mod random;
 mod recipes;
 mod rule;

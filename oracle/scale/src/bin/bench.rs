@@ -9,7 +9,7 @@ use std::time::{Duration, Instant};
 
 use oracle::bits::to_hex;
 use oracle::fold::{normalize_sheet, read_expression};
-use scale::archive::{self, Writing};
+use scale::archive::{self, numbers};
 use scale::bench_sheets::{BenchSheet, bench_sheets};
 use scale::line_sheets::line_sheets;
 use scale::stack::stack_of;
@@ -70,15 +70,6 @@ fn fold(sheet: &[u8], out: &mut [u8]) -> [u64; 6] {
 /// Code, bytes and place of a line.
 fn line(sheet: &[u8], out: &mut [u8]) -> [u64; 3] {
     numbers(archive::line, sheet, out)
-}
-
-fn numbers<const N: usize>(function: Writing, sheet: &[u8], out: &mut [u8]) -> [u64; N] {
-    let mut numbers = [0; N];
-    assert!(
-        function(sheet, out, &mut numbers),
-        "there is room for the numbers"
-    );
-    numbers
 }
 
 fn print_times() {

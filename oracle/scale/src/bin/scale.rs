@@ -7,6 +7,7 @@ use std::thread;
 use std::time::Instant;
 
 use oracle::bits::to_hex;
+use scale::arguments;
 use scale::run::Report;
 
 struct Arguments {
@@ -54,28 +55,15 @@ fn main() -> ExitCode {
 }
 
 fn arguments() -> Option<Arguments> {
-    let words: Vec<String> = std::env::args().skip(1).collect();
-    let (pairs, []) = words.as_chunks::<2>() else {
-        return None;
-    };
+    let processors = thread::available_parallelism().map_or(1, |threads| threads.get() as u64);
+    let [seed, count, threads] =
+        arguments::numbers([("--seed", 1), ("--count", 0), ("--threads", processors)])?;
 
-    let mut arguments = Arguments {
-        seed: 1,
-        count: 0,
-        threads: thread::available_parallelism().map_or(1, |threads| threads.get() as u64),
-    };
-
-    for [name, value] in pairs {
-        let value = value.parse().ok()?;
-        match name.as_str() {
-            "--seed" => arguments.seed = value,
-            "--count" => arguments.count = value,
-            "--threads" if value > 0 => arguments.threads = value,
-            _ => return None,
-        }
-    }
-
-    Some(arguments)
+    (threads > 0).then_some(Arguments {
+        seed,
+        count,
+        threads,
+    })
 }
 
 fn compare_all(arguments: &Arguments) -> Report {
