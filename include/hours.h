@@ -114,6 +114,9 @@ bool hours_write_back(const uint8_t *sheet, size_t sheet_length, uint8_t *out, s
  * written and not its fold: to show a fold, fold the sheet first; one that has more rules, items or spans than a sheet may is refused by
  * HOURS_OVER_LIMIT. No rules give an empty line.
  *
+ * The line is for people to read. A program that reads that notation takes a few lines for others without saying so, such as
+ * `10:00-12:00, 13:00-14:00 unknown`; docs/DIFFERENCES.md says which ones, and what to write instead.
+ *
  * HOURS_NO_LINE is given exactly when some rule, whether it can be folded or not, holds a month range of a year, a reference to a dated
  * range, a holiday, a weekday offset, an unset nth bit, a variable time or repeats, or has no spans, or when the first rule isn't Normal.
  *

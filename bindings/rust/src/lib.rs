@@ -152,6 +152,9 @@ pub fn write_back(sheet: &[u8], out: &mut [u8]) -> Result<usize, Refusal> {
 /// The sheet itself is written and not its fold: to show a fold, [`fold`] the sheet first. A fold that has more rules, items or spans than
 /// a sheet may is refused by code 4. An empty `out` is refused with the bytes needed.
 ///
+/// The line is for people to read. A program that reads that notation takes a few lines for others without saying so, such as
+/// `10:00-12:00, 13:00-14:00 unknown`; docs/DIFFERENCES.md says which ones, and what to write instead.
+///
 /// # Errors
 ///
 /// Any refusal by codes 1 to 4, 7 and 10, the first reason met. `out` is then unchanged.
