@@ -50,7 +50,7 @@ sum-take-within (x ∷ xs) zero = omega arith
 sum-take-within (x ∷ xs) (suc k) = omega (arith, sum-take-within xs k)
 
 -- the months have the year's days
-year-days : (y : ℕ) → sum (λ n. n) (monthLengths (isLeap y)) ≡ yearLength y
+pub year-days : (y : ℕ) → sum (λ n. n) (monthLengths (isLeap y)) ≡ yearLength y
 unfolding sum yearLength
 year-days y = go (isLeap y)
   where

@@ -2,18 +2,18 @@
 -- too. Rests on the laws of dates and of days.
 -- Assumes nothing.
 use mathlib.Core.Path.{_≡_, refl, sym, ap, _∙_}
-use mathlib.Core.List.{List, [], _∷_}
-use mathlib.Core.Bool.{Bool, true, false, cond}
-use Prim.Native.Nat.{ℕ, zero, suc, _+_, _-_, _%_, _≤_, _<_}
+use mathlib.Core.Bool.{Bool, true, false}
+use Prim.Native.Nat.{ℕ, suc, _+_, _-_, _%_, _≤_, _<_}
 use native.Mathlib.Omega.{arith}
 use lib.Dec.{ltb}
-use lib.ListN.{length, getD, take}
+use lib.ListN.{getD}
 use borrow.Author.Tests.{ltb-true, ltb-false}
-use Rattle.laws.specs.Lists.{sum, All}
+use Rattle.laws.specs.Lists.{sum}
+use Rattle.laws.proofs.Lists.{All-at}
 use Rattle.definition.specs.Date.{isLeap, monthLengths, monthLength, isDate, dayOfYear, YearDay, yearLength, dayAfter, weekdayAt, weekdayOf}
 use Rattle.calendar.specs.Next.{Date, next}
 use Rattle.calendar.proofs.Days.{same-year, next-year, weekday-after}
-use Rattle.calendar.proofs.Date.{date-year, date-month, date-day, make-date, day-in-year, sum-take-next}
+use Rattle.calendar.proofs.Date.{date-year, date-month, date-day, make-date, day-in-year, sum-take-next, year-days}
 
 -- ## The day of the year goes on
 month-end : (y m : ℕ) → 1 ≤ m → m < 12 → dayOfYear y (suc m) 1 ≡ suc (dayOfYear y m (monthLength y m))
@@ -22,30 +22,21 @@ month-end y m h l =
     let e : suc m - 1 ≡ suc (m - 1) = omega arith in rw (e, sum-take-next (monthLengths (isLeap y)) (m - 1) (omega arith)) (omega arith)
 
 year-end : (y : ℕ) → dayOfYear y 12 (monthLength y 12) ≡ yearLength y
-unfolding dayOfYear monthLength sum yearLength
-year-end y = go (isLeap y)
-  where
-    go : (leap : Bool) → sum (λ n. n) (take 11 (monthLengths leap)) + getD (monthLengths leap) 11 0 ≡ cond leap 366 365
-    go true = refl
-    go false = refl
+unfolding dayOfYear monthLength
+year-end y = sym (sum-take-next (monthLengths (isLeap y)) 11 (omega arith)) ∙ year-days y
 
 year-start : (y : ℕ) → dayOfYear y 1 1 ≡ 1
 unfolding dayOfYear sum
 year-start y = refl
 
 -- ## The day after
-at-least : (n : ℕ) (xs : List ℕ) → All (λ x. n ≤ x) xs → (k : ℕ) → k < length xs → n ≤ getD xs k 0
-at-least n [] a k l = absurd (omega arith)
-at-least n (x ∷ xs) a zero l = a .0
-at-least n (x ∷ xs) a (suc k) l = at-least n xs (a .1) k (omega arith)
-
 month-long : (y m : ℕ) → 1 ≤ m → m < 13 → 1 ≤ monthLength y m
 unfolding monthLength
 month-long y m h l = go (isLeap y)
   where
     go : (leap : Bool) → 1 ≤ getD (monthLengths leap) (m - 1) 0
-    go true = at-least 1 (monthLengths true) (omega arith) (m - 1) (omega arith)
-    go false = at-least 1 (monthLengths false) (omega arith) (m - 1) (omega arith)
+    go true = All-at (λ x. 1 ≤ x) (monthLengths true) 0 (omega arith) (m - 1) (omega arith)
+    go false = All-at (λ x. 1 ≤ x) (monthLengths false) 0 (omega arith) (m - 1) (omega arith)
 
 -- a date's place in its year
 abbrev pub yearDay : Date → YearDay

@@ -11,7 +11,7 @@ use lib.Dec.{ltb}
 use lib.ListN.{length, getD, List·getD-eq-default}
 use borrow.Author.Tests.{ltb-true, ltb-false}
 use Rattle.laws.specs.Lists.{All}
-use Rattle.laws.proofs.Lists.{every-all}
+use Rattle.laws.proofs.Lists.{All-at, every-all}
 use Rattle.definition.specs.Rule.{Rule}
 use Rattle.definition.specs.Sheet.{form1, limits1, span}
 use Rattle.definition.specs.Point.{dimensions}
@@ -34,7 +34,7 @@ use Rattle.paving_pages.specs.Pages.{CutRows}
 use Rattle.paving_pages.proofs.Rules.{cut-rows}
 use Rattle.page_writer.proofs.Carrying.{box-carried}
 use Rattle.phases.specs.Phases.{Entries, Boxed, dayRoom}
-use Rattle.phases.proofs.Entries.{all-at, entry-back, entries-lawful}
+use Rattle.phases.proofs.Entries.{entry-back, entries-lawful}
 
 -- ## Tables
 module _ (states counts spans : List ℕ) (rs : List Rule) (tables : Entries states counts spans rs) where
@@ -57,7 +57,7 @@ module _ (states counts spans : List ℕ) (rs : List Rule) (tables : Entries sta
       go true e =
           let l = ltb-true r (length rs) e in
           let named = getD rs r noRule in
-          let f = all-at _ rs noRule (tables .fits) r l in
+          let f = All-at _ rs noRule (tables .fits) r l in
           subst (λ (x : Entry). NumberedState (x .0) × All FitsSpan (x .1)) (sym (entry-back states counts spans r named (tables .each r l) f))
           (state-numbered named f, every-all FitsSpan (span .fits) (λ s k. k) (named .spans) (items-fit form1 limits1 named f .spans-fit))
       go false e =
@@ -79,7 +79,7 @@ module _ (states counts spans : List ℕ) (rs : List Rule) (tables : Entries sta
     box-ready i l = record {
       there = omega (arith, boxed .all-lists);
       short = boxed .listed .short i;
-      tabled = record { named = λ j k. inside (getD (listOf lists i) j 0) (all-at _ (listOf lists i) 0 (boxed .listed .named i) j k); few = counts-few };
+      tabled = record { named = λ j k. inside (getD (listOf lists i) j 0) (All-at _ (listOf lists i) 0 (boxed .listed .named i) j k); few = counts-few };
       wordy = unfold boxWords in omega (arith, day-room states counts spans (listOf lists i) counts-few 0 (length (listOf lists i)), short i);
     }
       where

@@ -5,12 +5,12 @@ use mathlib.Core.List.{List, [], _∷_, _++_, map}
 use mathlib.Core.Logic.{inl, inr}
 use mathlib.Core.Option.{Option, none, some}
 use mathlib.Core.Bool.{Bool, true, false, _&&_, _||_, true≢false, false≢true}
-use Prim.Native.Nat.{ℕ, suc, _+_, _*_, _≤_, _<_}
+use Prim.Native.Nat.{ℕ, zero, suc, _+_, _*_, _≤_, _<_}
 use native.Mathlib.Omega.{arith}
-use lib.ListN.{length}
+use lib.ListN.{length, getD}
 use Rattle.laws.specs.Lists.{firstOf, every, anyOf, keep, sum, All, Mem, OnSome, OnNone}
 use Rattle.laws.specs.Tests.{Exact}
-use Rattle.laws.proofs.Flags.{and-assoc, or-assoc, split-and}
+use Rattle.laws.proofs.Flags.{and-assoc, or-assoc, split-and, both-and}
 
 -- ## A fact of every element
 pub All-map : {A : Type 0} {P Q : A → Type 0} → ((x : A) → P x → Q x) → (D : List A) → All P D → All Q D
@@ -24,6 +24,17 @@ All-map₂ t (x ∷ D) h k = (t x (h .0) (k .0), All-map₂ t D (h .1) (k .1))
 pub All-each : {A : Type 0} (P : A → Type 0) → ((x : A) → P x) → (D : List A) → All P D
 All-each P h [] = tt
 All-each P h (x ∷ D) = (h x, All-each P h D)
+
+-- it holds of the element at a place; and of whatever is read, where it holds of the default too
+pub All-at : {A : Type 0} (P : A → Type 0) (xs : List A) (d : A) → All P xs → (k : ℕ) → k < length xs → P (getD xs k d)
+All-at P [] d h k l = absurd (omega arith)
+All-at P (x ∷ xs) d h zero l = h .0
+All-at P (x ∷ xs) d h (suc k) l = All-at P xs d (h .1) k (omega arith)
+
+pub All-read : {A : Type 0} (P : A → Type 0) (d : A) → P d → (xs : List A) → All P xs → (k : ℕ) → P (getD xs k d)
+All-read P d h [] k i = h
+All-read P d h (x ∷ xs) k zero = k .0
+All-read P d h (x ∷ xs) k (suc i) = All-read P d h xs (k .1) i
 
 pub All-append : {A : Type 0} (P : A → Type 0) (xs ys : List A) → All P xs → All P ys → All P (xs ++ ys)
 All-append P [] ys h k = k
@@ -51,6 +62,11 @@ pub every-all : {A : Type 0} (P : A → Type 0) (t : A → Bool) → ((x : A) �
 unfolding every
 every-all P t f [] h = tt
 every-all P t f (x ∷ xs) h = let k = split-and (t x) (every t xs) h in (f x (k .0), every-all P t f xs (k .1))
+
+pub all-every : {A : Type 0} (t : A → Bool) (xs : List A) → All (λ x. t x ≡ true) xs → every t xs ≡ true
+unfolding every
+all-every t [] h = refl
+all-every t (x ∷ xs) h = both-and (t x) (every t xs) (h .0) (all-every t xs (h .1))
 
 pub every-append : {A : Type 0} (t : A → Bool) (xs ys : List A) → every t (xs ++ ys) ≡ every t xs && every t ys
 unfolding every

@@ -10,7 +10,7 @@ use lib.Dec.{eqb}
 use borrow.Author.Tests.{le-leb, eqb-false, not-false}
 use Rattle.laws.specs.Lists.{every, anyOf, All}
 use Rattle.laws.proofs.Flags.{both-and, split-or}
-use Rattle.laws.proofs.Lists.{All-map₂, every-all}
+use Rattle.laws.proofs.Lists.{All-map₂, every-all, all-every}
 use Rattle.grid.specs.Cut.{Range, holds}
 use Rattle.grid.proofs.Cut.{in-holds}
 use Rattle.definition.specs.Field.{_then_ as _thenBits_}
@@ -23,7 +23,7 @@ use Rattle.definition.specs.Line.{Item, single, item, yearSteps, weekSteps, mon
 use Rattle.definition.specs.Show.{wordless, firstWordless}
 use Rattle.definition.proofs.Lawful.{year-lawful, week-lawful, month-lawful, weekday-lawful, items-fit, rules-each}
 use Rattle.lines.proofs.Carried.{year-step, week-step, span-carried}
-use Rattle.lines.proofs.Passing.{all-every, none-passes, Found, first-found}
+use Rattle.lines.proofs.Passing.{none-passes, Found, first-found}
 
 -- what is nothing where a test passes fits, if it fits elsewhere
 unless-fits : (b f : Bool) → (b ≡ false → f ≡ true) → cond b true f ≡ true

@@ -1,4 +1,4 @@
--- Which elements of a list pass a test: all, none, and the first that does; and what is read of a list. Rests on the lists' laws.
+-- Which elements of a list pass a test: none, and the first that does. Rests on the lists' laws.
 -- Assumes nothing.
 use mathlib.Core.Path.{_≡_, refl, sym, ap}
 use mathlib.Core.List.{List, [], _∷_}
@@ -6,22 +6,10 @@ use mathlib.Core.Option.{Option, none, some, Option·map, Option·some-ne-none}
 use mathlib.Core.Bool.{Bool, true, false}
 use Prim.Native.Nat.{ℕ, zero, suc, _<_}
 use native.Mathlib.Omega.{arith}
-use lib.ListN.{getD, getElem?}
-use Rattle.laws.specs.Lists.{every, anyOf, All}
-use Rattle.laws.proofs.Flags.{both-and}
+use lib.ListN.{getElem?}
+use Rattle.laws.specs.Lists.{anyOf, All}
 use Rattle.laws.proofs.Lists.{Mem-All, any-none}
 use Rattle.definition.specs.Show.{firstIndex}
-
--- what every element keeps to, and the default, holds of whatever is read
-pub all-read : {A : Type 0} (P : A → Type 0) (d : A) → P d → (xs : List A) → All P xs → (i : ℕ) → P (getD xs i d)
-all-read P d k [] h i = k
-all-read P d k (x ∷ xs) h zero = h .0
-all-read P d k (x ∷ xs) h (suc i) = all-read P d k xs (h .1) i
-
-pub all-every : {A : Type 0} (t : A → Bool) (xs : List A) → All (λ x. t x ≡ true) xs → every t xs ≡ true
-unfolding every
-all-every t [] h = refl
-all-every t (x ∷ xs) h = both-and (t x) (every t xs) (h .0) (all-every t xs (h .1))
 
 module _ {A : Type 0} (t : A → Bool) where
   abbrev pub NonePasses : List A → Type 0

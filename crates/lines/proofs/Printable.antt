@@ -11,14 +11,13 @@ use lib.Dec.{leb, ltb}
 use borrow.Author.Tests.{ltb-true, leb-true}
 use Rattle.laws.specs.Lists.{every, All}
 use Rattle.laws.proofs.Flags.{split-and}
-use Rattle.laws.proofs.Lists.{All-append, All-map, All-image, every-all}
+use Rattle.laws.proofs.Lists.{All-append, All-map, All-read, All-image, every-all}
 use Rattle.laws.proofs.Spread.{flatMap-all}
 use Rattle.grid.specs.Cut.{Range}
 use Rattle.grid.proofs.Cut.{holds-in}
 use Rattle.definition.specs.Rule.{weekdayBounds, weekBounds, monthBounds, yearBounds, Operator, Normal, Additional, Fallback, Kind, Open, Closed, Unknown, Rule}
 use Rattle.definition.specs.Text.{Text, ascii, digits, decimalIn, word, padded, plain, named, _then_, of, unless, only, isNone, listed, several}
 use Rattle.definition.specs.Line.{item, yearSteps, weekSteps, monthNames, weekdayNames, yearText, weekText, monthText, weekdayText, clock, spanText, kindWord, kindText, comments, stateText, part, ruleText, before, firstNormal, lineOf, line}
-use Rattle.lines.proofs.Passing.{all-read}
 
 abbrev pub Printable : ℕ → Type 0
 Printable b = (32 ≤ b) × (b ≤ 126)
@@ -66,7 +65,7 @@ plain-prints r = record { prints = λ v f. decimal-prints (suc v) v }
 named-prints : (names : List String) → every (λ s. every printable (ascii s)) names ≡ true → (r : Range) → Prints (named names r)
 unfolding named
 named-prints names h r = record {
-  prints = λ v f. all-read (All Printable) [] tt (map ascii names) (All-image _ ascii names (every-all _ (λ s. every printable (ascii s)) (λ s. known (ascii s)) names h)) (v - r .0);
+  prints = λ v f. All-read (All Printable) [] tt (map ascii names) (All-image _ ascii names (every-all _ (λ s. every printable (ascii s)) (λ s. known (ascii s)) names h)) (v - r .0);
 }
 
 module _ {A : Type 0} {T : Text A} (h : Prints T) where

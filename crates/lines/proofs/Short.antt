@@ -11,7 +11,7 @@ use lib.Dec.{ltb}
 use lib.ListN.{length, length-append}
 use borrow.Author.Tests.{ltb-false}
 use Rattle.laws.specs.Lists.{All}
-use Rattle.laws.proofs.Lists.{All-map, All-each, All-image, every-all}
+use Rattle.laws.proofs.Lists.{All-map, All-each, All-read, All-image, every-all}
 use Rattle.laws.proofs.Spread.{flatMap-length}
 use Rattle.grid.specs.Cut.{Range}
 use Rattle.grid.proofs.Cut.{holds-in}
@@ -22,7 +22,6 @@ use Rattle.definition.specs.Text.{Text, ascii, digits, decimalIn, word, padded,
 use Rattle.definition.specs.Line.{Item, item, monthItem, weekdayItem, monthNames, weekdayNames, yearSteps, weekSteps, yearText, weekText, monthText, weekdayText, clock, spanText, kindWord, kindText, stateText, part, ruleText, before}
 use Rattle.definition.proofs.Lawful.{ItemsFit, items-fit}
 use Rattle.lines.proofs.Carried.{year-step, week-step, comment-carried, counts-carried}
-use Rattle.lines.proofs.Passing.{all-read}
 
 -- ## Numbers
 digits-long : (w v : ℕ) → length (digits w v) ≡ w
@@ -91,7 +90,7 @@ padded-short w r v = omega (arith, digits-long w v)
 
 named-short : (n : ℕ) (names : List String) → All (λ name. length (ascii name) ≤ n) names → (r : Range) (v : ℕ) → AtMost n (named names r) v
 unfolding named
-named-short n names h r v = all-read (λ name. length name ≤ n) [] (omega arith) (map ascii names) (All-image _ ascii names h) (v - r .0)
+named-short n names h r v = All-read (λ name. length name ≤ n) [] (omega arith) (map ascii names) (All-image _ ascii names h) (v - r .0)
 
 year-short : (y : YearRange) → yearRange .fits y ≡ true → AtMost 15 yearText y
 unfolding yearText of

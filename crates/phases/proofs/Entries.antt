@@ -8,7 +8,7 @@ use Prim.Native.Nat.{ℕ, zero, suc, _+_, _*_, _<_}
 use native.Mathlib.Omega.{arith}
 use lib.ListN.{length, getD, length-map}
 use Rattle.laws.specs.Lists.{All}
-use Rattle.laws.proofs.Lists.{All-map, every-all}
+use Rattle.laws.proofs.Lists.{All-map, All-at, every-all}
 use Rattle.definition.specs.Rule.{Normal, Span, Rule}
 use Rattle.definition.specs.Sheet.{form1, limits1, span, rule}
 use Rattle.definition.specs.Day.{Entry, flattened, entryOf, day, dayOf}
@@ -23,12 +23,6 @@ use Rattle.day_words.specs.Day.{listRules}
 use Rattle.phases.specs.Phases.{EntryAt, Entries}
 
 -- ## Lists
--- what holds of each element holds of the one at a place
-pub all-at : {A : Type 0} (P : A → Type 0) (xs : List A) (d : A) → All P xs → (k : ℕ) → k < length xs → P (getD xs k d)
-all-at P [] d h k l = absurd (omega arith)
-all-at P (x ∷ xs) d h zero l = h .0
-all-at P (x ∷ xs) d h (suc k) l = all-at P xs d (h .1) k (omega arith)
-
 -- words that stand in a buffer from a place on
 part-held : (s : List ℕ) (at : ℕ) (xs : List ℕ) → ((j : ℕ) → j < length xs → getD s (at + j) 0 ≡ getD xs j 0) → part s at (length xs) ≡ xs
 unfolding part
@@ -71,7 +65,7 @@ module _ (states counts spans : List ℕ) where
     unfolding listRules
     entries-listed [] h = refl
     entries-listed (k ∷ list) h =
-        ap₂ _∷_ (entry-back k (getD rs k noRule) (tables .each k (h .0)) (all-at _ rs noRule (tables .fits) k (h .0)))
+        ap₂ _∷_ (entry-back k (getD rs k noRule) (tables .each k (h .0)) (All-at _ rs noRule (tables .fits) k (h .0)))
         (ap (map entryOf) (rules-later k list 0 1 (length list) refl) ∙ entries-listed list (h .1))
 
     -- and so its day is theirs

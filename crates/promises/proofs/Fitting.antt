@@ -12,7 +12,7 @@ use lib.Pow.{pow-pos}
 use borrow.Author.Tests.{lt-ltb, le-leb, eq-eqb}
 use Rattle.laws.specs.Lists.{keep, every, All}
 use Rattle.laws.proofs.Flags.{both-and}
-use Rattle.laws.proofs.Lists.{All-map, All-keep, All-image}
+use Rattle.laws.proofs.Lists.{All-map, All-keep, All-image, all-every}
 use Rattle.laws.proofs.Numbers.{All-from}
 use Rattle.grid.specs.Group.{Set}
 use Rattle.grid.specs.Cut.{Range, holds, coordinates, glue, runs}
@@ -30,7 +30,6 @@ use Rattle.definition.specs.Group.{itemsOf, laidOver, asRule}
 use Rattle.definition.proofs.PaintedShows.{ProperRun}
 use Rattle.definition.proofs.Lawful.{Bounded, ItemsFit}
 use Rattle.definition.proofs.RuleCounts.{Sized}
-use Rattle.lines.proofs.Passing.{all-every}
 use Rattle.promises.specs.ReadBack.{widest}
 use Rattle.promises.proofs.Items.{kept-climb, runs-rising}
 

@@ -10,7 +10,7 @@ use lib.ListN.{length}
 use borrow.Author.Tests.{lt-ltb, le-leb, eq-eqb}
 use Rattle.laws.specs.Lists.{All}
 use Rattle.laws.proofs.Flags.{both-and}
-use Rattle.laws.proofs.Lists.{All-map, All-map₂, All-append, every-all, image-All}
+use Rattle.laws.proofs.Lists.{All-map, All-map₂, All-append, every-all, all-every, image-All}
 use Rattle.laws.proofs.Spread.{flatMap-all}
 use Rattle.grid.specs.Group.{Group}
 use Rattle.grid.specs.Cut.{asRuns}
@@ -29,7 +29,6 @@ use Rattle.definition.proofs.DayHolds.{InDay}
 use Rattle.definition.proofs.Groups.{pointGroups}
 use Rattle.definition.proofs.RuleCounts.{Roomy, roomy1, counts-fit}
 use Rattle.lines.proofs.Carried.{comment-carried}
-use Rattle.lines.proofs.Passing.{all-every}
 use Rattle.promises.specs.Conditions.{Accepted}
 use Rattle.promises.specs.Codes.{result}
 use Rattle.promises.specs.ReadBack.{widest, FoldReads}

@@ -8,7 +8,7 @@ use Prim.Native.Nat.{ℕ, _+_, _*_, _-_, _≤_, _<_}
 use native.Mathlib.Omega.{arith}
 use lib.ListN.{length, getD}
 use Rattle.laws.specs.Lists.{from, anyOf, All}
-use Rattle.laws.proofs.Lists.{All-map}
+use Rattle.laws.proofs.Lists.{All-map, All-at}
 use Rattle.definition.specs.Field.{unsettled}
 use Rattle.definition.specs.Rule as rule
 use Rattle.definition.specs.Day.{Stated, simple, within, stated, flattened, lastOver, entryOf}
@@ -19,7 +19,7 @@ use Rattle.paving_update.specs.Update.{listPlaces, listLimit}
 use Rattle.paving_update.specs.Boxes.{listOf}
 use Rattle.paving_points.specs.Listed.{noRule, ruleAt}
 use Rattle.phases.specs.Phases.{Entries}
-use Rattle.phases.proofs.Entries.{all-at, entryAt, entry-back}
+use Rattle.phases.proofs.Entries.{entryAt, entry-back}
 use Rattle.state_at.specs.Found.{looked, overSpans, onward, InTables, overRule, overList, numbersFrom}
 use Rattle.state_at.specs.declared.StateFound.{StateFound}
 
@@ -81,7 +81,7 @@ module _ (states counts spans : List ℕ) where
     entries-named : (ks : List ℕ) → All (λ k. k < length rs) ks → map (entryAt states counts spans) ks ≡ map entryOf (map (ruleAt rs) ks)
     entries-named [] h = refl
     entries-named (k ∷ ks) h =
-        ap₂ _∷_ (entry-back states counts spans k (ruleAt rs k) (tables .each k (h .0)) (all-at _ rs noRule (tables .fits) k (h .0))) (entries-named ks (h .1))
+        ap₂ _∷_ (entry-back states counts spans k (ruleAt rs k) (tables .each k (h .0)) (All-at _ rs noRule (tables .fits) k (h .0))) (entries-named ks (h .1))
 
     -- ## A box's list
     module _ (lists : List ℕ) (node many : ℕ) (named : All (λ k. k < length rs) (listOf lists node)) (counted : many ≡ getD lists (node * listPlaces) 0) where
