@@ -74,17 +74,31 @@ void Comparison::take_moment(const Moment &moment, const State &ours)
         return;
     }
 
-    count_compared(moment);
     const Asked asked = {m_line, moment, ours, m_evaluator->at(moment)};
-
     if (asked.theirs == ours) {
         ++m_agreeing;
-    } else if (asked.theirs.kind == Kind::GivesUp && told_by_rules(asked) == ours) {
-        Met &met = has_months_and_weeks(m_line) ? m_given_up : m_other;
-        met.add(m_lines, m_line, told(asked));
-    } else {
-        count_difference(asked);
+        return count_compared(moment);
     }
+
+    Met &met = met_of(asked);
+    met.add(m_lines, m_line, told(asked));
+    if (&met != &m_unanswered) {
+        count_compared(moment);
+    }
+}
+
+Met &Comparison::met_of(const Asked &asked)
+{
+    if (is_unanswered(asked)) {
+        return m_unanswered;
+    }
+    if (gives_up_on_months_and_weeks(asked) && told_by_rules(asked) == asked.ours) {
+        return m_given_up;
+    }
+    if (const auto sort = sort_of(asked)) {
+        return m_of_sort[*sort];
+    }
+    return is_unanswered(with_all_changes(asked)) ? m_unanswered : m_other;
 }
 
 void Comparison::count_compared(const Moment &moment)
@@ -102,13 +116,6 @@ void Comparison::count_compared(const Moment &moment)
     if (year_of_week != moment.year) {
         m_in_weeks_of_another_year.add(m_lines, m_line, "");
     }
-}
-
-void Comparison::count_difference(const Asked &asked)
-{
-    const auto sort = sort_of(asked);
-    Met &met = sort ? m_of_sort[*sort] : m_other;
-    met.add(m_lines, m_line, told(asked));
 }
 
 bool Comparison::is_explained() const
@@ -138,7 +145,10 @@ void Comparison::print(std::ostream &out) const
     out << "lines compared: " << m_compared.lines << ", " << m_different_lines.size() << " different ones, " << m_with_weeks.lines
         << " with weeks\nmoments compared: " << m_compared.times << ", " << m_with_weeks.times << " in lines with weeks, "
         << m_in_weeks_of_another_year.times << " of these on days whose week counts in another year\nagreeing: " << m_agreeing
-        << "\nnot agreeing, and the change after which they agree\n";
+        << "\nmoments not compared\n";
+    print_met(out, "it gives up, on a rule of months and weeks alone too, where we say Closed", m_unanswered);
+
+    out << "not agreeing, and the change after which they agree\n";
     print_met(out, "it gives up, in a line with a rule of months and weeks (each rule is asked alone)", m_given_up);
 
     for (std::size_t place = 0; place < sorts.size(); ++place) {

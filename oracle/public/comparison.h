@@ -40,7 +40,8 @@ private:
     void take_line(const std::string &line);
     void take_moment(const Moment &moment, const State &ours);
     void count_compared(const Moment &moment);
-    void count_difference(const Asked &asked);
+    // Where a moment belongs at which the two differ.
+    Met &met_of(const Asked &asked);
 
     std::string m_line;
     std::unique_ptr<Evaluator> m_evaluator;
@@ -54,6 +55,7 @@ private:
     std::unordered_set<std::string> m_different_lines;
     std::size_t m_agreeing = 0;
     Met m_given_up;
+    Met m_unanswered;
     std::array<Met, sorts.size()> m_of_sort;
     Met m_other;
 };

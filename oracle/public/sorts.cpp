@@ -70,15 +70,16 @@ std::string with_more_weeks(const Asked &asked)
     });
 }
 
-const State plain_closed = {Kind::Closed, {}};
+bool speaks(const State &state)
+{
+    return !(state == plain_closed) && state.kind != Kind::NoInterval && state.kind != Kind::GivesUp;
+}
 
 // The rule that speaks of the moment when it stands alone: of folded rules there is not more than one.
 std::optional<std::string> speaking_rule(const Asked &asked)
 {
     for (const Rule &rule : rules_of(asked.line)) {
-        const State state = Evaluator(rule.text).at(asked.moment);
-        const bool is_silent = state == plain_closed || state.kind == Kind::NoInterval || state.kind == Kind::GivesUp;
-        if (!is_silent) {
+        if (speaks(Evaluator(rule.text).at(asked.moment))) {
             return rule.text;
         }
     }
@@ -110,10 +111,18 @@ const std::array<Sort, 7> sorts = {{
     {"the comment of a Closed rule is not told", "all other rules are taken away", with_the_closed_rule_alone},
 }};
 
-State told_by_rules(const Asked &asked)
+std::optional<State> told_by_rules(const Asked &asked)
 {
-    const auto rule = speaking_rule(asked);
-    return rule ? Evaluator(*rule).at(asked.moment) : plain_closed;
+    bool gives_up = false;
+
+    for (const Rule &rule : rules_of(asked.line)) {
+        const State state = Evaluator(rule.text).at(asked.moment);
+        if (speaks(state)) {
+            return state;
+        }
+        gives_up = gives_up || state.kind == Kind::GivesUp;
+    }
+    return gives_up ? std::nullopt : std::optional(plain_closed);
 }
 
 std::optional<std::size_t> sort_of(Asked asked)
@@ -123,11 +132,30 @@ std::optional<std::size_t> sort_of(Asked asked)
         asked.theirs = Evaluator(asked.line).at(asked.moment);
 
         if (asked.theirs.kind == Kind::GivesUp) {
-            asked.theirs = told_by_rules(asked);
+            asked.theirs = told_by_rules(asked).value_or(asked.theirs);
         }
         if (agree(asked.theirs, asked.ours)) {
             return place;
         }
     }
     return std::nullopt;
+}
+
+Asked with_all_changes(Asked asked)
+{
+    for (const Sort &sort : sorts) {
+        asked.line = sort.changed(asked);
+        asked.theirs = Evaluator(asked.line).at(asked.moment);
+    }
+    return asked;
+}
+
+bool gives_up_on_months_and_weeks(const Asked &asked)
+{
+    return asked.theirs.kind == Kind::GivesUp && has_months_and_weeks(asked.line);
+}
+
+bool is_unanswered(const Asked &asked)
+{
+    return asked.ours == plain_closed && gives_up_on_months_and_weeks(asked) && !told_by_rules(asked);
 }

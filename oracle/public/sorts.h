@@ -28,10 +28,19 @@ struct Sort {
 
 extern const std::array<Sort, 7> sorts;
 
-// What the evaluator says when it is asked for each rule alone, for where it gives up on the line.
-State told_by_rules(const Asked &asked);
+// What the evaluator says when it is asked for each rule alone, for where it gives up on the line; nothing where it gives up on a rule alone too
+// and no other one speaks of the moment.
+std::optional<State> told_by_rules(const Asked &asked);
 
 // The place of the sort whose change makes the evaluator agree. Changes are made one after the other, and those before it stay.
 std::optional<std::size_t> sort_of(Asked asked);
+
+Asked with_all_changes(Asked asked);
+
+bool gives_up_on_months_and_weeks(const Asked &asked);
+
+// Whether nothing can be compared: the evaluator gives up, on a rule of months and weeks alone too. Where we don't say Closed that isn't taken for
+// granted, since it finds at once what covers the moment itself.
+bool is_unanswered(const Asked &asked);
 
 #endif

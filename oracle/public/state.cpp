@@ -17,6 +17,8 @@ std::string printed(const char *format, Numbers... numbers)
 
 }
 
+const State plain_closed = {Kind::Closed, {}};
+
 std::string clock(int minute)
 {
     return printed("%02d:%02d", minute / 60, minute % 60);

@@ -24,6 +24,9 @@ struct State {
     bool operator==(const State &other) const { return kind == other.kind && comment == other.comment; }
 };
 
+// What we say where no rule speaks of a moment.
+extern const State plain_closed;
+
 std::string text_of(const Moment &moment);
 std::string text_of(const State &state);
 
