@@ -13,10 +13,6 @@ use Rattle.bounded.specs.declared.Split.the-variants.{One, Two}
 use Rattle.bounded.specs.Strict.{pairOf, listOf}
 use Rattle.canonical_date.specs.Row.{flat}
 
-pub sets-append : {A : Type 0} (l : List A) (p : ℕ) (xs ys : List A) → sets l p (xs ++ ys) ≡ sets (sets l p xs) (p + length xs) ys
-sets-append l p [] ys = let z : p ≡ p + 0 = omega arith in ap (λ j. sets l j ys) z
-sets-append l p (x ∷ xs) ys = let z : suc p + length xs ≡ p + suc (length xs) = omega arith in sets-append (set l p x) (suc p) xs ys ∙ ap (λ j. sets (sets (set l p x) (suc p) xs) j ys) z
-
 pub flat-append : (R Q : List Range) → flat (R ++ Q) ≡ flat R ++ flat Q
 unfolding flat
 flat-append [] Q = refl

@@ -8,10 +8,11 @@ use native.Mathlib.Omega.{arith}
 use lib.ListN.{length, length-append}
 use lib.Seq.{sets}
 use borrow.Author.Tests.{eq-eqb, ne-eqb}
+use Rattle.laws.proofs.Stores.{sets-append}
 use Rattle.grid.specs.Cut.{Range}
 use Rattle.canonical_date.specs.Says.{boundsOf, itemSays}
 use Rattle.canonical_date.specs.Row.{flat, itemsRanges, itemsEnd, rowRanges, Answer, answered}
-use Rattle.canonical_date.proofs.Flat.{sets-append, flat-append}
+use Rattle.canonical_date.proofs.Flat.{flat-append}
 
 -- what a row's reader owes: its answer and the table
 abbrev pub Owed : Answer → List ℕ → ℕ → List ℕ → List Range → Option ℕ → Type 0

@@ -6,9 +6,10 @@ use Prim.Native.Nat.{ℕ, zero, suc, _+_, _*_, _-_, _≤_, _<_}
 use native.Mathlib.Omega.{arith}
 use lib.ListN.{length, getD, set, length-append}
 use lib.Seq.{sets}
+use Rattle.laws.proofs.Stores.{sets-append}
 use Rattle.words.specs.Words.{part}
 use Rattle.canonical_time.specs.Flatten.{sameStates, statesFrom, spansFrom, Tables}
-use Rattle.words.proofs.Sets.{left-in, left-none, sets-next, sets-append, length-part}
+use Rattle.words.proofs.Sets.{left-in, left-none, sets-next, length-part}
 
 pub length-same : (S n : ℕ) → length (sameStates S n) ≡ n
 unfolding sameStates

@@ -9,6 +9,7 @@ use lib.Dec.{eqb, ltb}
 use lib.ListN.{length, getD, set, length-append, length-map, length-set}
 use lib.Seq.{sets, length-sets, getD-set-same}
 use Rattle.laws.specs.Lists.{All}
+use Rattle.laws.proofs.Stores.{sets-append}
 use Rattle.grid.specs.Cut.{cutAt}
 use Rattle.definition.specs.Day.{simple, day}
 use Rattle.span_number.specs.Number.{spanAt}
@@ -18,7 +19,7 @@ use Rattle.day_row.specs.Row.{classesWords}
 use Rattle.canonical_time.specs.Flatten.{sameStates, statesFrom, spansFrom}
 use Rattle.day_group.specs.Groups.{groupWords}
 use Rattle.day_words.specs.Day.{flat, listRules}
-use Rattle.words.proofs.Sets.{sets-append, part-sets, length-part, getD-sets}
+use Rattle.words.proofs.Sets.{part-sets, length-part, getD-sets}
 use Rattle.canonical_time.proofs.FlattenWays.{length-same}
 use Rattle.canonical_time.proofs.MeanDay.{day-words}
 

@@ -9,11 +9,12 @@ use lib.Dec.{eqb}
 use lib.ListN.{length, getD, set, length-append}
 use lib.Seq.{sets}
 use borrow.Author.Tests.{lt-ltb, le-ltb, eq-eqb, ne-eqb}
+use Rattle.laws.proofs.Stores.{sets-append}
 use Rattle.definition.specs.Day.{stateClass}
 use Rattle.span_number.specs.Number.{stateAt, partsNumber}
 use Rattle.words.specs.Words.{part, entryWords}
 use Rattle.day_row.specs.Row.{runUpTo, runsFrom, clearFrom, isOfClass, classWords, classLeft, classesWords}
-use Rattle.words.proofs.Sets.{left-in, left-none, sets-append, part-sets, length-part}
+use Rattle.words.proofs.Sets.{left-in, left-none, part-sets, length-part}
 
 -- words laid from a place on, and how many
 abbrev pub Counted : List ℕ → List ℕ → ℕ → ℕ → List ℕ → Type 0

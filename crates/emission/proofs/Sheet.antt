@@ -10,7 +10,7 @@ use Rattle.definition.specs.Field.{bits, packed}
 use Rattle.definition.specs.Rule.{Rule}
 use Rattle.definition.specs.Fold.{buffer}
 use Rattle.definition.proofs.Bits.{length-bits}
-use Rattle.field.proofs.FieldAt.{known-bytes}
+use Rattle.field.proofs.Bytes.{known-bytes}
 use Rattle.item_writer.specs.Written.{Room, Wrote}
 use Rattle.item_writer.proofs.Chain.{wrote-then, wrote-as, room-first, room-rest}
 use Rattle.sheet_writer.specs.Frame.{padding}

@@ -1,9 +1,10 @@
-// The fields of the packed sheet, read at a bit: one reader of bits, and above it one small function for each field that not every
-// value of its width may stand in. Positions stay below `2 ^ 32`: the crates above show that no lawful sheet reaches further.
+// The fields of the packed sheet, read at a bit: one reader, which takes the whole bytes that a field spans, and above it one small function
+// for each field that not every value of its width may stand in. Positions stay below `2 ^ 32`: the crates above show that no lawful sheet
+// reaches further.
 pub mod width;
 
 ghost use mathlib.Core.Path.{_≡_};
-ghost use Prim.Native.Nat.{_+_, _*_, _≤_, _<_, _^_};
+ghost use Prim.Native.Nat.{_+_, _*_, _-_, _%_, _≤_, _<_, _^_};
 ghost use lib.ListN.{length};
 ghost use Rattle.definition.specs.Field.{Layout, sheetBits, fieldAt, plain, counted};
 ghost use Rattle.definition.specs.Sheet.{form1, limits1, year, month, week, weekday, step, choice, minutes};
@@ -15,33 +16,43 @@ pub enum Taken {
     Refused(u8, usize),
 }
 
-fn wide(x: u8) -> u64
-    ensures { λ r. ⌜ r ≡ x ⌝ }
+pub fn wide(x: u8) -> u64
+    ensures { λ r. ⌜ (r ≡ x) × (r < 256) ⌝ }
 {
     x as u64
 }
 
-// The bit at a place, most significant first.
-fn bit_at(sheet: &[u8], at: usize) -> u64
-    requires { ⌜ at < 8 * length (now sheet) ⌝ }
-    ensures { λ r. ⌜ r ≡ fieldAt (sheetBits (now (sheet .entry))) at 1 ⌝ }
+// The last bits of a number, as many as `count`.
+pub fn low_bits(number: u64, count: usize) -> u64
+    requires { ⌜ count < 64 ⌝ }
+    ensures { λ r. ⌜ r ≡ number % 2 ^ count ⌝ }
 {
-    let shift = 7 - at % 8;
-    (wide(sheet[at / 8]) >> shift) % 2
+    number & ((1 << count) - 1)
 }
 
-// The number in the `width` bits at a place, bit after bit.
+// The number in whole bytes, from the byte `first` up to `past`, most significant first.
+pub fn bytes_at(sheet: &[u8], first: usize, past: usize) -> u64
+    requires { ⌜ (first ≤ past) × (past ≤ first + 5) × (past ≤ length (now sheet)) ⌝ }
+    ensures { λ r. ⌜ r ≡ fieldAt (sheetBits (now (sheet .entry))) (8 * first) (8 * (past - first)) ⌝ }
+{
+    let mut number: u64 = 0;
+    let mut index = first;
+    while index < past {
+        number = number * 256 + wide(sheet[index]);
+        index += 1;
+    }
+    number
+}
+
+// The number in the `width` bits at a place: that of the whole bytes which they span, less the bits behind them and those before.
 pub fn field_at(sheet: &[u8], at: usize, width: usize) -> u64
     requires { ⌜ (width ≤ 32) × (at < 2 ^ 32) × (at + width ≤ 8 * length (now sheet)) ⌝ }
     ensures { λ r. ⌜ r ≡ fieldAt (sheetBits (now (sheet .entry))) at width ⌝ }
 {
-    let mut value: u64 = 0;
-    let mut i: usize = 0;
-    while i < width {
-        value = value * 2 + bit_at(sheet, at + i);
-        i += 1;
-    }
-    value
+    let end = at + width;
+    let past = (end + 7) / 8;
+    let spanned = bytes_at(sheet, at / 8, past);
+    low_bits(spanned >> (8 * past - end), width)
 }
 
 // A field of any value; refused by 1 where it runs past the end.
@@ -68,21 +79,6 @@ pub fn choice_at(sheet: &[u8], at: usize) -> Taken
     match value {
         0..=2 => Taken::Value(value, next),
         _ => Taken::Refused(2, at),
-    }
-}
-
-// How many rules: at most 64, else refused by 4.
-pub fn rule_count_at(sheet: &[u8], at: usize) -> Taken
-    requires { ⌜ at < 2 ^ 32 ⌝ }
-    ensures { λ r. ⌜ asRead r ≡ (counted (form1 .ruleCount) (limits1 .rules)) .read (sheetBits (now (sheet .entry))) at ⌝ }
-{
-    let taken = take_at(sheet, at, width::RULE_COUNT);
-    let Taken::Value(value, next) = taken else {
-        return taken;
-    };
-    match value {
-        0..=64 => Taken::Value(value, next),
-        _ => Taken::Refused(4, at),
     }
 }
 

@@ -1,4 +1,6 @@
 // How many bits each field takes, by 01's "The packed sheet": here, and nowhere else in the code that reads, writes or measures.
+// A field begins at any bit of a byte, so that it spans `(width + 14) / 8` bytes at most: a field of 1 bit 1, up to 9 bits 2, up to 17 bits 3,
+// the reference 5.
 pub const RULE_COUNT: usize = 16;
 
 // An operator, a kind, a monthday's tag.

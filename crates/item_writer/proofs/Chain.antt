@@ -1,20 +1,15 @@
 -- Writers one behind the other: bits stored, then more bits behind them, are all of them stored; and room for all is room for each.
 -- Assumes nothing.
 use mathlib.Core.Path.{_≡_, refl, sym, ap, _∙_, subst}
-use mathlib.Core.List.{List, [], _∷_, _++_}
-use Prim.Native.Nat.{ℕ, suc, _+_}
+use mathlib.Core.List.{List, [], _++_}
+use Prim.Native.Nat.{ℕ, _+_}
 use native.Mathlib.Omega.{arith}
-use lib.ListN.{length, set, length-append}
+use lib.ListN.{length, length-append}
 use lib.Seq.{sets, length-sets}
+use Rattle.laws.proofs.Stores.{sets-append}
 use Rattle.definition.specs.Field.{sheetBits}
 use Rattle.definition.proofs.Bits.{length-sheetBits}
 use Rattle.item_writer.specs.Written.{Room, Wrote}
-
-pub sets-append : {A : Type 0} (xs ys s : List A) (at : ℕ) → sets (sets s at xs) (at + length xs) ys ≡ sets s at (xs ++ ys)
-sets-append [] ys s at = let z : at + 0 ≡ at = omega arith in ap (λ j. sets s j ys) z
-sets-append (x ∷ xs) ys s at =
-    let z : at + suc (length xs) ≡ suc at + length xs = omega arith in
-    ap (λ j. sets (sets (set s at x) (suc at) xs) j ys) z ∙ sets-append xs ys (set s at x) (suc at)
 
 module _ {old xs mid : List ℕ} {at place : ℕ} (first : Wrote old at xs mid place) where
   -- no bit more, no bit less
@@ -24,7 +19,7 @@ module _ {old xs mid : List ℕ} {at place : ℕ} (first : Wrote old at xs mid p
   pub wrote-then : {ys out : List ℕ} {next : ℕ} → Wrote mid place ys out next → Wrote old at (xs ++ ys) out next
   wrote-then {ys} {out} {next} second = record {
     behind = omega (arith, first .behind, second .behind, length-append xs ys);
-    stored = second .stored ∙ ap (λ s. sets s place ys) (first .stored) ∙ ap (λ j. sets (sets (sheetBits old) at xs) j ys) (first .behind) ∙ sets-append xs ys (sheetBits old) at;
+    stored = second .stored ∙ ap (λ s. sets s place ys) (first .stored) ∙ ap (λ j. sets (sets (sheetBits old) at xs) j ys) (first .behind) ∙ sym (sets-append (sheetBits old) at xs ys);
   }
 
   -- behind what was written there is room for the rest

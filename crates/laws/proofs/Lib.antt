@@ -3,3 +3,4 @@ pub mod Tests
 pub mod Lists
 pub mod Spread
 pub mod Numbers
+pub mod Stores

@@ -8,8 +8,8 @@ use native.Mathlib.Omega.{arith}
 use lib.ListN.{length, length-append}
 use lib.Seq.{sets}
 use Rattle.laws.proofs.Spread.{flatMap-append}
+use Rattle.laws.proofs.Stores.{sets-append}
 use Rattle.grid.specs.Group.{Group, groups}
-use Rattle.words.proofs.Sets.{sets-append}
 use Rattle.paving.specs.Grid.{grid}
 use Rattle.paving.specs.Sweep.{swept, classesFrom, groupsFrom, emitted}
 use Rattle.paving.proofs.Room.{from-cons}

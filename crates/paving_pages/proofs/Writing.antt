@@ -8,8 +8,9 @@ use native.Mathlib.Omega.{arith}
 use lib.ListN.{length, getD, set, length-append, length-map}
 use lib.Seq.{sets}
 use Rattle.laws.proofs.Spread.{flatMap-last}
+use Rattle.laws.proofs.Stores.{sets-append, sets-set}
 use Rattle.definition.specs.Range.{Ends}
-use Rattle.words.proofs.Sets.{sets-next, sets-append, sets-set}
+use Rattle.words.proofs.Sets.{sets-next}
 use Rattle.paving.specs.Grid.{widthOf, marksFrom, chosen}
 use Rattle.runs.specs.Runs.{Cuts, numbers, itemsAt}
 use Rattle.paving_pages.specs.Pages.{CutRows, sortItems, pageItems, endNumbers, pageNumbers, laidItems, state, groupNumbers, putPage}

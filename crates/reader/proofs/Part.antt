@@ -2,30 +2,19 @@
 -- on those of crate `field`.
 -- Assumes nothing.
 use mathlib.Core.Path.{_≡_, refl, sym, ap, _∙_}
-use mathlib.Core.List.{List, [], _∷_, _++_, flatMap}
+use mathlib.Core.List.{List}
 use mathlib.Core.Bool.{Bool, true, false}
-use Prim.Native.Nat.{ℕ, zero, suc, _+_, _*_, _-_, _/_, _%_, _≤_, _<_}
+use Prim.Native.Nat.{ℕ, _+_, _*_, _-_, _/_, _%_, _≤_, _<_}
 use native.Mathlib.Omega.{arith}
 use lib.Dec.{leb}
 use lib.ListN.{length, take, drop, length-drop}
-use lib.Seq.{take-all, drop-at, drop-drop, drop-nil}
+use lib.Seq.{take-all, drop-drop}
 use borrow.Author.Tests.{leb-true, leb-false}
-use Rattle.definition.specs.Field.{bits, number, sheetBits, fieldAt, Read, got, refused, pastEnd, readField, field, plain}
-use Rattle.definition.proofs.Bits.{length-bits, length-sheetBits}
+use Rattle.definition.specs.Field.{number, sheetBits, fieldAt, Read, got, refused, pastEnd, readField, field, plain}
+use Rattle.definition.proofs.Bits.{length-sheetBits}
 use Rattle.definition.proofs.Faithful.{clash}
+use Rattle.field.proofs.Bytes.{drop-bytes}
 use Rattle.field.proofs.Taking.{take-value, take-short}
-
--- whole bytes left out are eight bits each
-drop-bytes : (k : ℕ) (s : List ℕ) → drop (8 * k) (sheetBits s) ≡ sheetBits (drop k s)
-unfolding sheetBits flatMap
-drop-bytes zero s = refl
-drop-bytes (suc k) [] = drop-nil (8 * suc k)
-drop-bytes (suc k) (b ∷ s) =
-    let e : 8 * suc k ≡ 8 + 8 * k = omega arith in
-    ap (λ n. drop n (bits 8 b ++ flatMap (bits 8) s)) e
-    ∙ sym (drop-drop (8 * k) 8 (bits 8 b ++ flatMap (bits 8) s))
-    ∙ ap (drop (8 * k)) (drop-at (bits 8 b) (flatMap (bits 8) s) 8 (length-bits 8 b))
-    ∙ drop-bytes k s
 
 -- ## What a reading says of a field of any value
 module _ (w : ℕ) (s : List ℕ) (p : ℕ) where
@@ -67,7 +56,7 @@ module _ (s : List ℕ) (at w : ℕ) (within : at / 8 ≤ length s) where
   same-field =
       let place : 8 * (at / 8) + at % 8 ≡ at = omega arith in
       ap (λ bytes. number (take w (drop (at % 8) (sheetBits bytes)))) part-drops
-      ∙ ap (λ bs. number (take w (drop (at % 8) bs))) (sym (drop-bytes (at / 8) s))
+      ∙ ap (λ bs. number (take w (drop (at % 8) bs))) (sym (drop-bytes s (at / 8) within))
       ∙ ap (λ bs. number (take w bs)) (drop-drop (at % 8) (8 * (at / 8)) (sheetBits s) ∙ ap (λ p. drop p (sheetBits s)) place)
 
   module _ (v n : ℕ) (e : (plain w) .read (sheetBits part) (at % 8) ≡ got v n) where

@@ -1,7 +1,11 @@
 // The reader of 01: "a view that holds the lent sheet and a bit position". The functions over it are thin, since a proof over a held
 // slice is a walk by hand; the work is done by `read_at` on a plain slice and numbers, by crate `field`.
 use field::Taken;
+use field::width;
 ghost use mathlib.Core.Path.{_≡_};
+ghost use Rattle.definition.specs.Field.{Layout, sheetBits, counted};
+ghost use Rattle.definition.specs.Sheet.{form1, limits1};
+ghost use Rattle.field.specs.Answer.{asRead};
 ghost use Rattle.reader.specs.Says.{Says};
 
 pub struct Reader<'a> {
@@ -63,4 +67,28 @@ pub fn take<'a>(reader: Reader<'a>, width: usize) -> Reading
     ensures { λ r. ⌜ Says r (now (reader .entry .sheet)) (reader .entry .at) width ⌝ }
 {
     read_at(reader.sheet, reader.at, width)
+}
+
+// A sheet's first field, through a view of it.
+pub fn first(sheet: &[u8], width: usize) -> Reading
+    ensures { λ r. ⌜ Says r (now (sheet .entry)) 0 width ⌝ }
+{
+    take(open(sheet), width)
+}
+
+// How many rules a sheet has, its first field: at most 64, else refused by 4.
+pub fn rule_count(sheet: &[u8]) -> Taken
+    ensures { λ r. ⌜ asRead r ≡ (counted (form1 .ruleCount) (limits1 .rules)) .read (sheetBits (now (sheet .entry))) 0 ⌝ }
+{
+    let reading = first(sheet, width::RULE_COUNT);
+    let Reading::Field(taken) = reading else {
+        return Taken::Refused(1, 0);
+    };
+    let Taken::Value(value, next) = taken else {
+        return taken;
+    };
+    match value {
+        0..=64 => Taken::Value(value, next),
+        _ => Taken::Refused(4, 0),
+    }
 }

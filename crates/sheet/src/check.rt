@@ -96,11 +96,12 @@ fn check_rules(sheet: &[u8], begins: &mut [usize; 64], start: usize, count: usiz
     }
 }
 
-// "every byte string gets an answer": 1, 2 and 4 as met from the first bit on, then 3.
+// "every byte string gets an answer": 1, 2 and 4 as met from the first bit on, then 3. The sheet is opened, and how many rules it has is
+// taken through 01's view of it.
 pub fn check(sheet: &[u8], begins: &mut [usize; 64]) -> Checked
     ensures { λ r. ⌜ (asChecked r ≡ checked (now (sheet .entry))) × (now (begins .exit) ≡ begun (now (sheet .entry)) (now (begins .entry))) ⌝ }
 {
-    let count = field::rule_count_at(sheet, 0);
+    let count = reader::rule_count(sheet);
     match count {
         Taken::Value(rules, start) => check_rules(sheet, begins, start, rules as usize),
         Taken::Refused(code, place) => Checked::Refused(code, place),

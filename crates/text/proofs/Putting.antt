@@ -10,8 +10,8 @@ use native.Mathlib.Numerals.{add-one}
 use lib.ListN.{length, getD, take, drop, set, length-append}
 use lib.Seq.{take-suc, take-all, length-take-le, set-out, sets, length-sets}
 use borrow.Author.Tests.{lt-ltb, le-ltb, ltb-false}
+use Rattle.laws.proofs.Stores.{sets-append}
 use Rattle.definition.specs.Text.{digits, decimalIn, decimal}
-use Rattle.words.proofs.Sets.{sets-append}
 use Rattle.text.specs.Put.{Put}
 
 -- ## One behind the other

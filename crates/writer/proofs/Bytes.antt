@@ -1,144 +1,135 @@
--- A number stored in bits of a buffer's byte is its bits stored among the buffer's bits. Rests on the kit's laws of powers.
+-- Whole bytes stored: a byte in a buffer is its eight bits among the buffer's, and a number of bytes, stored with a value in place of
+-- some of its bits, is the value's bits stored there. Rests on crate `field`'s laws of fields in parts and of whole bytes.
 -- Assumes nothing.
-use mathlib.Core.Path.{_≡_, refl, sym, ap, ap₂, _∙_, subst}
-use mathlib.Core.List.{List, [], _∷_, _++_, flatMap, append-assoc}
-use Prim.Native.Nat.{ℕ, zero, suc, _+_, _*_, _-_, _/_, _%_, _^_, _≤_, _<_}
-use native.Mathlib.Nat.{mod-lt, mod-eq-of-lt, add-mul, one-mul, mul-le-mul-right}
+use mathlib.Core.Path.{_≡_, sym, ap, ap₂, _∙_, subst}
+use mathlib.Core.List.{List, _∷_, _++_, flatMap, append-assoc}
+use Prim.Native.Nat.{ℕ, suc, _+_, _*_, _-_, _/_, _%_, _^_, _≤_, _<_}
+use native.Mathlib.Nat.{mod-lt}
 use native.Mathlib.Omega.{arith}
-use lib.ListN.{length, getD, set, take, drop, length-append}
-use lib.Seq.{sets, sets-eq, set-getD, take-at, drop-at, length-take-le}
-use lib.Pow.{pow-add, pow-pos, shr-lt, shl-shr, shr-shr, split, high, low, field, mod-mod-pow}
-use Rattle.definition.specs.Field.{bits, sheetBits}
-use Rattle.definition.proofs.Bits.{length-bits, length-sheetBits}
-use Rattle.writer.specs.Byte.{byteWith}
+use lib.ListN.{length, set, take, drop, length-append, take-append-drop}
+use lib.Seq.{sets, sets-eq, set-split, take-add, drop-drop}
+use lib.Pow.{pow-pos, shr-lt, split, mod-mod-pow}
+use Rattle.laws.proofs.Lists.{All-append}
+use Rattle.laws.proofs.Spread.{flatMap-append}
+use Rattle.laws.proofs.Stores.{sets-behind}
+use Rattle.definition.specs.Field.{bits, number, sheetBits, fieldAt}
+use Rattle.definition.proofs.Bits.{Bits, Bytes, length-bits, number-bits, number-below, bits-number, bits-are-bits, Bits-take, Bits-drop, sheet-bits, length-sheetBits}
+use Rattle.field.proofs.FieldAt.{number-append, field-length, field-front, field-back}
+use Rattle.field.proofs.Bytes.{take-bytes, drop-bytes, first, past, behind, spelled, spanned-bits, spanned-place}
+use Rattle.writer.specs.Number.{numberWith}
 
--- ## Numbers in two parts
-join-lt : (hi lo j k : ℕ) → hi < 2 ^ j → lo < 2 ^ k → hi * 2 ^ k + lo < 2 ^ (j + k)
-join-lt hi lo j k h l =
-    let a : (hi + 1) * 2 ^ k ≤ 2 ^ j * 2 ^ k = mul-le-mul-right (2 ^ k) (omega arith) in
-    let b : (hi + 1) * 2 ^ k ≡ hi * 2 ^ k + 2 ^ k = add-mul hi 1 (2 ^ k) ∙ ap (hi * 2 ^ k +_) (one-mul (2 ^ k)) in
-    omega (arith, a, b, pow-add 2 j k)
+-- ## A number by its bits
+by-bits : (bs : List ℕ) → Bits bs → (n v : ℕ) → length bs ≡ n → number bs ≡ v → (bits n v ≡ bs) × (v < 2 ^ n)
+by-bits bs o n v k e = (ap₂ bits (sym k) (sym e) ∙ bits-number bs o, subst (λ m. v < 2 ^ m) k (subst (λ x. x < 2 ^ length bs) e (number-below bs o)))
 
-pub bits-split : (a b v : ℕ) → v < 2 ^ (a + b) → bits (a + b) v ≡ bits a (v / 2 ^ b) ++ bits b (v % 2 ^ b)
-unfolding bits
-bits-split zero b v h = let z : 0 + b ≡ b = omega arith in ap (λ n. bits n v) z ∙ ap (bits b) (sym (mod-eq-of-lt (subst (λ n. v < 2 ^ n) z h)))
-bits-split (suc a) b v h =
-    let q : suc a + b ≡ suc (a + b) = omega arith in
-    let r : b + a ≡ a + b = omega arith in
-    ap (λ n. bits n v) q
-    ∙ ap₂ _∷_ (sym (shr-shr v b a ∙ ap (λ n. v / 2 ^ n) r))
-    (bits-split a b (v % 2 ^ (a + b)) (mod-lt v (pow-pos (a + b))) ∙ ap₂ (λ x y. bits a x ++ bits b y) (field v a b) (mod-mod-pow v a b))
+bits-split : (a b v : ℕ) → v < 2 ^ (a + b) → bits (a + b) v ≡ bits a (v / 2 ^ b) ++ bits b (v % 2 ^ b)
+bits-split a b v h =
+    let hi = bits a (v / 2 ^ b) in
+    let lo = bits b (v % 2 ^ b) in
+    let hi-fits = shr-lt a b h in
+    let lo-fits = mod-lt v (pow-pos b) in
+    by-bits (hi ++ lo) (All-append _ hi lo (bits-are-bits a (v / 2 ^ b) hi-fits) (bits-are-bits b (v % 2 ^ b) lo-fits)) (a + b) v
+    (length-append hi lo ∙ ap₂ _+_ (length-bits a (v / 2 ^ b)) (length-bits b (v % 2 ^ b)))
+    (number-append hi lo ∙ rw (number-bits a (v / 2 ^ b) hi-fits, number-bits b (v % 2 ^ b) lo-fits, length-bits b (v % 2 ^ b)) (split v b)) .0
 
--- ## In the code's numbers
-pub power : (k : ℕ) → k ≤ 8 → 256 / 2 ^ (8 - k) ≡ 2 ^ k
-power k h =
-    let e : k + (8 - k) ≡ 8 = omega arith in
-    let f : 256 ≡ 2 ^ k * 2 ^ (8 - k) = sym (ap (2 ^_) e) ∙ pow-add 2 k (8 - k) in
-    ap (_/ 2 ^ (8 - k)) f ∙ shl-shr (2 ^ k) (8 - k)
-
-pub lower : (x k p : ℕ) → p ≡ 2 ^ k → (x / 2 ^ k * p ≤ x) × (x - x / 2 ^ k * p ≡ x % 2 ^ k)
-lower x k p e =
-    let f : x / 2 ^ k * p ≡ x / 2 ^ k * 2 ^ k = ap (x / 2 ^ k *_) e in
-    (omega (arith, f, split x k), omega (arith, f, split x k))
-
--- a number in a byte, and that it fits
-module _ (byte from to number a p b : ℕ) (within : to ≤ from) (few : from ≤ 8) (o : byte < 256) (fits : number < 2 ^ (from - to))
-    (e : a ≡ byte % 2 ^ from) (f : p ≡ 2 ^ to) (g : b ≡ byte % 2 ^ to) where
-  with-below : number * p + b < 2 ^ from
-  with-below =
-      let q : from - to + to ≡ from = omega arith in
-      rw (f, g) (subst (λ n. number * 2 ^ to + byte % 2 ^ to < 2 ^ n) q (join-lt number (byte % 2 ^ to) (from - to) to fits (mod-lt byte (pow-pos to))))
-
-  pub with-all : (a ≤ byte) × (byte - a + (number * p + b) < 256)
-  with-all =
-      let q : 8 - from + from ≡ 8 = omega arith in
-      let r : byte < 2 ^ (8 - from + from) = subst (λ n. byte < 2 ^ n) (sym q) o in
-      let t : byte / 2 ^ from * 2 ^ from + (number * p + b) < 2 ^ 8 =
-      subst (λ n. byte / 2 ^ from * 2 ^ from + (number * p + b) < 2 ^ n) q (join-lt (byte / 2 ^ from) (number * p + b) (8 - from) from (shr-lt (8 - from) from r) with-below) in
-      (omega (arith, e, split byte from), omega (arith, e, split byte from, t))
-
-  pub with-made : byte - a + number * p + b ≡ byteWith byte from to number
-  unfolding byteWith
-  with-made =
-      let z : byte - a ≡ byte / 2 ^ from * 2 ^ from = omega (arith, e, split byte from) in
-      rw (z, f, g)
-
--- ## One byte
-module _ (place width to byte number : ℕ) (whole : place + (width + to) ≡ 8) (o : byte < 256) (h : number < 2 ^ width) where
-  abbrev above : List ℕ
-  above = bits place (byte / 2 ^ (width + to))
-
-  abbrev among : List ℕ
-  among = bits width (byte % 2 ^ (width + to) / 2 ^ to)
-
-  abbrev below : List ℕ
-  below = bits to (byte % 2 ^ to)
-
-  old-bits : bits 8 byte ≡ above ++ (among ++ below)
-  old-bits =
-      ap (λ n. bits n byte) (sym whole) ∙ bits-split place (width + to) byte (subst (λ n. byte < 2 ^ n) (sym whole) o)
-      ∙ ap (above ++_) (bits-split width to (byte % 2 ^ (width + to)) (mod-lt byte (pow-pos (width + to))) ∙ ap (λ y. among ++ bits to y) (mod-mod-pow byte width to))
-
-  new-bits : bits 8 (byteWith byte (width + to) to number) ≡ above ++ (bits width number ++ below)
-  unfolding byteWith
-  new-bits =
-      let hi = byte / 2 ^ (width + to) in
-      let lo = number * 2 ^ to + byte % 2 ^ to in
-      let small : number * 2 ^ to + byte % 2 ^ to < 2 ^ (width + to) = join-lt number (byte % 2 ^ to) width to h (mod-lt byte (pow-pos to)) in
-      let top : byte / 2 ^ (width + to) < 2 ^ place = shr-lt place (width + to) (subst (λ n. byte < 2 ^ n) (sym whole) o) in
-      let regrouped : byte / 2 ^ (width + to) * 2 ^ (width + to) + number * 2 ^ to + byte % 2 ^ to ≡ byte / 2 ^ (width + to) * 2 ^ (width + to) + (number * 2 ^ to + byte % 2 ^ to) = omega arith in
-      ap (bits 8) regrouped ∙ ap (λ n. bits n (hi * 2 ^ (width + to) + lo)) (sym whole)
-      ∙ bits-split place (width + to) (hi * 2 ^ (width + to) + lo) (join-lt hi lo place (width + to) top small)
-      ∙ ap₂ (λ x y. bits place x ++ bits (width + to) y) (high hi (width + to) small) (low hi (width + to) small)
-      ∙ ap (above ++_) (bits-split width to lo small ∙ ap₂ (λ x y. bits width x ++ bits to y) (high number to (mod-lt byte (pow-pos to))) (low number to (mod-lt byte (pow-pos to))))
-
--- ## A buffer
-sheet-at : (s : List ℕ) (i y : ℕ) → i < length s → sheetBits (set s i y) ≡ sheetBits (take i s) ++ (bits 8 y ++ sheetBits (drop (suc i) s))
+-- ## Bytes of a buffer
+byte-set : (s : List ℕ) (i y : ℕ) → i < length s → sheetBits (set s i y) ≡ sets (sheetBits s) (8 * i) (bits 8 y)
 unfolding sheetBits flatMap
-sheet-at [] i y h = absurd (omega arith)
-sheet-at (x ∷ s) zero y h = refl
-sheet-at (x ∷ s) (suc i) y h =
-    ap (bits 8 x ++_) (sheet-at s i y (omega arith)) ∙ sym (append-assoc (bits 8 x) (sheetBits (take i s)) (bits 8 y ++ sheetBits (drop (suc i) s)))
+byte-set s i y h =
+    let e : 8 * suc i ≡ 8 * i + length (bits 8 y) = omega (arith, length-bits 8 y) in
+    ap sheetBits (set-split s i y h) ∙ flatMap-append (bits 8) (take i s) (y ∷ drop (suc i) s) ∙ sym (append-assoc (sheetBits (take i s)) (bits 8 y) (sheetBits (drop (suc i) s)))
+    ∙ sym (sets-eq (bits 8 y) (sheetBits s) (8 * i) (omega (arith, length-bits 8 y, length-sheetBits s))
+    ∙ ap₂ (λ u v. u ++ bits 8 y ++ v) (take-bytes s i (omega arith)) (ap (λ n. drop n (sheetBits s)) (sym e) ∙ drop-bytes s (suc i) (omega arith)))
 
--- as many stored in the middle
-laid : (P M Q N : List ℕ) (k : ℕ) → length M ≡ length N → length P ≡ k → sets (P ++ (M ++ Q)) k N ≡ P ++ (N ++ Q)
-laid P M Q N k e f =
-    sets-eq N (P ++ (M ++ Q)) k (omega (arith, e, f, length-append P (M ++ Q), length-append M Q))
-    ∙ ap₂ (λ u v. u ++ N ++ v) (take-at P (M ++ Q) k f)
-    (ap (drop (k + length N)) (sym (append-assoc P M Q)) ∙ drop-at (P ++ M) Q (k + length N) (omega (arith, e, f, length-append P M))) ∙ append-assoc P N Q
+-- the last byte of a number stored, and the rest of the number still to be stored before it
+pub last-byte : (s : List ℕ) (first index rest : ℕ) → first < index → index ≤ length s → rest < 2 ^ (8 * (index - first))
+    → sets (sheetBits (set s (index - 1) (rest % 256))) (8 * first) (bits (8 * (index - 1 - first)) (rest / 256)) ≡ sets (sheetBits s) (8 * first) (bits (8 * (index - first)) rest)
+last-byte s first index rest l h few =
+    let front = 8 * (index - 1 - first) in
+    let n : 8 * (index - first) ≡ 8 * (index - 1 - first) + 8 = omega arith in
+    let p : 8 * (index - 1) ≡ 8 * first + length (bits front (rest / 256)) = omega (arith, length-bits (8 * (index - 1 - first)) (rest / 256)) in
+    ap (λ u. sets u (8 * first) (bits front (rest / 256))) (byte-set s (index - 1) (rest % 256) (omega arith) ∙ ap (λ q. sets (sheetBits s) q (bits 8 (rest % 256))) p)
+    ∙ sets-behind (sheetBits s) (8 * first) (bits front (rest / 256)) (bits 8 (rest % 256))
+    ∙ ap (sets (sheetBits s) (8 * first)) (sym (ap (λ k. bits k rest) n ∙ bits-split front 8 rest (subst (λ k. rest < 2 ^ k) n few)))
 
-module _ (s : List ℕ) (at i place width to number : ℕ) (whole : place + (width + to) ≡ 8) (o : getD s i 0 < 256) (h : number < 2 ^ width)
-    (there : i < length s) (e : at ≡ 8 * i + place) where
-  abbrev before : List ℕ
-  before = sheetBits (take i s)
+pub rest-below : (first index rest : ℕ) → first < index → rest < 2 ^ (8 * (index - first)) → rest / 256 < 2 ^ (8 * (index - 1 - first))
+rest-below first index rest l few =
+    let n : 8 * (index - first) ≡ 8 * (index - 1 - first) + 8 = omega arith in
+    shr-lt (8 * (index - 1 - first)) 8 (subst (λ k. rest < 2 ^ k) n few)
+
+pub stored-all : (s : List ℕ) (first index rest : ℕ) → index ≤ first → s ≡ sets s (8 * first) (bits (8 * (index - first)) rest)
+unfolding bits
+stored-all s first index rest l = let z : 8 * (index - first) ≡ 0 = omega arith in sym (ap (λ k. sets s (8 * first) (bits k rest)) z)
+
+-- ## A value among bits: `before` bits stand before it, `behind` bits behind it
+module _ (s : List ℕ) (o : Bits s) (p before width behind value : ℕ) (h : p + (before + (width + behind)) ≤ length s) (fits : value < 2 ^ width) where
+  abbrev old : ℕ
+  old = fieldAt s p (before + (width + behind))
+
+  abbrev new : ℕ
+  new = numberWith old (width + behind) behind value
+
+  abbrev kept : List ℕ
+  kept = take before (drop p s)
+
+  abbrev stored : List ℕ
+  stored = bits width value
 
   abbrev after : List ℕ
-  after = sheetBits (drop (suc i) s)
+  after = take behind (drop (p + before + width) s)
 
-  abbrev head : List ℕ
-  head = above place width to (getD s i 0) number whole o h
+  after-length : length after ≡ behind
+  after-length = field-length s (p + before + width) behind (omega arith)
 
-  abbrev tail : List ℕ
-  tail = below place width to (getD s i 0) number whole o h
+  row-length : length (kept ++ (stored ++ after)) ≡ before + (width + behind)
+  row-length = omega (arith, length-append kept (stored ++ after), length-append stored after, field-length s p before (omega arith), length-bits width value, after-length)
 
-  regroup : (N : List ℕ) → before ++ ((head ++ (N ++ tail)) ++ after) ≡ (before ++ head) ++ (N ++ (tail ++ after))
-  regroup N =
-      ap (before ++_) (append-assoc head (N ++ tail) after ∙ ap (head ++_) (append-assoc N tail after)) ∙ sym (append-assoc before head (N ++ (tail ++ after)))
+  row-number : number (kept ++ (stored ++ after)) ≡ new
+  unfolding fieldAt numberWith
+  row-number =
+      let back = sym (mod-mod-pow old width behind) ∙ ap (_% 2 ^ behind) (field-back s o p before (width + behind) h) ∙ field-back s o (p + before) width behind (omega arith) in
+      number-append kept (stored ++ after)
+      ∙ rw (number-append stored after, length-append stored after, length-bits width value, after-length, number-bits width value fits, field-front s o p before (width + behind) h, back)
 
-  sheet-set : sheetBits (set s i (byteWith (getD s i 0) (width + to) to number)) ≡ sets (sheetBits s) at (bits width number)
-  sheet-set =
-      let M = among place width to (getD s i 0) number whole o h in
-      let old : sheetBits s ≡ (before ++ head) ++ (M ++ (tail ++ after)) =
-      ap sheetBits (sym (set-getD s i 0)) ∙ sheet-at s i (getD s i 0) there ∙ ap (λ x. before ++ (x ++ after)) (old-bits place width to (getD s i 0) number whole o h) ∙ regroup M in
-      let size : length (before ++ head) ≡ at =
-      omega (arith, length-append before head, length-sheetBits (take i s), length-take-le i s (omega arith), length-bits place (getD s i 0 / 2 ^ (width + to)), e) in
-      sheet-at s i (byteWith (getD s i 0) (width + to) to number) there ∙ ap (λ x. before ++ (x ++ after)) (new-bits place width to (getD s i 0) number whole o h)
-      ∙ regroup (bits width number) ∙ sym (laid (before ++ head) M (tail ++ after) (bits width number) at (length-bits width _ ∙ sym (length-bits width number)) size)
-      ∙ ap (λ u. sets u at (bits width number)) (sym old)
+  with-parts : (bits (before + (width + behind)) new ≡ kept ++ (stored ++ after)) × (new < 2 ^ (before + (width + behind)))
+  with-parts =
+      by-bits (kept ++ (stored ++ after))
+      (All-append _ kept (stored ++ after) (Bits-take before (drop p s) (Bits-drop p s o))
+      (All-append _ stored after (bits-are-bits width value fits) (Bits-take behind (drop (p + before + width) s) (Bits-drop (p + before + width) s o))))
+      (before + (width + behind)) new row-length row-number
 
-pub sheet-put : (s : List ℕ) (at width number : ℕ) → ((j : ℕ) → getD s j 0 < 256) → at % 8 + width ≤ 8 → at < 8 * length s → number < 2 ^ width
-    → (x : ℕ) → x ≡ byteWith (getD s (at / 8) 0) (8 - at % 8) (8 - at % 8 - width) number → sheetBits (set s (at / 8) x) ≡ sets (sheetBits s) at (bits width number)
-sheet-put s at width number o fit there h x e =
-    let from : 8 - at % 8 ≡ width + (8 - at % 8 - width) = omega arith in
-    ap (λ y. sheetBits (set s (at / 8) y)) (e ∙ ap (λ n. byteWith (getD s (at / 8) 0) n (8 - at % 8 - width) number) from)
-    ∙ sheet-set s at (at / 8) (at % 8) width (8 - at % 8 - width) number (omega arith) (o (at / 8)) h (omega arith) (omega arith)
+  -- stored with what stands around it, it is stored alone
+  with-stored : sets s p (bits (before + (width + behind)) new) ≡ sets s (p + before) (bits width value)
+  with-stored =
+      let front = take p s in
+      let rest = drop (p + before + width + behind) s in
+      let e : p + length (bits (before + (width + behind)) new) ≡ p + before + width + behind = omega (arith, length-bits (before + (width + behind)) new) in
+      let f : p + before + width ≡ p + before + length (bits width value) = omega (arith, length-bits width value) in
+      let tail : after ++ rest ≡ drop (p + before + length stored) s =
+      ap (after ++_) (sym (drop-drop behind (p + before + width) s)) ∙ take-append-drop behind (drop (p + before + width) s) ∙ ap (λ n. drop n s) f in
+      sets-eq (bits (before + (width + behind)) new) s p (omega (arith, length-bits (before + (width + behind)) new)) ∙ ap₂ (λ x n. front ++ x ++ drop n s) (with-parts .0) e
+      ∙ ap (_++ rest) (sym (append-assoc front kept (stored ++ after)) ∙ sym (append-assoc (front ++ kept) stored after)) ∙ append-assoc (front ++ kept ++ stored) after rest
+      ∙ ap₂ (λ u v. u ++ stored ++ v) (sym (take-add p before s)) tail
+      ∙ sym (sets-eq stored s (p + before) (omega (arith, length-bits width value)))
+
+-- ## In the bytes that a field spans, in the code's numbers: `old` is taken from them, `number` is made of it
+module _ (s : List ℕ) (o : Bytes s) (at width value : ℕ) (h : at + width ≤ 8 * length s) (fits : value < 2 ^ width)
+    (old number : ℕ) (taken : old ≡ spelled at width s) (made : number ≡ numberWith old (behind at width + width) (behind at width) value) where
+  in-parts : number ≡ numberWith (fieldAt (sheetBits s) (8 * first at width) (at % 8 + (width + behind at width))) (width + behind at width) (behind at width) value
+  in-parts =
+      let from : behind at width + width ≡ width + behind at width = omega arith in
+      made ∙ ap₂ (λ n k. numberWith n k (behind at width) value) (taken ∙ ap (fieldAt (sheetBits s) (8 * first at width)) (sym (spanned-bits at width))) from
+
+  all-bits : 8 * first at width + (at % 8 + (width + behind at width)) ≤ length (sheetBits s)
+  all-bits = omega (arith, length-sheetBits s)
+
+  pub spanned-below : number < 2 ^ (8 * (past at width - first at width))
+  spanned-below =
+      subst (λ n. number < 2 ^ n) (spanned-bits at width)
+      (rw in-parts (with-parts (sheetBits s) (sheet-bits s o) (8 * first at width) (at % 8) width (behind at width) value all-bits fits .1))
+
+  pub spanned-stored : sets (sheetBits s) (8 * first at width) (bits (8 * (past at width - first at width)) number) ≡ sets (sheetBits s) at (bits width value)
+  spanned-stored =
+      ap₂ (λ n x. sets (sheetBits s) (8 * first at width) (bits n x)) (sym (spanned-bits at width)) in-parts
+      ∙ with-stored (sheetBits s) (sheet-bits s o) (8 * first at width) (at % 8) width (behind at width) value all-bits fits
+      ∙ ap (λ q. sets (sheetBits s) q (bits width value)) (spanned-place at width)

@@ -1,1 +1,1 @@
-pub mod Byte
+pub mod Number

@@ -3,7 +3,7 @@
 use mathlib.Core.Path.{_∙_}
 use native.Mathlib.Omega.{arith}
 use borrow.Author.Needs.{needs}
-use Rattle.field.proofs.FieldAt.{known-bytes}
+use Rattle.field.proofs.Bytes.{known-bytes}
 use Rattle.cutting.proofs.Cutting.{cut-there}
 use Rattle.cutting.proofs.cut_all.Statement.{statement}
 use Rattle.cutting.proofs.cut_all.Tie as tie

@@ -2,7 +2,7 @@
 -- Assumes nothing.
 use native.Mathlib.Omega.{arith}
 use borrow.Author.Needs.{needs}
-use Rattle.field.proofs.FieldAt.{known-bytes}
+use Rattle.field.proofs.Bytes.{known-bytes}
 use Rattle.cutting.proofs.Reading.{rules-begin, begins-there, drained-few, drained-pass, each-drained}
 use Rattle.cutting.proofs.cut_drained.Statement.{statement}
 use Rattle.cutting.proofs.cut_drained.Tie as tie

@@ -8,7 +8,7 @@ use lib.ListN.{length, take}
 use Rattle.definition.specs.Field.{sheetBits}
 use Rattle.definition.specs.Point.{dimensions}
 use Rattle.sheet.specs.Rules.{rulesAt}
-use Rattle.field.proofs.FieldAt.{known-bytes}
+use Rattle.field.proofs.Bytes.{known-bytes}
 use Rattle.paving_cuts.specs.Rules.{CutBy}
 use Rattle.drawing.proofs.Drawing.{ranges-found, scratch-kept}
 use Rattle.cutting.proofs.Cutting.{rows-kept, next-space, next-cut, all-cut}

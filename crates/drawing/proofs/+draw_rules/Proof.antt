@@ -5,7 +5,7 @@ use Prim.Native.Nat.{ℕ, _-_, _<_}
 use native.Mathlib.Omega.{arith}
 use borrow.Fn.Kinds.{In}
 use borrow.Fn.PlainCycle.{Measures, is, falls, and}
-use Rattle.field.proofs.FieldAt.{known-bytes}
+use Rattle.field.proofs.Bytes.{known-bytes}
 use Rattle.drawing.proofs.Drawing.{scratch-kept, boxes-kept, drew-all, drew-next, drew-over}
 use Rattle.drawing.proofs.draw_rules.Reads as draw-rules
 use Rattle.drawing.proofs.draw_rules.Kinds as draw-rules-kinds

@@ -5,7 +5,7 @@ use native.Mathlib.Omega.{arith}
 use lib.ListN.{length}
 use borrow.Author.Needs.{needs}
 use Rattle.definition.specs.Fold.{buffer, writtenNumbers}
-use Rattle.field.proofs.FieldAt.{known-bytes}
+use Rattle.field.proofs.Bytes.{known-bytes}
 use Rattle.sheet.proofs.Begins.{begun-length}
 use Rattle.hours.proofs.Checked.{line-begins, line-read, line-refused}
 use Rattle.hours.proofs.line.Statement.{statement}

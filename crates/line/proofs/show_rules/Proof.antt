@@ -7,7 +7,7 @@ use lib.Dec.{eqb}
 use lib.ListN.{getD}
 use borrow.Author.Needs.{needs}
 use Rattle.definition.specs.Field.{sheetBits}
-use Rattle.field.proofs.FieldAt.{known-bytes}
+use Rattle.field.proofs.Bytes.{known-bytes}
 use Rattle.text.proofs.Putting.{put-length}
 use Rattle.line.proofs.Steps.{Walked, walk-start, next-short, walk-next, walk-wordless, walk-end}
 use Rattle.line.proofs.show_rules.Statement.{statement}

@@ -5,7 +5,7 @@ use Prim.Native.Nat.{_*_}
 use native.Mathlib.Omega.{arith}
 use lib.Seq.{length-take-le}
 use borrow.Author.Needs.{needs}
-use Rattle.field.proofs.FieldAt.{known-bytes}
+use Rattle.field.proofs.Bytes.{known-bytes}
 use Rattle.normalize.proofs.Left.{rules-limited}
 use Rattle.normalize.proofs.Prepared.{drained-limited, drained-prepared}
 use Rattle.lookup.proofs.Answers.{boxes-refused}

@@ -2,7 +2,7 @@
 -- Assumes nothing.
 use native.Mathlib.Omega.{arith}
 use borrow.Author.Needs.{needs}
-use Rattle.field.proofs.FieldAt.{known-bytes}
+use Rattle.field.proofs.Bytes.{known-bytes}
 use Rattle.normalize.proofs.Left.{rules-limited}
 use Rattle.normalize.proofs.fold_many_rules.Statement.{statement}
 use Rattle.normalize.proofs.fold_many_rules.Tie as tie

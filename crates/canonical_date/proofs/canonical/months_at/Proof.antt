@@ -3,7 +3,7 @@
 use mathlib.Core.Path.{refl, sym, ap, _∙_}
 use native.Mathlib.Omega.{arith}
 use borrow.Author.Needs.{needs}
-use Rattle.field.proofs.FieldAt.{known-bytes}
+use Rattle.field.proofs.Bytes.{known-bytes}
 use Rattle.item.specs.Answer.{asMonthday}
 use Rattle.canonical_date.specs.Says.{monthSays}
 use Rattle.canonical_date.proofs.Saying.{said, said-stops, said-refused, split-some, months-low}

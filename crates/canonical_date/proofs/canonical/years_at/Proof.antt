@@ -5,7 +5,7 @@ use native.Mathlib.Omega.{arith}
 use borrow.Author.Needs.{needs}
 use borrow.Author.Tests.{eq-eqb, ne-eqb}
 use Rattle.definition.specs.Sheet.{yearsOf}
-use Rattle.field.proofs.FieldAt.{known-bytes}
+use Rattle.field.proofs.Bytes.{known-bytes}
 use Rattle.item.specs.Answer.{asStepped}
 use Rattle.canonical_date.specs.Says.{yearSays}
 use Rattle.canonical_date.proofs.Saying.{said, said-stops, said-refused, split-some, only-some, only-none, years-low}

@@ -8,7 +8,7 @@ use borrow.Fn.Kinds.{In}
 use borrow.Fn.PlainCycle.{Measures, is, falls, and}
 use lib.ListN.{length, length-set}
 use Rattle.definition.specs.Field.{sheetBits}
-use Rattle.field.proofs.FieldAt.{known-bytes}
+use Rattle.field.proofs.Bytes.{known-bytes}
 use Rattle.field.proofs.Taking.{took, stopped}
 use Rattle.canonical_date.specs.Row.{flat, itemsEnd, rowOf, rowRanges}
 use Rattle.canonical_date.proofs.Flat.{flat-length}

@@ -2,7 +2,7 @@
 -- Assumes nothing.
 use native.Mathlib.Omega.{arith}
 use borrow.Author.Needs.{needs}
-use Rattle.field.proofs.FieldAt.{known-bytes}
+use Rattle.field.proofs.Bytes.{known-bytes}
 use Rattle.canonical_date.proofs.Finding.{found}
 use Rattle.canonical_date.proofs.days.rule_ranges.Statement.{statement}
 use Rattle.canonical_date.proofs.days.rule_ranges.Tie as tie

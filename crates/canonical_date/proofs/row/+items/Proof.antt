@@ -6,7 +6,7 @@ use native.Mathlib.Omega.{arith}
 use borrow.Author.Needs.{needs}
 use borrow.Fn.Kinds.{In}
 use borrow.Fn.PlainCycle.{Measures, is, falls, and}
-use Rattle.field.proofs.FieldAt.{known-bytes}
+use Rattle.field.proofs.Bytes.{known-bytes}
 use Rattle.bounded.specs.Strict.{listOf}
 use Rattle.canonical_date.specs.Says.{itemOf}
 use Rattle.canonical_date.proofs.Flat.{flat-length}

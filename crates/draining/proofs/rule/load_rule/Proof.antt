@@ -4,7 +4,7 @@ use mathlib.Core.Path.{ap}
 use native.Mathlib.Omega.{arith}
 use borrow.Author.Needs.{needs}
 use Rattle.canonical_date.specs.Days.{Loaded}
-use Rattle.field.proofs.FieldAt.{known-bytes}
+use Rattle.field.proofs.Bytes.{known-bytes}
 use Rattle.draining.proofs.RuleWays.{found-loads, found-stops, spans-early, load-days-stop, load-spans-stop, load-passes}
 use Rattle.draining.proofs.rule.load_rule.Statement.{statement}
 use Rattle.draining.proofs.rule.load_rule.Tie as tie

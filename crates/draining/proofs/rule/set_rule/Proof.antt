@@ -3,7 +3,7 @@
 use mathlib.Core.Path.{sym, ap, _∙_}
 use native.Mathlib.Omega.{arith}
 use borrow.Author.Needs.{needs}
-use Rattle.field.proofs.FieldAt.{known-bytes}
+use Rattle.field.proofs.Bytes.{known-bytes}
 use Rattle.sheet.specs.Head.{asTitle}
 use Rattle.sheet.proofs.Titles.{title-refused}
 use Rattle.draining.proofs.RuleWays.{set-fallback, set-rule, comment-low}

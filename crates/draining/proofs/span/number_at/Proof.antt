@@ -6,7 +6,7 @@ use borrow.Author.Needs.{needs}
 use lib.Dec.{eqb}
 use Rattle.definition.proofs.Items.{span-faithful}
 use Rattle.definition.proofs.SheetRead.{carried}
-use Rattle.field.proofs.FieldAt.{known-bytes}
+use Rattle.field.proofs.Bytes.{known-bytes}
 use Rattle.item.specs.Answer.{asTime, asSpan}
 use Rattle.span_number.proofs.Carried.{time-below, span-carried}
 use Rattle.draining.proofs.SpanWays.{repeats-back, bit-below, number-goes, number-stops}

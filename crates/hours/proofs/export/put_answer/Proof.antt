@@ -1,18 +1,17 @@
 -- `hours::export::put_answer` meets its contract, by the invariant that storing what is left leaves what the whole answer leaves.
 -- Assumes nothing.
-use mathlib.Core.Path.{_≡_, refl, ap, _∙_}
-use Prim.Native.Nat.{_+_, _-_, _≤_}
+use mathlib.Core.Path.{_≡_, refl, sym, ap, _∙_}
+use Prim.Native.Nat.{suc, _+_, _-_, _≤_}
 use native.Mathlib.Omega.{arith}
-use lib.ListN.{length, drop, getD, set, length-set}
-use lib.Seq.{sets}
+use lib.ListN.{length, drop, getD, set, length-set, drop-of-length-le}
+use lib.Seq.{sets, drop-cons}
 use borrow.Author.Needs.{needs}
-use Rattle.writer.proofs.Storing.{store-first, store-next, store-end}
 use Rattle.definition.proofs.Writing.{written-front}
 use Rattle.hours.proofs.export.put_answer.Statement.{statement}
 use Rattle.hours.proofs.export.put_answer.Tie as tie
 
 abbrev Inv-loop : tie.InvT-loop
-Inv-loop answer lent₀ i₀ lent i = (i ≤ length answer) × (length lent ≡ length lent₀) × (sets lent (0 + i) (drop i answer) ≡ sets lent₀ 0 answer)
+Inv-loop answer lent₀ i₀ lent i = (i ≤ length answer) × (length lent ≡ length lent₀) × (sets lent i (drop i answer) ≡ sets lent₀ 0 answer)
 
 abbrev μ-loop : tie.MeasureT-loop
 μ-loop answer lent₀ i₀ lent i = length answer - i
@@ -21,18 +20,19 @@ loop-again : tie.Need-loop-again Inv-loop μ-loop
 loop-again c =
     let args = c .before .before .before .args in
     let old = c .before .before .loop in
-    let here : old .i ≡ 0 + old .i = omega arith in (
+    let next : old .i + 1 ≡ suc (old .i) = omega arith in (
       omega (arith, c .before .loop-test .taken),
       omega (arith, length-set (old .lent) (old .i) (getD (args .answer .now) (old .i) 0), old .inv .1),
-      ap (λ k. sets (set (old .lent) k (getD (args .answer .now) (old .i) 0)) (0 + (old .i + 1)) (drop (old .i + 1) (args .answer .now))) here
-          ∙ store-next (args .answer .now) (old .lent) 0 (old .i) _ (c .before .loop-test .taken) refl ∙ old .inv .2,
+      ap (λ k. sets (set (old .lent) (old .i) (getD (args .answer .now) (old .i) 0)) k (drop k (args .answer .now))) next
+          ∙ sym (ap (sets (old .lent) (old .i)) (drop-cons (args .answer .now) (old .i) 0 (c .before .loop-test .taken))) ∙ old .inv .2,
     )
 
 returns : tie.Need-returns Inv-loop μ-loop
 returns c =
     let args = c .before .before .args in
     let old = c .before .loop in
-    store-end (args .answer .now) (old .lent) 0 (old .i) (c .loop-test .left) ∙ old .inv .2 ∙ written-front (args .answer .now) (args .lent .now) (c .before .before .pre)
+    sym (ap (sets (old .lent) (old .i)) (drop-of-length-le (args .answer .now) (c .loop-test .left))) ∙ old .inv .2
+    ∙ written-front (args .answer .now) (args .lent .now) (c .before .before .pre)
 
 pub put-answer-spec : {M : Type 1} → statement M
 put-answer-spec =
@@ -40,7 +40,7 @@ put-answer-spec =
     (tie.spec
     Inv-loop
     μ-loop
-    (λ c. (omega arith, refl, store-first (c .args .answer .now) (c .args .lent .now) 0))
+    (λ c. (omega arith, refl, refl))
     (λ c. search needs)
     (λ c. search needs)
     (λ c. search needs)

@@ -7,7 +7,7 @@ use borrow.Author.Needs.{needs}
 use borrow.Author.Tests.{eq-eqb, ne-eqb}
 use Rattle.definition.specs.Sheet.{repeatsLayout}
 use Rattle.definition.proofs.Reading.{tagged-goes, tagged-stops, field-end}
-use Rattle.field.proofs.FieldAt.{known-bytes}
+use Rattle.field.proofs.Bytes.{known-bytes}
 use Rattle.field.proofs.Taking.{took, stopped, value-below}
 use Rattle.item.specs.Answer.{asRepeats}
 use Rattle.item.proofs.Spans.{no-repeats, repeats-goes, repeats-stops}

@@ -2,7 +2,7 @@
 -- Assumes nothing.
 use native.Mathlib.Omega.{arith}
 use borrow.Author.Needs.{needs}
-use Rattle.field.proofs.FieldAt.{known-bytes}
+use Rattle.field.proofs.Bytes.{known-bytes}
 use Rattle.normalize.proofs.Listing.{rules-drawable, boxes-cut, none-drawn, rules-listed}
 use Rattle.normalize.proofs.boxes.list_boxes.Statement.{statement}
 use Rattle.normalize.proofs.boxes.list_boxes.Tie as tie

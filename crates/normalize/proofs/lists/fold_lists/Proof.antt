@@ -2,7 +2,7 @@
 -- Assumes nothing.
 use native.Mathlib.Omega.{arith}
 use borrow.Author.Needs.{needs}
-use Rattle.field.proofs.FieldAt.{known-bytes}
+use Rattle.field.proofs.Bytes.{known-bytes}
 use Rattle.cutting.proofs.Reading.{begins-there}
 use Rattle.normalize.proofs.Answers.{drained-in, prepared-leaving, boxes-few, rules-folded}
 use Rattle.normalize.proofs.lists.fold_lists.Statement.{statement}

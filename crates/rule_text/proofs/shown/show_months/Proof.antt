@@ -7,7 +7,7 @@ use borrow.Author.Needs.{needs}
 use Rattle.definition.specs.Stop.{monthdayStops}
 use Rattle.definition.specs.Text.{only}
 use Rattle.definition.specs.Line.{monthText}
-use Rattle.field.proofs.FieldAt.{known-bytes}
+use Rattle.field.proofs.Bytes.{known-bytes}
 use Rattle.item.specs.Answer.{asMonthday}
 use Rattle.text.proofs.Putting.{put-as}
 use Rattle.rule_text.proofs.Telling.{got-within, got-shows, got-silent, refused-silent}

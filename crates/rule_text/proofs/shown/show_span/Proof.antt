@@ -8,7 +8,7 @@ use lib.ListN.{length}
 use borrow.Author.Needs.{needs}
 use Rattle.definition.specs.Sheet.{spanOf}
 use Rattle.definition.specs.Line.{isPlain, spanText}
-use Rattle.field.proofs.FieldAt.{known-bytes}
+use Rattle.field.proofs.Bytes.{known-bytes}
 use Rattle.item.specs.Answer.{asTime, asSpan, repeatsFrom}
 use Rattle.item_text.specs.Time.{plainSpan}
 use Rattle.text.proofs.Putting.{put-as}

@@ -6,7 +6,7 @@ use lib.ListN.{length}
 use borrow.Author.Needs.{needs}
 use Rattle.definition.specs.Sheet.{yearsOf}
 use Rattle.definition.specs.Line.{yearText}
-use Rattle.field.proofs.FieldAt.{known-bytes}
+use Rattle.field.proofs.Bytes.{known-bytes}
 use Rattle.item.specs.Answer.{asStepped}
 use Rattle.text.proofs.Putting.{put-as}
 use Rattle.rule_text.proofs.Telling.{got-within, got-shows, refused-silent}

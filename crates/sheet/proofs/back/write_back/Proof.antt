@@ -5,7 +5,7 @@ use native.Mathlib.Omega.{arith}
 use borrow.Author.Needs.{needs}
 use lib.ListN.{length}
 use Rattle.definition.specs.Fold.{buffer, writtenNumbers}
-use Rattle.field.proofs.FieldAt.{known-bytes}
+use Rattle.field.proofs.Bytes.{known-bytes}
 use Rattle.sheet.specs.Rules.{asChecked}
 use Rattle.sheet.proofs.Backs.{back-refused, back-copied}
 use Rattle.sheet.proofs.back.write_back.Statement.{statement}

@@ -3,7 +3,7 @@
 use mathlib.Core.Path.{sym, _∙_}
 use native.Mathlib.Omega.{arith}
 use borrow.Author.Needs.{needs}
-use Rattle.field.proofs.FieldAt.{known-bytes}
+use Rattle.field.proofs.Bytes.{known-bytes}
 use Rattle.field.proofs.Taking.{took, stopped}
 use Rattle.sheet.proofs.Whole.{count-goes, count-stops, count-begun, none-begun, count-low}
 use Rattle.sheet.proofs.check.check.Statement.{statement}
@@ -13,19 +13,19 @@ check-rules-requires : tie.Need-check-rules-requires
 check-rules-requires c κs =
     let s = c .before .before .before .before .before .before .args .sheet .now in
     let bytes = known-bytes s (λ j. omega (arith, c .before .before .before .before .before .shared-slice-known .given j)) in
-    let low = count-low s bytes _ _ (took _ _ _ (c .before .before .before .before .rule-count-at .ensures) (c .before .before .count .given .1)) in
+    let low = count-low s bytes _ _ (took _ _ _ (c .before .before .before .before .rule-count .ensures) (c .before .before .count .given .1)) in
     (omega (arith, low .1), low .2, low .0)
 
 returns : tie.Need-returns
 returns c =
     let s = c .before .before .before .before .before .before .before .args .sheet .now in
     let bytes = known-bytes s (λ j. omega (arith, c .before .before .before .before .before .before .shared-slice-known .given j)) in
-    let count = took _ _ _ (c .before .before .before .before .before .rule-count-at .ensures) (c .before .before .before .count .given .1) in
+    let count = took _ _ _ (c .before .before .before .before .before .rule-count .ensures) (c .before .before .before .count .given .1) in
     (c .check-rules .ensures .0 ∙ sym (count-goes s bytes _ _ count), c .check-rules .ensures .1 ∙ sym (count-begun s _ _ count _))
 
 returns-2 : tie.Need-returns-2
 returns-2 c =
-    let count = stopped _ _ _ (c .before .before .before .rule-count-at .ensures) (c .before .count2 .given .1) in
+    let count = stopped _ _ _ (c .before .before .before .rule-count .ensures) (c .before .count2 .given .1) in
     (sym (count-stops _ _ _ count), sym (none-begun _ _ _ count _))
 
 pub check-spec : {M : Type 1} → statement M

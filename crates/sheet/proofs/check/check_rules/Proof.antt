@@ -7,7 +7,7 @@ use borrow.Author.Needs.{needs}
 use lib.ListN.{length}
 use Rattle.definition.specs.Field.{got, andThen, sheetBits}
 use Rattle.definition.proofs.Bits.{sheet-bits, length-sheetBits}
-use Rattle.field.proofs.FieldAt.{known-bytes}
+use Rattle.field.proofs.Bytes.{known-bytes}
 use Rattle.sheet.proofs.Ends.{went, halted}
 use Rattle.sheet.proofs.RuleRows.{rules-short, rules-within}
 use Rattle.sheet.proofs.Whole.{rules-go, rules-stop}
