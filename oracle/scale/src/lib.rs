@@ -10,6 +10,7 @@ pub mod archive;
 pub mod arguments;
 pub mod bench_sheets;
 mod calendar;
+pub mod check_sheets;
 mod compare;
 mod damage;
 mod dates;

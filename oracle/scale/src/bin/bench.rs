@@ -1,7 +1,7 @@
-//! The bench: `bench` times the archive and the Rust on the same sheets, from sheet bytes to result bytes, and prints a table; and lines
-//! of text, for which the Rust has no writer, by the archive alone, in another. `bench --sheets` prints the sheets of the first, in hex
-//! and in the Rust's own words; `bench --profile SHEET RUNS` folds one of them, by its number from 1, that many times by the archive
-//! alone, for a profiler.
+//! The bench: `bench` times the archive and the Rust on the same sheets, from sheet bytes to result bytes, and prints a table; and, by the
+//! archive alone, lines of text, for which the Rust has no writer, and checks, which it does not make, in two more. `bench --sheets`
+//! prints the sheets of the first, in hex and in the Rust's own words; `bench --profile TABLE SHEET RUNS` runs one sheet of a table
+//! (`fold`, `line` or `check`), by its number from 1, that many times by the archive alone, for a profiler.
 
 use std::hint::black_box;
 use std::process::ExitCode;
@@ -11,6 +11,7 @@ use oracle::bits::to_hex;
 use oracle::fold::{normalize_sheet, read_expression};
 use scale::archive::{self, numbers};
 use scale::bench_sheets::{BenchSheet, bench_sheets};
+use scale::check_sheets::check_sheets;
 use scale::line_sheets::line_sheets;
 use scale::stack::stack_of;
 
@@ -22,10 +23,11 @@ fn main() -> ExitCode {
         [] => {
             print_times();
             print_line_times();
+            print_check_times();
         }
         ["--sheets"] => bench_sheets().iter().for_each(print_sheet),
-        ["--profile", sheet, runs] => match (sheet.parse(), runs.parse()) {
-            (Ok(sheet), Ok(runs)) => profile(sheet, runs),
+        ["--profile", table, sheet, runs] => match (table_of(table), sheet.parse(), runs.parse()) {
+            (Some((sheets, call)), Ok(sheet), Ok(runs)) => profile(&sheets, call, sheet, runs),
             _ => return usage(),
         },
         _ => return usage(),
@@ -35,12 +37,15 @@ fn main() -> ExitCode {
 }
 
 fn usage() -> ExitCode {
-    eprintln!("usage: bench [--sheets | --profile SHEET RUNS]");
+    eprintln!("usage: bench [--sheets | --profile fold|line|check SHEET RUNS]");
     ExitCode::from(2)
 }
 
 /// Ample for the longest result of the bench, of some 2 MB.
 const ROOM: usize = 4 << 20;
+
+/// 01's code 7: the output buffer is shorter than the result.
+const NO_ROOM: u64 = 7;
 
 fn print_sheet(sheet: &BenchSheet) {
     let expression =
@@ -52,13 +57,24 @@ fn print_sheet(sheet: &BenchSheet) {
     );
 }
 
-fn profile(sheet: usize, runs: usize) {
-    let sheets = bench_sheets();
+/// What is called with each sheet of a table.
+type Call = fn(&[u8], &mut [u8]);
+
+fn table_of(name: &str) -> Option<(Vec<BenchSheet>, Call)> {
+    match name {
+        "fold" => Some((bench_sheets(), |sheet, out| _ = black_box(fold(sheet, out)))),
+        "line" => Some((line_sheets(), |sheet, out| _ = black_box(line(sheet, out)))),
+        "check" => Some((check_sheets(), |sheet, _| _ = black_box(check(sheet)))),
+        _ => None,
+    }
+}
+
+fn profile(sheets: &[BenchSheet], call: Call, sheet: usize, runs: usize) {
     let sheet = &sheets[sheet - 1].bytes;
     let mut out = vec![0; ROOM];
 
     for _ in 0..runs {
-        black_box(fold(black_box(sheet), &mut out));
+        call(black_box(sheet), black_box(&mut out));
     }
 }
 
@@ -70,6 +86,12 @@ fn fold(sheet: &[u8], out: &mut [u8]) -> [u64; 6] {
 /// Code, bytes and place of a line.
 fn line(sheet: &[u8], out: &mut [u8]) -> [u64; 3] {
     numbers(archive::line, sheet, out)
+}
+
+/// The code of a sheet written back without room: of an accepted sheet 7, as soon as it is checked.
+fn check(sheet: &[u8]) -> u64 {
+    let [code, _, _] = numbers(archive::write_back, sheet, &mut []);
+    code
 }
 
 fn print_times() {
@@ -157,6 +179,38 @@ fn print_line_row(sheet: &BenchSheet) {
 
     println!(
         "| {} | {}, {length} | {:.1} | {:.1} | {:.1} | {:.1} | {stack} |",
+        sheet.name,
+        bytes.len(),
+        ours.best,
+        ours.median,
+        a_byte(ours.best),
+        a_byte(ours.median),
+    );
+}
+
+fn print_check_times() {
+    println!("\nChecks, by the archive alone: sheets written back without room.\n");
+    println!("| sheet | bytes | best | median | best, ns a byte | median |");
+    println!("|---|---|---|---|---|---|");
+
+    for sheet in check_sheets() {
+        print_check_row(&sheet);
+    }
+
+    println!("\nTimes in µs, those for a byte of the sheet in ns.");
+}
+
+fn print_check_row(sheet: &BenchSheet) {
+    let bytes = &sheet.bytes;
+    assert!(check(bytes) == NO_ROOM, "{} is accepted", sheet.name);
+
+    let [ours] = times([&mut || {
+        black_box(check(black_box(bytes)));
+    }]);
+    let a_byte = |time: f64| 1e3 * time / bytes.len() as f64;
+
+    println!(
+        "| {} | {} | {:.2} | {:.2} | {:.2} | {:.2} |",
         sheet.name,
         bytes.len(),
         ours.best,

@@ -1,0 +1,54 @@
+//! The sheets of the bench that are checked alone, the largest accepted one among them.
+
+use crate::bench_sheets::{BenchSheet, all_dimensions, landing_site, named, worked_day_p2};
+use crate::rule::{DATED, ITEM_LIMIT, Monthday, RULE_LIMIT, Rule, Span, Time, range, weekdays};
+
+pub fn check_sheets() -> Vec<BenchSheet> {
+    named([
+        ("two rules (P2)", worked_day_p2()),
+        ("20 rules of a landing site", landing_site()),
+        ("64 rules, in all dimensions", all_dimensions()),
+        ("64 rules, the largest sheet", largest_sheet()),
+    ])
+}
+
+/// As many rules, items and spans as there may be, each of the sort that takes most bits.
+fn largest_sheet() -> Vec<Rule> {
+    let reference = Monthday {
+        tag: DATED,
+        ..Monthday::default()
+    };
+    let event = Time {
+        tag: 1,
+        ..Time::default()
+    };
+    let span = Span {
+        start: event.clone(),
+        end: event,
+        repeats_flag: 1,
+        ..Span::default()
+    };
+    let rule = Rule {
+        years: vec![range(1900, 9999); ITEM_LIMIT],
+        monthdays: vec![reference; ITEM_LIMIT],
+        weeks: vec![range(1, 53); ITEM_LIMIT],
+        weekdays: vec![weekdays(0, 6); ITEM_LIMIT],
+        spans: vec![span; ITEM_LIMIT],
+        ..Rule::default()
+    };
+
+    vec![rule; RULE_LIMIT]
+}
+
+#[cfg(test)]
+mod tests {
+    use super::*;
+    use crate::sheet::write_sheet;
+
+    /// 70 bits of a rule's head, and 16 times 44 of a year, 34 of a monthday, 20 of a week, 33 of a weekday and 52 of a span; and the count
+    /// of rules.
+    #[test]
+    fn largest() {
+        assert_eq!(write_sheet(largest_sheet()).len(), (16 + 64 * 2998) / 8);
+    }
+}
