@@ -16,7 +16,7 @@ pub enum Taken {
     Refused(u8, usize),
 }
 
-pub fn wide(x: u8) -> u64
+fn wide(x: u8) -> u64
     ensures { λ r. ⌜ (r ≡ x) × (r < 256) ⌝ }
 {
     x as u64

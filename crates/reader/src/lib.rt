@@ -1,5 +1,6 @@
 // The reader of 01: "a view that holds the lent sheet and a bit position". The functions over it are thin, since a proof over a held
-// slice is a walk by hand; the work is done by `read_at` on a plain slice and numbers, by crate `field`.
+// slice is a walk by hand; the work is done by `read_at` on a plain slice and numbers, by crate `field`. The check of a sheet begins here:
+// `rule_count` opens the sheet and takes its first field.
 use field::Taken;
 use field::width;
 ghost use mathlib.Core.Path.{_≡_};
