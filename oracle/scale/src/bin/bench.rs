@@ -151,16 +151,22 @@ fn print_row(sheet: &BenchSheet) {
     );
 }
 
+/// A table of times of the archive alone.
+fn print_alone(about: &str, columns: &str, sheets: &[BenchSheet], print_row: fn(&BenchSheet)) {
+    println!("\n{about}\n");
+    println!("| {columns} | best | median | best, ns a byte | median | stack |");
+    println!("{}|", "|---".repeat(5 + columns.split(" | ").count()));
+    sheets.iter().for_each(print_row);
+}
+
 fn print_line_times() {
-    println!("\nLines, by the archive alone: the Rust has no writer of them.\n");
-    println!("| sheet | bytes in, out | best | median | best, ns a byte | median | stack |");
-    println!("|---|---|---|---|---|---|---|");
-
-    for sheet in line_sheets() {
-        print_line_row(&sheet);
-    }
-
-    println!("\nTimes in µs, those for a byte of the line in ns.");
+    let about = "Lines, by the archive alone, since the Rust has no writer of them; times in µs, those for a byte of the line in ns:";
+    print_alone(
+        about,
+        "sheet | bytes in, out",
+        &line_sheets(),
+        print_line_row,
+    );
 }
 
 fn print_line_row(sheet: &BenchSheet) {
@@ -189,15 +195,8 @@ fn print_line_row(sheet: &BenchSheet) {
 }
 
 fn print_check_times() {
-    println!("\nChecks, by the archive alone: sheets written back without room.\n");
-    println!("| sheet | bytes | best | median | best, ns a byte | median |");
-    println!("|---|---|---|---|---|---|");
-
-    for sheet in check_sheets() {
-        print_check_row(&sheet);
-    }
-
-    println!("\nTimes in µs, those for a byte of the sheet in ns.");
+    let about = "Checks, by the archive alone, of sheets that are written back without room; times in µs, those for a byte of the sheet in ns:";
+    print_alone(about, "sheet | bytes", &check_sheets(), print_check_row);
 }
 
 fn print_check_row(sheet: &BenchSheet) {
@@ -208,9 +207,12 @@ fn print_check_row(sheet: &BenchSheet) {
         black_box(check(black_box(bytes)));
     }]);
     let a_byte = |time: f64| 1e3 * time / bytes.len() as f64;
+    let stack = stack_of(|| {
+        check(bytes);
+    });
 
     println!(
-        "| {} | {} | {:.2} | {:.2} | {:.2} | {:.2} |",
+        "| {} | {} | {:.2} | {:.2} | {:.2} | {:.2} | {stack} |",
         sheet.name,
         bytes.len(),
         ours.best,
