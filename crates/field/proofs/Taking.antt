@@ -8,9 +8,7 @@ use native.Mathlib.Omega.{arith}
 use lib.Dec.{leb, ltb}
 use lib.ListN.{length}
 use borrow.Author.Tests.{le-leb, lt-leb, ltb-true}
-use Rattle.laws.proofs.Flags.{split-and, not-true}
-use Rattle.grid.specs.Cut.{holds}
-use Rattle.grid.proofs.Cut.{holds-in, in-holds}
+use Rattle.laws.proofs.Flags.{split-and}
 use Rattle.definition.specs.Field.{sheetBits, fieldAt, Read, got, refused, pastEnd, readField, field, plain}
 use Rattle.definition.proofs.Bits.{Bytes, sheet-bits, length-sheetBits}
 use Rattle.definition.proofs.Faithful.{clash, field-faithful}
@@ -71,16 +69,6 @@ module _ (c : ℕ) (ok : ℕ → Bool) (w : ℕ) (s : List ℕ) (p : ℕ) where
 
     pub still-refused : (d q : ℕ) → t ≡ Refused d q → asRead t ≡ (field c ok w) .read s p
     still-refused d q k = ap asRead k ∙ sym (tested-refused d q (stopped t d q e k))
-
--- ## Tests of a range
-pub in-range : (v lo up : ℕ) → lo ≤ v → v < up → holds v (lo, up) ≡ true
-in-range v lo up l k = in-holds v (lo, up) l k
-
-pub below-range : (v lo up : ℕ) → v < lo → holds v (lo, up) ≡ false
-below-range v lo up l = not-true (holds v (lo, up)) (λ h. let k = holds-in v (lo, up) h in omega arith)
-
-pub above-range : (v lo up : ℕ) → up ≤ v → holds v (lo, up) ≡ false
-above-range v lo up l = not-true (holds v (lo, up)) (λ h. let k = holds-in v (lo, up) h in omega arith)
 
 -- a value that was read fits its width
 pub value-below : (sheet : List ℕ) → Bytes sheet → (c : ℕ) (ok : ℕ → Bool) (w at v n : ℕ) → (field c ok w) .read (sheetBits sheet) at ≡ got v n → v < 2 ^ w

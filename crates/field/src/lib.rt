@@ -6,7 +6,8 @@ pub mod width;
 ghost use mathlib.Core.Path.{_≡_};
 ghost use Prim.Native.Nat.{_+_, _*_, _-_, _%_, _≤_, _<_, _^_};
 ghost use lib.ListN.{length};
-ghost use Rattle.definition.specs.Field.{Layout, sheetBits, fieldAt, plain, counted};
+ghost use Rattle.grid.specs.Cut.{holds};
+ghost use Rattle.definition.specs.Field.{Layout, sheetBits, fieldAt, plain, lawful, counted};
 ghost use Rattle.definition.specs.Sheet.{form1, limits1, year, month, week, weekday, step, choice, minutes};
 ghost use Rattle.field.specs.Answer.{asRead};
 
@@ -97,19 +98,31 @@ pub fn count_at(sheet: &[u8], at: usize) -> Taken
     }
 }
 
+// A field whose lawful values go from `lowest` up to `upper`, excluded.
+fn within_at(sheet: &[u8], at: usize, width: usize, lowest: u64, upper: u64) -> Taken
+    requires { ⌜ (width ≤ 32) × (at < 2 ^ 32) ⌝ }
+    ensures { λ r. ⌜ asRead r ≡ (lawful width (λ v. holds v (lowest, upper))) .read (sheetBits (now (sheet .entry))) at ⌝ }
+{
+    let taken = take_at(sheet, at, width);
+    let Taken::Value(value, next) = taken else {
+        return taken;
+    };
+    if value < lowest {
+        return Taken::Refused(2, at);
+    }
+    if value < upper {
+        Taken::Value(value, next)
+    } else {
+        Taken::Refused(2, at)
+    }
+}
+
 // A year, 1900 to 9999.
 pub fn year_at(sheet: &[u8], at: usize) -> Taken
     requires { ⌜ at < 2 ^ 32 ⌝ }
     ensures { λ r. ⌜ asRead r ≡ year .read (sheetBits (now (sheet .entry))) at ⌝ }
 {
-    let taken = take_at(sheet, at, width::YEAR);
-    let Taken::Value(value, next) = taken else {
-        return taken;
-    };
-    match value {
-        1900..=9999 => Taken::Value(value, next),
-        _ => Taken::Refused(2, at),
-    }
+    within_at(sheet, at, width::YEAR, 1900, 10000)
 }
 
 // A month, 1 to 12.
@@ -117,14 +130,7 @@ pub fn month_at(sheet: &[u8], at: usize) -> Taken
     requires { ⌜ at < 2 ^ 32 ⌝ }
     ensures { λ r. ⌜ asRead r ≡ month .read (sheetBits (now (sheet .entry))) at ⌝ }
 {
-    let taken = take_at(sheet, at, width::MONTH);
-    let Taken::Value(value, next) = taken else {
-        return taken;
-    };
-    match value {
-        1..=12 => Taken::Value(value, next),
-        _ => Taken::Refused(2, at),
-    }
+    within_at(sheet, at, width::MONTH, 1, 13)
 }
 
 // A week, 1 to 53.
@@ -132,14 +138,7 @@ pub fn week_at(sheet: &[u8], at: usize) -> Taken
     requires { ⌜ at < 2 ^ 32 ⌝ }
     ensures { λ r. ⌜ asRead r ≡ week .read (sheetBits (now (sheet .entry))) at ⌝ }
 {
-    let taken = take_at(sheet, at, width::WEEK);
-    let Taken::Value(value, next) = taken else {
-        return taken;
-    };
-    match value {
-        1..=53 => Taken::Value(value, next),
-        _ => Taken::Refused(2, at),
-    }
+    within_at(sheet, at, width::WEEK, 1, 54)
 }
 
 // A weekday, 0 Monday to 6 Sunday.
@@ -147,14 +146,7 @@ pub fn weekday_at(sheet: &[u8], at: usize) -> Taken
     requires { ⌜ at < 2 ^ 32 ⌝ }
     ensures { λ r. ⌜ asRead r ≡ weekday .read (sheetBits (now (sheet .entry))) at ⌝ }
 {
-    let taken = take_at(sheet, at, width::WEEKDAY);
-    let Taken::Value(value, next) = taken else {
-        return taken;
-    };
-    match value {
-        0..=6 => Taken::Value(value, next),
-        _ => Taken::Refused(2, at),
-    }
+    within_at(sheet, at, width::WEEKDAY, 0, 7)
 }
 
 // A fixed time's minutes, 0 to 2880.

@@ -77,7 +77,8 @@ pub fn first(sheet: &[u8], width: usize) -> Reading
     take(open(sheet), width)
 }
 
-// How many rules a sheet has, its first field: at most 64, else refused by 4.
+// How many rules a sheet has, its first field: at most 64, else refused by 4. That field is never too large to be said, so that the first way
+// out is not taken.
 pub fn rule_count(sheet: &[u8]) -> Taken
     ensures { λ r. ⌜ asRead r ≡ (counted (form1 .ruleCount) (limits1 .rules)) .read (sheetBits (now (sheet .entry))) 0 ⌝ }
 {
