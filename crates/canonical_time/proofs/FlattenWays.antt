@@ -1,5 +1,4 @@
--- The ways out of the functions that lay a list's spans with their states.
--- Assumes nothing.
+-- One lemma for each return of the functions that lay a list's spans with their states.
 use mathlib.Core.Path.{_≡_, refl, sym, ap, ap₂, _∙_}
 use mathlib.Core.List.{List, [], _++_}
 use Prim.Native.Nat.{ℕ, zero, suc, _+_, _*_, _-_, _≤_, _<_}
@@ -30,15 +29,19 @@ module _ (spans : List ℕ) (S k b e : ℕ) (x p : List ℕ) where
   push-none h = (sym (ap (λ n. sets x k (sameStates S n)) (left-none b e h)), sym (ap (λ n. sets p k (part spans b n)) (left-none b e h)))
 
 -- a list's spans laid from k on, with their states, and the place after them
-abbrev pub Flat : List ℕ → List ℕ → List ℕ → List ℕ → ℕ → ℕ → ℕ → List ℕ → List ℕ → ℕ → List ℕ → List ℕ → Type 0
+abbrev Flat : List ℕ → List ℕ → List ℕ → List ℕ → ℕ → ℕ → ℕ → List ℕ → List ℕ → ℕ → List ℕ → List ℕ → Type 0
 Flat states counts spans list i n k x p r y q =
     (r ≡ k + length (statesFrom states counts list i (n - i))) × (y ≡ sets x k (statesFrom states counts list i (n - i)))
     × (q ≡ sets p k (spansFrom counts spans list i (n - i))) × (r ≤ k + 16 * (n - i))
 
+-- one rule's
+abbrev pub Pushed : List ℕ → List ℕ → ℕ → ℕ → ℕ → List ℕ → List ℕ → ℕ → List ℕ → List ℕ → Type 0
+Pushed states spans rule c k x p next x₁ p₁ =
+    (next ≡ k + (rule * 16 + c - rule * 16)) × (x₁ ≡ sets x k (sameStates (getD states rule 0) (rule * 16 + c - rule * 16)))
+    × (p₁ ≡ sets p k (part spans (rule * 16) (rule * 16 + c - rule * 16)))
+
 module _ (states counts spans list : List ℕ) (i n k : ℕ) (x p : List ℕ) where
-  pub flat-more : i < n → (rule c : ℕ) → rule ≡ getD list i 0 → c ≡ getD counts rule 0 → c ≤ 16 → (next : ℕ) (x₁ p₁ : List ℕ)
-      → (next ≡ k + (rule * 16 + c - rule * 16)) × (x₁ ≡ sets x k (sameStates (getD states rule 0) (rule * 16 + c - rule * 16)))
-      × (p₁ ≡ sets p k (part spans (rule * 16) (rule * 16 + c - rule * 16)))
+  flat-more : i < n → (rule c : ℕ) → rule ≡ getD list i 0 → c ≡ getD counts rule 0 → c ≤ 16 → (next : ℕ) (x₁ p₁ : List ℕ) → Pushed states spans rule c k x p next x₁ p₁
       → (r : ℕ) (y q : List ℕ) → Flat states counts spans list (i + 1) n next x₁ p₁ r y q → Flat states counts spans list i n k x p r y q
   unfolding statesFrom spansFrom
   flat-more h rule c e f few next x₁ p₁ l r y q m =
@@ -60,7 +63,7 @@ module _ (states counts spans list : List ℕ) (i n k : ℕ) (x p : List ℕ) wh
         omega (arith, m .3, l .0, z),
       )
 
-  pub flat-none : n ≤ i → Flat states counts spans list i n k x p k x p
+  flat-none : n ≤ i → Flat states counts spans list i n k x p k x p
   unfolding statesFrom spansFrom
   flat-none h =
       let a : statesFrom states counts list i (n - i) ≡ [] = ap (statesFrom states counts list i) (left-none i n h) in
@@ -69,6 +72,44 @@ module _ (states counts spans list : List ℕ) (i n k : ℕ) (x p : List ℕ) wh
       (z ∙ sym (ap (λ v. k + length v) a), sym (ap (sets x k) a), sym (ap (sets p k) b), omega arith)
 
 -- a rule that the list names stands in the tables
-pub named-rule : (states counts spans list : List ℕ) → Tables states counts spans list → (i n rule : ℕ) → n ≤ length list → i < n → rule ≡ getD list i 0
+pub named-rule : (states counts spans list : List ℕ) → Tables states counts spans list → (i rule : ℕ) → i < length list → rule ≡ getD list i 0
     → (rule < length states) × (rule < length counts) × (rule * 16 + 16 ≤ length spans)
-named-rule states counts spans list t i n rule l h e = let k = t .named i (omega arith) in (omega arith, omega arith, omega arith)
+named-rule states counts spans list t i rule h e = let k = t .named i h in (omega arith, omega arith, omega arith)
+
+-- ## Rule after rule of the list
+-- the whole list's spans laid from the first place on
+abbrev pub Flattened : List ℕ → List ℕ → List ℕ → List ℕ → ℕ → List ℕ → List ℕ → ℕ → List ℕ → List ℕ → Type 0
+Flattened states counts spans list n x p r y q =
+    (r ≡ length (statesFrom states counts list 0 n)) × (y ≡ sets x 0 (statesFrom states counts list 0 n)) × (q ≡ sets p 0 (spansFrom counts spans list 0 n)) × (r ≤ 16 * n)
+
+-- up to a rule: there is room for it and the later ones, and whatever lays them lays the whole
+pub record FlatOn (states counts spans list : List ℕ) (n : ℕ) (x₀ p₀ : List ℕ) (next place : ℕ) (x p : List ℕ) : Type 0 where
+  pub room : (place + 16 * (n - next) ≤ length x) × (place + 16 * (n - next) ≤ length p)
+  pub lengths : (length x ≡ length x₀) × (length p ≡ length p₀)
+  pub finishes : (r : ℕ) (y q : List ℕ) → Flat states counts spans list next n place x p r y q → Flattened states counts spans list n x₀ p₀ r y q
+
+pub flat-start : (states counts spans list : List ℕ) (n : ℕ) (x p : List ℕ) → (16 * n ≤ length x) × (16 * n ≤ length p) → FlatOn states counts spans list n x p 0 0 x p
+flat-start states counts spans list n x p h =
+    let z : n - 0 ≡ n = omega arith in
+    record {
+      room = (omega (arith, h), omega (arith, h));
+      lengths = (refl, refl);
+      finishes = λ r y q m. (
+        omega (arith, m .0, ap (λ v. length (statesFrom states counts list 0 v)) z),
+        m .1 ∙ ap (λ v. sets x 0 (statesFrom states counts list 0 v)) z,
+        m .2 ∙ ap (λ v. sets p 0 (spansFrom counts spans list 0 v)) z,
+        omega (arith, m .3),
+      );
+    }
+
+module _ (states counts spans list : List ℕ) (n : ℕ) (x₀ p₀ : List ℕ) (i place : ℕ) (x p : List ℕ) (on : FlatOn states counts spans list n x₀ p₀ i place x p) where
+  pub flat-on : i < n → (rule c : ℕ) → rule ≡ getD list i 0 → c ≡ getD counts rule 0 → c ≤ 16 → (next : ℕ) (x₁ p₁ : List ℕ) → Pushed states spans rule c place x p next x₁ p₁
+      → (length x₁ ≡ length x) × (length p₁ ≡ length p) → FlatOn states counts spans list n x₀ p₀ (i + 1) next x₁ p₁
+  flat-on h rule c e f few next x₁ p₁ l same = record {
+    room = (omega (arith, on .room, l .0, same .0), omega (arith, on .room, l .0, same .1));
+    lengths = (same .0 ∙ on .lengths .0, same .1 ∙ on .lengths .1);
+    finishes = λ r y q m. on .finishes r y q (flat-more states counts spans list i n place x p h rule c e f few next x₁ p₁ l r y q m);
+  }
+
+  pub flat-done : n ≤ i → Flattened states counts spans list n x₀ p₀ place x p
+  flat-done h = on .finishes place x p (flat-none states counts spans list i n place x p h)

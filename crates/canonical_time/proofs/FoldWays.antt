@@ -1,26 +1,27 @@
--- The way out of the whole: the words that are laid are the flat form of the list's day.
--- Assumes nothing.
-use mathlib.Core.Path.{_≡_, refl, sym, ap, ap₂, _∙_}
-use mathlib.Core.List.{List, [], _∷_, _++_}
+-- One lemma for each return of the whole: the words that are laid are the flat form of the list's day.
+use mathlib.Core.Path.{_≡_, refl, sym, ap, ap₂, _∙_, subst}
+use mathlib.Core.List.{List, [], _∷_, _++_, map}
 use mathlib.Core.Bool.{Bool, true, false}
-use Prim.Native.Nat.{ℕ, zero, suc, _+_, _*_, _-_, _/_, _%_, _≤_, _<_}
+use Prim.Native.Nat.{ℕ, zero, suc, _+_, _*_, _-_, _≤_, _<_}
 use native.Mathlib.Omega.{arith}
-use lib.Dec.{eqb, ltb}
+use lib.Dec.{eqb}
 use lib.ListN.{length, getD, set, length-append, length-map, length-set}
 use lib.Seq.{sets, length-sets, getD-set-same}
 use Rattle.laws.specs.Lists.{All}
 use Rattle.laws.proofs.Stores.{sets-append}
-use Rattle.grid.specs.Cut.{cutAt}
 use Rattle.definition.specs.Day.{simple, day}
 use Rattle.span_number.specs.Number.{spanAt}
 use Rattle.words.specs.Words.{part}
-use Rattle.day_paint.specs.Stroke.{strokesOfRun, strokesFrom, cutsOf, cellsOf}
+use Rattle.day_paint.specs.Stroke.{strokesOfRun, strokesFrom, shown}
+use Rattle.day_paint.specs.Piece.{Piece, pieceStart, pieceState, dayPieces}
+use Rattle.day_paint.proofs.MeanPiece.{Tiles, pieces-tile}
 use Rattle.day_row.specs.Row.{classesWords}
 use Rattle.canonical_time.specs.Flatten.{sameStates, statesFrom, spansFrom}
 use Rattle.day_group.specs.Groups.{groupWords}
 use Rattle.day_words.specs.Day.{flat, listRules}
 use Rattle.words.proofs.Sets.{part-sets, length-part, getD-sets}
-use Rattle.canonical_time.proofs.FlattenWays.{length-same}
+use Rattle.canonical_time.proofs.FlattenWays.{length-same, Flattened}
+use Rattle.canonical_time.proofs.MeanPieces.{tiles-small}
 use Rattle.canonical_time.proofs.MeanDay.{day-words}
 
 same-lengths : (states counts spans list : List ℕ) (i r : ℕ) → length (spansFrom counts spans list i r) ≡ length (statesFrom states counts list i r)
@@ -54,21 +55,6 @@ strokes-few xs ps i (suc r) = go (simple (spanAt (getD ps i 0))) refl (strokes-f
     go false e ih = rw (e, strokesFrom) (omega (arith, run-few xs ps (getD xs i 0) (i + 1) r))
 
 -- ## Cuts are small
-cut-small : (x : ℕ) (cs : List ℕ) → x < 2048 → All (λ c. c < 2048) cs → All (λ c. c < 2048) (cutAt x cs)
-unfolding cutAt
-cut-small x [] h a = (h, tt)
-cut-small x (y ∷ cs) h a = go (ltb x y) refl (eqb x y) refl (cut-small x cs h (a .1))
-  where
-    go : (s : Bool) → ltb x y ≡ s → (t : Bool) → eqb x y ≡ t → All (λ c. c < 2048) (cutAt x cs) → All (λ c. c < 2048) (cutAt x (y ∷ cs))
-    go true e t f ih = rw (e, cutAt) (h, a)
-    go false e true f ih = rw (e, f, cutAt) a
-    go false e false f ih = rw (e, f, cutAt) (a .0, ih)
-
-cuts-small : (ws : List ℕ) → All (λ c. c < 2048) (cutsOf ws)
-unfolding cutsOf
-cuts-small [] = (omega arith, (omega arith, tt))
-cuts-small (w ∷ ws) = cut-small (w / 2048 % 2048) (cutAt (w % 2048) (cutsOf ws)) (omega arith) (cut-small (w % 2048) (cutsOf ws) (omega arith) (cuts-small ws))
-
 laid-small : (s : List ℕ) (a : ℕ) (t : List ℕ) → All (λ c. c < 2048) t → a + length t ≤ length s → (k : ℕ) → k < length t → getD (sets s a t) (a + k) 0 < 2048
 laid-small s a [] h l k m = absurd (omega arith)
 laid-small s a (x ∷ t) h l zero m =
@@ -77,62 +63,72 @@ laid-small s a (x ∷ t) h l zero m =
 laid-small s a (x ∷ t) h l (suc k) m =
     let z : a + suc k ≡ suc a + k = omega arith in rw z (laid-small (set s a x) (suc a) t (h .1) (omega (arith, length-set s a x)) k (omega arith))
 
-pub cuts-bounded : (before cuts strokes : List ℕ) (m : ℕ) → cuts ≡ sets before 0 (cutsOf strokes) → m ≡ length (cutsOf strokes) → 1 ≤ m → m ≤ length before
-    → (k : ℕ) → k ≤ m - 1 → getD cuts k 0 < 524288
-cuts-bounded before cuts strokes m e f one room k l =
-    let b = laid-small before 0 (cutsOf strokes) (cuts-small strokes) (omega arith) k (omega arith) in
-    let z : 0 + k ≡ k = omega arith in
-    let g : getD cuts k 0 ≡ getD (sets before 0 (cutsOf strokes)) (0 + k) 0 = ap₂ (λ v i. getD v i 0) e (sym z) in omega arith
+pub cuts-bounded : (before cuts q : List ℕ) (k m : ℕ) → cuts ≡ sets before 0 (map pieceStart (dayPieces q k) ++ 1440 ∷ []) → m ≡ length (dayPieces q k) → m < length before
+    → (j : ℕ) → j ≤ m → getD cuts j 0 < 524288
+cuts-bounded before cuts q k m e f room j l =
+    let ws : List ℕ = map pieceStart (dayPieces q k) ++ 1440 ∷ [] in
+    let size : length ws ≡ suc m = length-append (map pieceStart (dayPieces q k)) (1440 ∷ []) ∙ omega (arith, length-map (dayPieces q k) pieceStart) in
+    let small = tiles-small (shown 65536 (part q 0 k)) 0 1440 (dayPieces q k) (omega arith) (pieces-tile q k 0 1440 (omega arith)) in
+    let b = laid-small before 0 ws small (omega (arith, size)) j (omega (arith, size)) in
+    let z : 0 + j ≡ j = omega arith in
+    let g : getD cuts j 0 ≡ getD (sets before 0 ws) (0 + j) 0 = ap₂ (λ v i. getD v i 0) e (sym z) in omega arith
+
+-- where all spans are strokes there is no group
+no-groups : (xs ps : List ℕ) (i r : ℕ) → length (strokesFrom xs ps i r) ≡ r → groupWords xs ps i r ≡ []
+unfolding strokesFrom groupWords
+no-groups xs ps i zero h = refl
+no-groups xs ps i (suc r) h = go (simple (spanAt (getD ps i 0))) refl (no-groups xs ps (i + 1) r)
+  where
+    go : (b : Bool) → simple (spanAt (getD ps i 0)) ≡ b → (length (strokesFrom xs ps (i + 1) r) ≡ r → groupWords xs ps (i + 1) r ≡ []) → groupWords xs ps i (suc r) ≡ []
+    go true e ih = rw (e, groupWords) (ih (omega (arith, rw (e, strokesFrom) at h)))
+    go false e ih = absurd (omega (arith, rw (e, strokesFrom) at h, run-few xs ps (getD xs i 0) (i + 1) r))
 
 -- ## The whole
-module _ (states counts spans list xs₀ xs ps₀ ps q₀ q cs₀ cs vs₀ vs out₀ out₁ out₂ : List ℕ) (L N k m at r : ℕ)
-    (flattened′ : (N ≡ 0 + length (statesFrom states counts list 0 (L - 0))) × (xs ≡ sets xs₀ 0 (statesFrom states counts list 0 (L - 0)))
-    × (ps ≡ sets ps₀ 0 (spansFrom counts spans list 0 (L - 0))) × (N ≤ 0 + 16 * (L - 0)))
-    (stroked : (q ≡ sets q₀ 0 (strokesFrom xs ps 0 (N - 0))) × (k ≡ 0 + length (strokesFrom xs ps 0 (N - 0))))
-    (cut : (cs ≡ sets cs₀ 0 (cutsOf (part q 0 k))) × (m ≡ length (cutsOf (part q 0 k))) × (2 ≤ m) × (m ≤ 2 * k + 2))
-    (filled : vs ≡ sets vs₀ 0 (cellsOf (part q 0 k) (part cs 0 (m - 1))))
-    (swept : (out₁ ≡ sets out₀ 0 (classesWords cs (m - 1) 1 vs 5)) × (at ≡ 0 + length (classesWords cs (m - 1) 1 vs 5)))
-    (grouped′ : (out₂ ≡ sets out₁ at (groupWords xs ps 0 (N - 0))) × (r ≡ at + length (groupWords xs ps 0 (N - 0))))
-    (room-xs : 16 * L ≤ length xs₀) (room-ps : 16 * L ≤ length ps₀) (room-q : 32 * L + 2 ≤ length q₀) (room-cs : 32 * L + 2 ≤ length cs₀) (room-vs : 32 * L + 2 ≤ length vs₀) where
-  pub fold-laid : (out₂ ≡ sets out₀ 0 (flat (day (listRules states counts spans list 0 L)))) × (r ≡ length (flat (day (listRules states counts spans list 0 L))))
-  fold-laid =
-      let zL : L - 0 ≡ L = omega arith in
-      let zN : N - 0 ≡ N = omega arith in
-      let X : List ℕ = statesFrom states counts list 0 (L - 0) in
-      let P : List ℕ = spansFrom counts spans list 0 (L - 0) in
-      let sizes : length P ≡ length X = same-lengths states counts spans list 0 (L - 0) in
-      let Q : List ℕ = strokesFrom xs ps 0 N in
-      let fewQ : length Q ≤ N = strokes-few xs ps 0 N in
-      let nX : N ≡ length X = omega (arith, flattened′ .0) in
-      let a : part xs 0 N ≡ statesFrom states counts list 0 L =
-      ap₂ (λ v w. part v 0 w) (flattened′ .1) nX ∙ part-sets xs₀ 0 X (omega (arith, flattened′ .0, flattened′ .3)) ∙ ap (statesFrom states counts list 0) zL in
-      let nP : N ≡ length P = omega (arith, flattened′ .0) in
-      let b : part ps 0 N ≡ spansFrom counts spans list 0 L =
-      ap₂ (λ v w. part v 0 w) (flattened′ .2) nP ∙ part-sets ps₀ 0 P (omega (arith, flattened′ .3)) ∙ ap (spansFrom counts spans list 0) zL in
-      let kQ : k ≡ length Q = omega (arith, stroked .1, ap (λ v. length (strokesFrom xs ps 0 v)) zN) in
-      let q-read : part q 0 k ≡ Q =
-      ap₂ (λ v w. part v 0 w) (stroked .0 ∙ ap (λ v. sets q₀ 0 (strokesFrom xs ps 0 v)) zN) kQ ∙ part-sets q₀ 0 Q (omega (arith, flattened′ .3)) in
-      let C : List ℕ = cutsOf Q in
-      let mC : m ≡ length C = cut .1 ∙ ap (λ v. length (cutsOf v)) q-read in
-      let csC : cs ≡ sets cs₀ 0 C = cut .0 ∙ ap (λ v. sets cs₀ 0 (cutsOf v)) q-read in
-      let sm : suc (m - 1) ≡ m = omega (arith, cut .2) in
-      let c-read : part cs 0 (suc (m - 1)) ≡ C = ap₂ (λ v w. part v 0 w) csC (sm ∙ mC) ∙ part-sets cs₀ 0 C (omega (arith, cut .3, flattened′ .3)) in
-      let Vs : List ℕ = cellsOf Q (part cs 0 (m - 1)) in
-      let nV : m - 1 ≡ length Vs = sym (cells-length Q (part cs 0 (m - 1)) ∙ length-part cs 0 (m - 1)) in
-      let vsV : vs ≡ sets vs₀ 0 Vs = filled ∙ ap (λ v. sets vs₀ 0 (cellsOf v (part cs 0 (m - 1)))) q-read in
-      let v-read : part vs 0 (m - 1) ≡ Vs = ap₂ (λ v w. part v 0 w) vsV nV ∙ part-sets vs₀ 0 Vs (omega (arith, cut .3, flattened′ .3)) in
-      let room : m - 1 ≤ length vs = omega (arith, ap length vsV, length-sets vs₀ 0 Vs, cut .3, flattened′ .3) in
-      let A : List ℕ = classesWords cs (m - 1) 1 vs 5 in
-      let B : List ℕ = groupWords xs ps 0 N in
-      let all : A ++ B ≡ flat (day (listRules states counts spans list 0 L)) = day-words states counts spans list 0 L xs ps cs vs N (m - 1) a b c-read room v-read in
-      let place : at ≡ 0 + length A = swept .1 in (
-        grouped′ .0 ∙ ap₂ (λ v w. sets v w (groupWords xs ps 0 (N - 0))) (swept .0) place ∙ ap (λ w. sets (sets out₀ 0 A) (0 + length A) (groupWords xs ps 0 w)) zN
-            ∙ sym (sets-append out₀ 0 A B) ∙ ap (sets out₀ 0) all,
-        omega (arith, grouped′ .1, place, ap (λ w. length (groupWords xs ps 0 w)) zN, length-append A B, ap length all),
-      )
-    where
-      cells-length : (Q cs : List ℕ) → length (cellsOf Q cs) ≡ length cs
-      cells-length Q cs = unfold cellsOf in length-map cs _
+module _ (states counts spans list xs₀ xs ps₀ ps q₀ q cs₀ cs vs₀ vs out₀ out₁ : List ℕ) (L N k m at : ℕ)
+    (flat-list : Flattened states counts spans list L xs₀ ps₀ N xs ps)
+    (stroked : (q ≡ sets q₀ 0 (strokesFrom xs ps 0 N)) × (k ≡ length (strokesFrom xs ps 0 N)))
+    (pieced : (cs ≡ sets cs₀ 0 (map pieceStart (dayPieces q k) ++ 1440 ∷ [])) × (vs ≡ sets vs₀ 0 (map pieceState (dayPieces q k))) × (m ≡ length (dayPieces q k)) × (m ≤ 2 * k + 1))
+    (swept : (out₁ ≡ sets out₀ 0 (classesWords cs m 1 vs 5)) × (at ≡ length (classesWords cs m 1 vs 5)))
+    (room : (16 * L ≤ length xs₀) × (16 * L ≤ length ps₀) × (32 * L + 2 ≤ length q₀) × (32 * L + 2 ≤ length cs₀) × (32 * L + 2 ≤ length vs₀)) where
+  abbrev D : List ℕ
+  D = flat (day (listRules states counts spans list 0 L))
 
-pub few-strokes : (xs ps : List ℕ) (k r : ℕ) → k ≡ 0 + length (strokesFrom xs ps 0 r) → k ≤ r
+  words : classesWords cs m 1 vs 5 ++ groupWords xs ps 0 N ≡ D
+  words =
+      let few : k ≤ N = omega (arith, stroked .1, strokes-few xs ps 0 N) in
+      let X : List ℕ = statesFrom states counts list 0 L in
+      let Y : List ℕ = spansFrom counts spans list 0 L in
+      let a : part xs 0 N ≡ X = ap₂ (λ v w. part v 0 w) (flat-list .1) (flat-list .0) ∙ part-sets xs₀ 0 X (omega (arith, flat-list .0, flat-list .3, room .0)) in
+      let nY : N ≡ length Y = omega (arith, flat-list .0, same-lengths states counts spans list 0 L) in
+      let b : part ps 0 N ≡ Y = ap₂ (λ v w. part v 0 w) (flat-list .2) nY ∙ part-sets ps₀ 0 Y (omega (arith, nY, flat-list .3, room .1)) in
+      let Q : List ℕ = strokesFrom xs ps 0 N in
+      let q-read : part q 0 k ≡ Q = ap₂ (λ v w. part v 0 w) (stroked .0) (stroked .1) ∙ part-sets q₀ 0 Q (omega (arith, stroked .1, few, flat-list .3, room .2)) in
+      let P : List Piece = dayPieces q k in
+      let tiles : Tiles (shown 65536 Q) 0 1440 P = subst (λ v. Tiles (shown 65536 v) 0 1440 P) q-read (pieces-tile q k 0 1440 (omega arith)) in
+      let W : List ℕ = map pieceStart P ++ 1440 ∷ [] in
+      let mW : suc m ≡ length W = sym (length-append (map pieceStart P) (1440 ∷ []) ∙ omega (arith, length-map P pieceStart, pieced .2)) in
+      let c-read : part cs 0 (suc m) ≡ W = ap₂ (λ v w. part v 0 w) (pieced .0) mW ∙ part-sets cs₀ 0 W (omega (arith, mW, few, pieced .3, flat-list .3, room .3)) in
+      let S : List ℕ = map pieceState P in
+      let mS : m ≡ length S = omega (arith, length-map P pieceState, pieced .2) in
+      let v-read : part vs 0 m ≡ S = ap₂ (λ v w. part v 0 w) (pieced .1) mS ∙ part-sets vs₀ 0 S (omega (arith, mS, few, pieced .3, flat-list .3, room .4)) in
+      let long : m ≤ length vs = omega (arith, ap length (pieced .1), length-sets vs₀ 0 S, few, pieced .3, flat-list .3, room .4) in
+      day-words states counts spans list 0 L xs ps cs vs N m P a b tiles (pieced .2) long c-read v-read
+
+  laid : (B : List ℕ) → groupWords xs ps 0 N ≡ B → (out₂ : List ℕ) (r : ℕ) → out₂ ≡ sets out₁ at B → r ≡ at + length B → (out₂ ≡ sets out₀ 0 D) × (r ≡ length D)
+  laid B e out₂ r l c =
+      let A : List ℕ = classesWords cs m 1 vs 5 in
+      let all : A ++ B ≡ D = ap (A ++_) (sym e) ∙ words in
+      let z : at ≡ 0 + length A = omega (arith, swept .1) in (
+        l ∙ ap₂ (λ v w. sets v w B) (swept .0) z ∙ sym (sets-append out₀ 0 A B) ∙ ap (sets out₀ 0) all,
+        omega (arith, c, swept .1, length-append A B, ap length all),
+      )
+
+  pub painted-laid : k ≡ N → (out₁ ≡ sets out₀ 0 (flat (day (listRules states counts spans list 0 L)))) × (at ≡ length (flat (day (listRules states counts spans list 0 L))))
+  painted-laid e = laid [] (no-groups xs ps 0 N (sym (stroked .1) ∙ e)) out₁ at refl (omega arith)
+
+  pub grouped-laid : (out₂ : List ℕ) (r : ℕ) → (out₂ ≡ sets out₁ at (groupWords xs ps 0 (N - 0))) × (r ≡ at + length (groupWords xs ps 0 (N - 0)))
+      → (out₂ ≡ sets out₀ 0 (flat (day (listRules states counts spans list 0 L)))) × (r ≡ length (flat (day (listRules states counts spans list 0 L))))
+  grouped-laid out₂ r g = let z : N ≡ N - 0 = omega arith in laid (groupWords xs ps 0 (N - 0)) (ap (groupWords xs ps 0) z) out₂ r (g .0) (g .1)
+
+pub few-strokes : (xs ps : List ℕ) (k r : ℕ) → k ≡ length (strokesFrom xs ps 0 r) → k ≤ r
 few-strokes xs ps k r e = omega (arith, strokes-few xs ps 0 r)

@@ -1,4 +1,5 @@
 pub mod FlattenWays
 pub mod MeanList
+pub mod MeanPieces
 pub mod MeanDay
 pub mod FoldWays

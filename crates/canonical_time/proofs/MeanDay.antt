@@ -1,31 +1,30 @@
 -- The words of a list, put together: the flat form of its day. Rests on the compression law in one dimension.
--- Assumes nothing.
 use mathlib.Core.Path.{_≡_, refl, sym, ap, ap₂, _∙_, subst}
 use mathlib.Core.List.{List, [], _∷_, _++_, map, append-assoc, map-append}
 use mathlib.Core.Bool.{Bool, true, false}
 use Prim.Native.Nat.{ℕ, zero, suc, _+_, _-_, _≤_, _<_}
 use native.Mathlib.Omega.{arith}
 use lib.Dec.{eqb}
-use lib.ListN.{getD, length}
+use lib.ListN.{getD, length, length-map}
 use borrow.Author.Tests.{eqb-true, eqb-false}
-use Rattle.laws.specs.Lists.{All}
 use Rattle.grid.specs.Group.{Map, Group, sweep, groups}
-use Rattle.grid.specs.Cut.{Range, sameRange, between, intervals, boxes, starts, asJoined}
+use Rattle.grid.specs.Cut.{Range, sameRange, between, starts, asJoined}
 use Rattle.grid.proofs.Interval.{Rising}
-use Rattle.grid.proofs.Cut.{Inside, intervals-rise}
 use Rattle.definition.specs.Rule.{State, closed, sameState}
-use Rattle.definition.specs.Day.{Stated, Day, flattened, minutesOf, minuteBounds, painting, grouped, stateClass, stateClasses, painted, asEntry, sortedEntry, entryOf, day}
-use Rattle.definition.specs.OverBoxes.{paintedOverIntervals, dayOverIntervals}
-use Rattle.definition.proofs.DayBox.{Simple, painting-simple, simple-inside, day-intervals}
+use Rattle.definition.specs.Day.{Stated, Day, flattened, painting, grouped, stateClass, stateClasses, painted, asEntry, paintedEntries, sortedEntry, dayOf, entryOf, day}
 use Rattle.span_number.specs.Number.{stateNumber, stateAt, spanNumber}
 use Rattle.words.specs.Words.{part, entryWords}
-use Rattle.day_paint.specs.Stroke.{strokesFrom, shown, cutsOf, cellsOf}
+use Rattle.day_paint.specs.Stroke.{strokesFrom, shown}
+use Rattle.day_paint.specs.Piece.{Piece, pieceStart, pieceState}
 use Rattle.day_row.specs.Row.{isOfClass, clearFrom, classLeft, classesWords}
 use Rattle.canonical_time.specs.Flatten.{statesFrom, spansFrom}
 use Rattle.day_group.specs.Groups.{groupWords}
 use Rattle.day_words.specs.Day.{flat, listRules, pairs}
+use Rattle.words.proofs.Sets.{part-front}
 use Rattle.canonical_time.proofs.MeanList.{pairs-list}
-use Rattle.day_paint.proofs.MeanStroke.{strokeAt, strokes-paint, cuts-mean, shown-mean}
+use Rattle.canonical_time.proofs.MeanPieces.{pieceRange, tiles-between, tiles-rise, tiles-shown, groups-pieces}
+use Rattle.day_paint.proofs.MeanStroke.{strokeAt, strokes-paint, shown-mean}
+use Rattle.day_paint.proofs.MeanPiece.{Tiles}
 use Rattle.day_group.proofs.MeanGroup.{groups-mean}
 use Rattle.day_row.proofs.ClearedCells.{length-clear}
 use Rattle.day_row.proofs.MeanClass.{intervalsAt, Agree, class-mean}
@@ -87,15 +86,11 @@ part-at vs cs h j (suc r) e k l m = go (eqb k j) refl (part-at vs cs h (j + 1) r
     go true q ih = let z : getD vs j 0 ≡ h (getD cs j 0) = cc in ap (λ i. getD vs i 0) (eqb-true k j q) ∙ z ∙ ap (λ i. h (getD cs i 0)) (sym (eqb-true k j q))
     go false q ih = ih (omega (arith, eqb-false k j q)) (omega arith)
 
-simple-ranges : (xs : List Stated) → Simple xs → All (Inside minuteBounds) (map (λ x. minutesOf (x .1)) xs)
-simple-ranges [] h = tt
-simple-ranges (x ∷ xs) h = (let k = simple-inside (x .1) (h .0) in omega arith, simple-ranges xs (h .1))
-
 -- THE WORDS OF A LIST ARE THE FLAT FORM OF ITS DAY
-module _ (states counts spans list : List ℕ) (i r : ℕ) (xs ps cs vs : List ℕ) (N n : ℕ)
+module _ (states counts spans list : List ℕ) (i r : ℕ) (xs ps cs vs : List ℕ) (N n : ℕ) (P : List Piece)
     (flat-states : part xs 0 N ≡ statesFrom states counts list i r) (flat-spans : part ps 0 N ≡ spansFrom counts spans list i r)
-    (laid-cuts : part cs 0 (suc n) ≡ cutsOf (strokesFrom xs ps 0 N)) (size : n ≤ length vs)
-    (laid-cells : part vs 0 n ≡ cellsOf (strokesFrom xs ps 0 N) (part cs 0 n)) where
+    (tiles : Tiles (shown 65536 (strokesFrom xs ps 0 N)) 0 1440 P) (counted : n ≡ length P) (size : n ≤ length vs)
+    (laid-cuts : part cs 0 (suc n) ≡ map pieceStart P ++ 1440 ∷ []) (laid-cells : part vs 0 n ≡ map pieceState P) where
   abbrev strokes : List ℕ
   strokes = strokesFrom xs ps 0 N
 
@@ -108,29 +103,32 @@ module _ (states counts spans list : List ℕ) (i r : ℕ) (xs ps cs vs : List �
   paints : painting (flattened (map entryOf (listRules states counts spans list i r))) ≡ ys
   paints = ap painting whole ∙ sym (strokes-paint xs ps 0 N)
 
-  all-simple : Simple ys
-  all-simple = subst Simple paints (painting-simple (flattened (map entryOf (listRules states counts spans list i r))))
-
-  same-intervals : intervals minuteBounds (map (λ x. minutesOf (x .1)) ys) ≡ intervalsAt cs 0 n
-  unfolding intervals
-  same-intervals = ap between (sym (laid-cuts ∙ cuts-mean strokes)) ∙ between-part cs 0 n
+  same-intervals : intervalsAt cs 0 n ≡ map pieceRange P
+  same-intervals = sym (between-part cs 0 n) ∙ ap between laid-cuts ∙ tiles-between (shown 65536 strokes) 0 1440 P tiles
 
   climbs : (k : ℕ) → k < n → getD cs k 0 < getD cs (k + 1) 0
-  climbs k h = rising-climbs cs 0 0 n (subst (Rising 0) same-intervals (intervals-rise minuteBounds (omega arith) (map (λ x. minutesOf (x .1)) ys) (simple-ranges ys all-simple))) k (omega arith) (omega arith)
+  climbs k h = rising-climbs cs 0 0 n (subst (Rising 0) (sym same-intervals) (tiles-rise (shown 65536 strokes) 0 1440 P tiles)) k (omega arith) (omega arith)
+
+  cells : part vs 0 n ≡ map (shown 65536 strokes) (part cs 0 n)
+  cells =
+      laid-cells ∙ tiles-shown (shown 65536 strokes) 0 1440 P tiles
+      ∙ ap (map (shown 65536 strokes)) (sym (part-front cs 0 n (map pieceStart P) 1440 laid-cuts (counted ∙ sym (length-map P pieceStart))))
+
+  means : (m : ℕ) → painted ys (m ∷ []) ≡ stateAt (shown 65536 strokes m)
+  means m = sym (shown-mean 65536 strokes m ∙ (unfold stateAt in refl))
 
   shows : Agree cs (λ is. painted ys (starts is)) vs 0 n
-  unfolding cellsOf
-  shows k l h = sym (ap stateAt (part-at vs cs (shown 65536 strokes) 0 n laid-cells k l h) ∙ shown-mean 65536 strokes (getD cs k 0) ∙ (unfold stateAt in refl))
+  shows k l h = means (getD cs k 0) ∙ ap stateAt (sym (part-at vs cs (shown 65536 strokes) 0 n cells k l h))
 
-  painted-words : classesWords cs n 1 vs 5 ≡ flat (paintedOverIntervals ys)
-  unfolding paintedOverIntervals boxes upFrom
+  painted-words : classesWords cs n 1 vs 5 ≡ flat (paintedEntries ys)
+  unfolding paintedEntries upFrom
   painted-words =
       classes-mean cs n climbs 5 1 vs (λ is. painted ys (starts is)) (omega arith) size shows
-      ∙ ap (λ D. flat (map asEntry (map asJoined (groups sameState sameRange closed stateClasses (D ∷ []) (λ is. painted ys (starts is)))))) (sym same-intervals)
+      ∙ ap (λ D. flat (map asEntry (map asJoined (groups sameState sameRange closed stateClasses (D ∷ []) (λ is. painted ys (starts is)))))) same-intervals
+      ∙ ap (λ G. flat (map asEntry G)) (sym (groups-pieces (shown 65536 strokes) P tiles (painted ys) means))
 
   pub day-words : classesWords cs n 1 vs 5 ++ groupWords xs ps 0 N ≡ flat (day (listRules states counts spans list i r))
-  unfolding dayOverIntervals
+  unfolding day dayOf
   day-words =
-      ap₂ _++_ (painted-words ∙ ap (λ z. flat (paintedOverIntervals z)) (sym paints)) (groups-mean xs ps 0 N ∙ ap (λ z. flat (map sortedEntry (grouped z))) (sym whole))
-      ∙ sym (flat-append (paintedOverIntervals (painting (flattened (map entryOf (listRules states counts spans list i r))))) (map sortedEntry (grouped (flattened (map entryOf (listRules states counts spans list i r))))))
-      ∙ ap flat (sym (day-intervals (listRules states counts spans list i r)))
+      ap₂ _++_ (painted-words ∙ ap (λ z. flat (paintedEntries z)) (sym paints)) (groups-mean xs ps 0 N ∙ ap (λ z. flat (map sortedEntry (grouped z))) (sym whole))
+      ∙ sym (flat-append (paintedEntries (painting (flattened (map entryOf (listRules states counts spans list i r))))) (map sortedEntry (grouped (flattened (map entryOf (listRules states counts spans list i r))))))

@@ -45,31 +45,30 @@ fn push_spans(
     place
 }
 
-// Writes the spans of rules i up to n of the list, with their states; answers the place after them.
+// Writes the spans of the rules that the list names, with their states; answers how many there are.
 pub fn flatten(
     stated: &mut [u32],
     spanned: &mut [u64],
-    k: usize,
     states: &[u32],
     counts: &[u8],
     spans: &[u64],
     list: &[u16],
-    i: usize,
-    n: usize,
 ) -> usize
     requires { ⌜ Tables (now states) (now counts) (now spans) (now list) ⌝ }
-    requires { ⌜ (n ≤ length (now list)) × (k + 16 * (n - i) ≤ length (now stated)) × (k + 16 * (n - i) ≤ length (now spanned)) ⌝ }
-    ensures { λ r. ⌜ (r ≡ k + length (statesFrom (now (states .entry)) (now (counts .entry)) (now (list .entry)) i (n - i)))
-        × (now (stated .exit) ≡ sets (now (stated .entry)) k (statesFrom (now (states .entry)) (now (counts .entry)) (now (list .entry)) i (n - i)))
-        × (now (spanned .exit) ≡ sets (now (spanned .entry)) k (spansFrom (now (counts .entry)) (now (spans .entry)) (now (list .entry)) i (n - i)))
-        × (r ≤ k + 16 * (n - i)) ⌝ }
+    requires { ⌜ (16 * length (now list) ≤ length (now stated)) × (16 * length (now list) ≤ length (now spanned)) ⌝ }
+    ensures { λ r. ⌜ (r ≡ length (statesFrom (now (states .entry)) (now (counts .entry)) (now (list .entry)) 0 (length (now (list .entry)))))
+        × (now (stated .exit) ≡ sets (now (stated .entry)) 0 (statesFrom (now (states .entry)) (now (counts .entry)) (now (list .entry)) 0 (length (now (list .entry)))))
+        × (now (spanned .exit) ≡ sets (now (spanned .entry)) 0 (spansFrom (now (counts .entry)) (now (spans .entry)) (now (list .entry)) 0 (length (now (list .entry)))))
+        × (r ≤ 16 * length (now (list .entry))) ⌝ }
 {
-    if i < n {
-        let r = index(list[i]);
+    let n = list.len();
+    let mut next: usize = 0;
+    let mut place: usize = 0;
+    while next < n {
+        let r = index(list[next]);
         let c = count(counts[r]);
-        let next = push_spans(stated, spanned, k, states[r], spans, r * 16, r * 16 + c);
-        flatten(stated, spanned, next, states, counts, spans, list, i + 1, n)
-    } else {
-        k
+        place = push_spans(stated, spanned, place, states[r], spans, r * 16, r * 16 + c);
+        next += 1;
     }
+    place
 }

@@ -2,6 +2,8 @@
 pub mod flatten;
 
 use day_group::groups;
+use day_paint::piece::write_pieces;
+use day_paint::write_strokes;
 use day_row::sweep_classes;
 use flatten::flatten;
 ghost use mathlib.Core.Path.{_≡_};
@@ -32,20 +34,14 @@ pub fn normalize_time_rules(
     ensures { λ r. ⌜ (now (out .exit) ≡ sets (now (out .entry)) 0 (flat (day (listRules (now (states .entry)) (now (counts .entry)) (now (spans .entry)) (now (list .entry)) 0 (length (now (list .entry)))))))
         × (r ≡ length (flat (day (listRules (now (states .entry)) (now (counts .entry)) (now (spans .entry)) (now (list .entry)) 0 (length (now (list .entry))))))) ⌝ }
 {
-    let n = flatten(
-        stated,
-        spanned,
-        0,
-        states,
-        counts,
-        spans,
-        list,
-        0,
-        list.len(),
-    );
-    let k = day_paint::write_strokes(strokes, 0, stated, spanned, 0, n);
-    let m = day_paint::write_cuts(cuts, strokes, k);
-    day_paint::write_cells(cells, strokes, k, cuts, m - 1);
-    let at = sweep_classes(out, 0, strokes, cuts, cells, 1, m - 1);
+    let n = flatten(stated, spanned, states, counts, spans, list);
+    let k = write_strokes(strokes, stated, spanned, n);
+    let m = write_pieces(cuts, cells, strokes, k);
+    // The pieces say what the strokes said: from here on their room takes runs, and the spans of a group.
+    let at = sweep_classes(out, strokes, cuts, cells, m);
+    // Where every span is a stroke, there is no group.
+    if k == n {
+        return at;
+    }
     groups(out, at, strokes, stated, spanned, 0, n)
 }

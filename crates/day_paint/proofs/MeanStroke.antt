@@ -1,4 +1,4 @@
--- What strokes mean: the painting of a list, the cuts at its ends, and what it shows.
+-- What strokes mean: the painting of a list, and what it shows.
 -- Assumes nothing.
 use mathlib.Core.Path.{_≡_, refl, sym, ap, ap₂, _∙_}
 use mathlib.Core.List.{List, [], _∷_, map}
@@ -9,17 +9,16 @@ use lib.Dec.{eqb, leb, ltb}
 use lib.ListN.{getD}
 use borrow.Author.Tests.{lt-ltb, eqb-true}
 use Rattle.laws.specs.Lists.{keep}
-use Rattle.grid.specs.Cut.{cutAt, cuts}
-use Rattle.definition.specs.Day.{Stated, simple, minutesOf, minuteBounds, within, stated, runOf, painting, lastOver, plainSpan}
+use Rattle.definition.specs.Day.{Stated, simple, within, stated, runOf, painting, lastOver, plainSpan}
 use Rattle.span_number.specs.Number.{stateAt, spanAt, timeAt, repeatsAt}
 use Rattle.span_number.proofs.Numbers.{same-states}
 use Rattle.span_number.proofs.Laws.{simple-bounds}
 use Rattle.words.specs.Words.{part}
-use Rattle.day_paint.specs.Stroke.{strokeNumber, strokesOfRun, strokesFrom, strokeOver, shown, cutsOf}
+use Rattle.day_paint.specs.Stroke.{strokeNumber, strokeState, strokeStart, strokeEnd, strokesOfRun, strokesFrom, strokeOver, shown}
 use Rattle.day_words.specs.Day.{pairs}
 
 abbrev pub strokeAt : ℕ → Stated
-strokeAt n = (stateAt (n / 4194304), plainSpan (n / 2048 % 2048, n % 2048))
+strokeAt n = (stateAt (strokeState n), plainSpan (strokeStart n, strokeEnd n))
 
 -- a simple span is the plain one of its minutes
 plain-span : (p : ℕ) → simple (spanAt p) ≡ true → spanAt p ≡ plainSpan (p / 8589934592, p / 16384 % 524288)
@@ -64,17 +63,12 @@ strokes-paint xs ps i (suc r) = go (simple (spanAt (getD ps i 0))) refl (strokes
     go true e ih = rw (e, strokesFrom, painting) (ap₂ _∷_ (stroke-back (getD xs i 0) (getD ps i 0) e) ih)
     go false e ih = rw (e, strokesFrom, painting) (run-strokes xs ps (getD xs i 0) (i + 1) r)
 
--- ## Cuts and what is shown
-pub cuts-mean : (strokes : List ℕ) → cutsOf strokes ≡ cuts minuteBounds (map (λ x. minutesOf (x .1)) (map strokeAt strokes))
-unfolding cutsOf cuts
-cuts-mean [] = refl
-cuts-mean (x ∷ xs) = ap (λ cs. cutAt (x / 2048 % 2048) (cutAt (x % 2048) cs)) (cuts-mean xs)
-
+-- ## What is shown
 pub shown-mean : (S : ℕ) (strokes : List ℕ) (m : ℕ) → stateAt (shown S strokes m) ≡ lastOver within (stateAt S) (map strokeAt strokes) m
 unfolding shown lastOver strokeOver
 shown-mean S [] m = refl
-shown-mean S (x ∷ xs) m = shown-mean (strokeOver x m S) xs m ∙ ap (λ R. lastOver within R (map strokeAt xs) m) (go (leb (x / 2048 % 2048) m && ltb m (x % 2048)))
+shown-mean S (x ∷ xs) m = shown-mean (strokeOver x m S) xs m ∙ ap (λ R. lastOver within R (map strokeAt xs) m) (go (leb (strokeStart x) m && ltb m (strokeEnd x)))
   where
-    go : (b : Bool) → stateAt (cond b (x / 4194304) S) ≡ cond b (stateAt (x / 4194304)) (stateAt S)
+    go : (b : Bool) → stateAt (cond b (strokeState x) S) ≡ cond b (stateAt (strokeState x)) (stateAt S)
     go true = refl
     go false = refl

@@ -1,1 +1,2 @@
 pub mod Stroke
+pub mod Piece

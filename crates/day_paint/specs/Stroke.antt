@@ -1,16 +1,24 @@
 -- Painting, in numbers. A stroke is a simple span with its state: state, start and end as digits of one number.
 -- Assumes nothing.
-use mathlib.Core.List.{List, [], _∷_, map}
+use mathlib.Core.List.{List, [], _∷_}
 use mathlib.Core.Bool.{true, false, _&&_, cond}
 use Prim.Native.Nat.{ℕ, zero, suc, _+_, _*_, _/_, _%_}
 use lib.Dec.{eqb, leb, ltb}
 use lib.ListN.{getD}
-use Rattle.grid.specs.Cut.{cutAt}
 use Rattle.definition.specs.Day.{simple}
 use Rattle.span_number.specs.Number.{spanAt}
 
 unfoldable pub strokeNumber : ℕ → ℕ → ℕ
 strokeNumber state span = state * 4194304 + span / 8589934592 * 2048 + span / 16384 % 524288
+
+abbrev pub strokeState : ℕ → ℕ
+strokeState x = x / 4194304
+
+abbrev pub strokeStart : ℕ → ℕ
+strokeStart x = x / 2048 % 2048
+
+abbrev pub strokeEnd : ℕ → ℕ
+strokeEnd x = x % 2048
 
 -- ## Which spans paint, along a list of states and spans
 -- the simple spans of the run of a state
@@ -30,18 +38,9 @@ strokesFrom states spans i (suc r) = elim (simple (spanAt (getD spans i 0))) [
 
 -- ## What strokes show
 unfoldable pub strokeOver : ℕ → ℕ → ℕ → ℕ
-strokeOver x m S = cond (leb (x / 2048 % 2048) m && ltb m (x % 2048)) (x / 4194304) S
+strokeOver x m S = cond (leb (strokeStart x) m && ltb m (strokeEnd x)) (strokeState x) S
 
 -- the state of the last stroke that covers the minute
 unfoldable pub shown : ℕ → List ℕ → ℕ → ℕ
 shown S [] m = S
 shown S (x ∷ strokes) m = shown (strokeOver x m S) strokes m
-
--- ## Cuts and cells
-unfoldable pub cutsOf : List ℕ → List ℕ
-cutsOf [] = 0 ∷ 1440 ∷ []
-cutsOf (x ∷ strokes) = cutAt (x / 2048 % 2048) (cutAt (x % 2048) (cutsOf strokes))
-
--- the state of each interval, at its start
-unfoldable pub cellsOf : List ℕ → List ℕ → List ℕ
-cellsOf strokes cuts = map (shown 65536 strokes) cuts

@@ -2,18 +2,20 @@
 -- Assumes nothing.
 use mathlib.Core.Path.{_≡_, refl, sym, ap, ap₂, _∙_}
 use mathlib.Core.List.{List, [], _++_}
-use mathlib.Core.Bool.{true, false}
-use Prim.Native.Nat.{ℕ, suc, _+_, _-_, _≤_, _<_}
+use mathlib.Core.Bool.{true, false, _&&_}
+use Prim.Native.Nat.{ℕ, zero, suc, _+_, _*_, _-_, _≤_, _<_}
 use native.Mathlib.Omega.{arith}
 use lib.Dec.{eqb}
 use lib.ListN.{length, getD, set, length-append}
 use lib.Seq.{sets}
-use borrow.Author.Tests.{lt-ltb, le-ltb, eq-eqb, ne-eqb}
+use borrow.Author.Tests.{lt-ltb, le-ltb, eq-eqb, ne-eqb, eqb-true}
+use Rattle.laws.specs.Lists.{every}
+use Rattle.laws.proofs.Flags.{split-and}
 use Rattle.laws.proofs.Stores.{sets-append}
 use Rattle.definition.specs.Day.{stateClass}
 use Rattle.span_number.specs.Number.{stateAt, partsNumber}
 use Rattle.words.specs.Words.{part, entryWords}
-use Rattle.day_row.specs.Row.{runUpTo, runsFrom, clearFrom, isOfClass, classWords, classLeft, classesWords}
+use Rattle.day_row.specs.Row.{runUpTo, runsFrom, clearFrom, isOfClass, classWords, classLeft, classesWords, allClosed}
 use Rattle.words.proofs.Sets.{left-in, left-none, part-sets, length-part}
 
 -- words laid from a place on, and how many
@@ -142,17 +144,16 @@ module _ (cs : List ℕ) (class n : ℕ) (s₀ : List ℕ) (at : ℕ) (vs₀ : L
             }
 
 -- ## Class after class
-module _ (cs vs : List ℕ) (n class : ℕ) (s : List ℕ) (at : ℕ) where
-  pub classes-end : 5 < class → (s ≡ sets s at (classesWords cs n class vs (6 - class))) × (at ≡ at + length (classesWords cs n class vs (6 - class)))
-  unfolding classesWords
-  classes-end h =
-      let e : 6 - class ≡ 0 = omega arith in
-      let z : at ≡ at + 0 = omega arith in
-      (sym (ap (λ k. sets s at (classesWords cs n class vs k)) e), z ∙ sym (ap (λ k. at + length (classesWords cs n class vs k)) e))
+-- words laid from a place on, and the place after them
+abbrev Laid : List ℕ → List ℕ → ℕ → ℕ → List ℕ → Type 0
+Laid s t at r words = (t ≡ sets s at words) × (r ≡ at + length words)
 
-  pub classes-more : class ≤ 5 → (s₁ us : List ℕ) (next : ℕ) → Swept s s₁ at next (classWords cs class vs 0 (n - 0)) us (classLeft class vs 0 (n - 0)) → (t : List ℕ) (r : ℕ)
-      → (t ≡ sets s₁ next (classesWords cs n (class + 1) us (6 - (class + 1)))) × (r ≡ next + length (classesWords cs n (class + 1) us (6 - (class + 1))))
-      → (t ≡ sets s at (classesWords cs n class vs (6 - class))) × (r ≡ at + length (classesWords cs n class vs (6 - class)))
+none-laid : (s : List ℕ) (at : ℕ) (words : List ℕ) → words ≡ [] → Laid s s at at words
+none-laid s at words e = (sym (ap (sets s at) e), omega (arith, ap length e))
+
+module _ (cs vs : List ℕ) (n class : ℕ) (s : List ℕ) (at : ℕ) where
+  classes-more : class ≤ 5 → (s₁ us : List ℕ) (next : ℕ) → Swept s s₁ at next (classWords cs class vs 0 (n - 0)) us (classLeft class vs 0 (n - 0)) → (t : List ℕ) (r : ℕ)
+      → Laid s₁ t next r (classesWords cs n (class + 1) us (6 - (class + 1))) → Laid s t at r (classesWords cs n class vs (6 - class))
   unfolding classesWords
   classes-more h s₁ us next l t r k =
       let e : 6 - class ≡ suc (6 - (class + 1)) = omega arith in
@@ -167,3 +168,66 @@ module _ (cs vs : List ℕ) (n class : ℕ) (s : List ℕ) (at : ℕ) where
         k .0 ∙ ap₂ (λ v i. sets v i rest) a b ∙ sym (sets-append s at first rest) ∙ ap (sets s at) (sym w),
         k .1 ∙ omega (arith, b, length-append first rest, ap length w),
       )
+
+-- up to a class: there is room for this one and the later ones, and whatever lays them lays the whole
+pub record ClassesOn (cs vs₀ : List ℕ) (n : ℕ) (s₀ b₀ : List ℕ) (class place : ℕ) (s b vs : List ℕ) : Type 0 where
+  pub between : (1 ≤ class) × (class ≤ 6)
+  pub room : place + (6 - class) * 4295163904 < 1099511627776
+  pub lengths : (length s ≡ length s₀) × (length b ≡ length b₀) × (length vs ≡ length vs₀)
+  pub finishes : (t : List ℕ) (r : ℕ) → Laid s t place r (classesWords cs n class vs (6 - class)) → Laid s₀ t 0 r (classesWords cs n 1 vs₀ 5)
+
+module _ (cs vs₀ : List ℕ) (n : ℕ) (s₀ b₀ : List ℕ) (class place : ℕ) (s b vs : List ℕ) (on : ClassesOn cs vs₀ n s₀ b₀ class place s b vs) where
+  done : classesWords cs n class vs (6 - class) ≡ [] → (s ≡ sets s₀ 0 (classesWords cs n 1 vs₀ 5)) × (place ≡ length (classesWords cs n 1 vs₀ 5)) × (place < 1099511627776)
+  done e = let l = on .finishes s place (none-laid s place (classesWords cs n class vs (6 - class)) e) in (l .0, omega (arith, l .1), omega (arith, on .room))
+
+  pub classes-done : 6 ≤ class → (s ≡ sets s₀ 0 (classesWords cs n 1 vs₀ 5)) × (place ≡ length (classesWords cs n 1 vs₀ 5)) × (place < 1099511627776)
+  unfolding classesWords
+  classes-done h = let e : 6 - class ≡ 0 = omega arith in done (ap (classesWords cs n class vs) e)
+
+  -- where every cell is plain Closed, no later class has words
+  no-words : (c : ℕ) → 1 ≤ c → (j r : ℕ) → allClosed vs j r ≡ true → (classWords cs c vs j r ≡ []) × (classLeft c vs j r ≡ vs)
+  unfolding classWords classLeft isOfClass stateAt every part
+  no-words c pos j zero h = (refl, refl)
+  no-words c pos j (suc r) h =
+      let both = split-and (eqb 65536 (getD vs j 0)) (allClosed vs (j + 1) r) h in
+      let e : isOfClass c (getD vs j 0) ≡ false = ap (λ v. eqb (stateClass (stateAt v)) c) (sym (eqb-true 65536 (getD vs j 0) (both .0))) ∙ ne-eqb 0 c (omega arith) in
+      let later = no-words c pos (j + 1) r (both .1) in (rw (e, classWords) (later .0), rw (e, classLeft) (later .1))
+
+  no-classes : allClosed vs 0 n ≡ true → (k c : ℕ) → 1 ≤ c → classesWords cs n c vs k ≡ []
+  unfolding classesWords
+  no-classes h zero c pos = refl
+  no-classes h (suc k) c pos =
+      let e = no-words c pos 0 n h in
+      ap₂ (λ w u. w ++ classesWords cs n (c + 1) u k) (e .0) (e .1) ∙ no-classes h k (c + 1) (omega arith)
+
+  pub classes-closed : allClosed vs 0 n ≡ true → (s ≡ sets s₀ 0 (classesWords cs n 1 vs₀ 5)) × (place ≡ length (classesWords cs n 1 vs₀ 5)) × (place < 1099511627776)
+  classes-closed h = done (no-classes h (6 - class) class (on .between .0))
+
+  pub classes-on : class < 6 → n ≤ 65536 → (s₁ b₁ us : List ℕ) (next : ℕ)
+      → Swept s s₁ place next (classWords cs class vs 0 (n - 0)) us (classLeft class vs 0 (n - 0)) → next ≤ place + (n - 0) * 65539
+      → (length s₁ ≡ length s) × (length b₁ ≡ length b) × (length us ≡ length vs) → ClassesOn cs vs₀ n s₀ b₀ (class + 1) next s₁ b₁ us
+  classes-on h few s₁ b₁ us next l less same = record {
+    between = (omega arith, omega arith);
+    room = omega (arith, on .room, less);
+    lengths = (same .0 ∙ on .lengths .0, same .1 ∙ on .lengths .1, same .2 ∙ on .lengths .2);
+    finishes = λ t r k. on .finishes t r (classes-more cs vs n class s place (omega arith) s₁ us next l t r k);
+  }
+
+-- ## Whether all cells are plain Closed, cell by cell
+pub closed-start : (vs : List ℕ) (n : ℕ) → allClosed vs 0 (n - 0) ≡ allClosed vs 0 n
+closed-start vs n = let z : n - 0 ≡ n = omega arith in ap (allClosed vs 0) z
+
+module _ (vs : List ℕ) (i n : ℕ) where
+  next : i < n → allClosed vs i (n - i) ≡ eqb 65536 (getD vs i 0) && allClosed vs (i + 1) (n - (i + 1))
+  unfolding every part
+  next h = ap (allClosed vs i) (left-in i n h)
+
+  pub closed-on : i < n → getD vs i 0 ≡ 65536 → allClosed vs (i + 1) (n - (i + 1)) ≡ allClosed vs i (n - i)
+  closed-on h e = sym (rw (eq-eqb 65536 (getD vs i 0) (sym e)) at next h)
+
+  pub closed-not : i < n → (getD vs i 0 ≡ 65536 → ⊥) → false ≡ allClosed vs i (n - i)
+  closed-not h e = sym (rw (ne-eqb 65536 (getD vs i 0) (λ q. e (sym q))) at next h)
+
+  pub closed-end : n ≤ i → true ≡ allClosed vs i (n - i)
+  unfolding every part
+  closed-end h = sym (ap (allClosed vs i) (left-none i n h))

@@ -5,9 +5,10 @@ use mathlib.Core.Bool.{Bool, true, false, cond}
 use Prim.Native.Nat.{ℕ, zero, suc, _+_}
 use lib.Dec.{eqb, ltb}
 use lib.ListN.{getD, set}
+use Rattle.laws.specs.Lists.{every}
 use Rattle.definition.specs.Day.{stateClass}
 use Rattle.span_number.specs.Number.{stateAt, partsNumber}
-use Rattle.words.specs.Words.{entryWords}
+use Rattle.words.specs.Words.{part, entryWords}
 
 -- a run from a up to c, where there is one
 unfoldable pub runUpTo : ℕ → ℕ → List ℕ
@@ -45,3 +46,7 @@ classLeft c cells j (suc r) = elim (isOfClass c (getD cells j 0)) [ true ↦ cla
 unfoldable pub classesWords : List ℕ → ℕ → ℕ → List ℕ → ℕ → List ℕ
 classesWords cuts n c cells zero = []
 classesWords cuts n c cells (suc k) = classWords cuts c cells 0 n ++ classesWords cuts n (c + 1) (classLeft c cells 0 n) k
+
+-- whether n cells from j on are all plain Closed: then there is nothing to sweep
+abbrev pub allClosed : List ℕ → ℕ → ℕ → Bool
+allClosed cells j n = every (eqb 65536) (part cells j n)

@@ -1,4 +1,5 @@
 // The states of the intervals, swept class after class.
+use span_number::CLOSED;
 use span_number::span;
 use span_number::state_class;
 use words::write_entry;
@@ -6,7 +7,7 @@ ghost use mathlib.Core.Path.{_≡_};
 ghost use Prim.Native.Nat.{ℕ, _+_, _*_, _-_, _<_, _≤_};
 ghost use lib.ListN.{length, getD};
 ghost use lib.Seq.{sets};
-ghost use Rattle.day_row.specs.Row.{runUpTo, runsFrom, clearFrom, classWords, classLeft, classesWords};
+ghost use Rattle.day_row.specs.Row.{runUpTo, runsFrom, clearFrom, classWords, classLeft, classesWords, allClosed};
 
 // Writes the run from a up to c, where there is one; answers how many words.
 fn write_run(buf: &mut [u64], at: usize, a: u64, c: u64) -> usize
@@ -62,7 +63,7 @@ fn clear(cells: &mut [u64], s: u64, j: usize, n: usize)
             i += 1;
             continue;
         }
-        cells[i] = 65536;
+        cells[i] = CLOSED;
         i += 1;
     }
 }
@@ -102,25 +103,42 @@ fn sweep_class(
     place
 }
 
-// The painted states, class after class from this one on; answers the place after them.
+// Whether n cells are all plain Closed, as emptied ones are: then no class has words.
+fn all_closed(cells: &[u64], n: usize) -> bool
+    requires { ⌜ n ≤ length (now cells) ⌝ }
+    ensures { λ r. ⌜ r ≡ allClosed (now (cells .entry)) 0 n ⌝ }
+{
+    let mut i: usize = 0;
+    while i < n {
+        if cells[i] != CLOSED {
+            return false;
+        }
+        i += 1;
+    }
+    true
+}
+
+// The painted states, class after class, until no state is left; answers how many words they are.
 pub fn sweep_classes(
     out: &mut [u64],
-    at: usize,
     buf: &mut [u64],
     cuts: &[u64],
     cells: &mut [u64],
-    class: u8,
     n: usize,
 ) -> usize
-    requires { ⌜ (n ≤ 65536) × (1 ≤ class) × (class ≤ 6) × (at + (6 - class) * 4295163904 < 1099511627776) ⌝ }
-    requires { ⌜ (n < length (now buf)) × (n < length (now cuts)) × (n ≤ length (now cells)) ⌝ }
+    requires { ⌜ (n ≤ 65536) × (n < length (now buf)) × (n < length (now cuts)) × (n ≤ length (now cells)) ⌝ }
     requires { ⌜ ((k : ℕ) → k ≤ n → getD (now cuts) k 0 < 524288) ⌝ }
-    ensures { λ r. ⌜ (now (out .exit) ≡ sets (now (out .entry)) at (classesWords (now (cuts .entry)) n class (now (cells .entry)) (6 - class)))
-        × (r ≡ at + length (classesWords (now (cuts .entry)) n class (now (cells .entry)) (6 - class))) × (r < 1099511627776) ⌝ }
+    ensures { λ r. ⌜ (now (out .exit) ≡ sets (now (out .entry)) 0 (classesWords (now (cuts .entry)) n 1 (now (cells .entry)) 5))
+        × (r ≡ length (classesWords (now (cuts .entry)) n 1 (now (cells .entry)) 5)) × (r < 1099511627776) ⌝ }
 {
-    if class > 5 {
-        return at;
+    let mut class: u8 = 1;
+    let mut place: usize = 0;
+    while class < 6 {
+        if all_closed(cells, n) {
+            return place;
+        }
+        place = sweep_class(out, place, buf, cuts, cells, class, 0, n);
+        class += 1;
     }
-    let next = sweep_class(out, at, buf, cuts, cells, class, 0, n);
-    sweep_classes(out, next, buf, cuts, cells, class + 1, n)
+    place
 }

@@ -18,11 +18,15 @@ pub fn bench_sheets() -> Vec<BenchSheet> {
         ("two rules (P2)", worked_day_p2()),
         ("20 rules of a landing site", landing_site()),
         ("64 rules, 1,024 boxes in all dimensions", all_dimensions()),
-        ("64 rules, 1,023 boxes in years", many_years()),
+        ("64 rules, 1,023 boxes in years", many_years(0)),
         ("24 rules, 1,024 groups", many_groups(0)),
         (
             "52 rules, 1,024 groups of lists of 32 rules",
             many_groups(28),
+        ),
+        (
+            "64 rules, 1,023 boxes in years, lists of up to 32 rules",
+            many_years(30),
         ),
     ])
 }
@@ -212,36 +216,45 @@ pub fn all_dimensions() -> Vec<Rule> {
         .collect()
 }
 
-/// 511 years, each alone between years that no rule names, shared out sixteen to a rule, so that most stand in two rules.
-fn many_years() -> Vec<Rule> {
+/// 511 years, each alone between years that no rule names, shared out sixteen to a rule, so that most stand in two rules; after so many
+/// rules that stand on every day, whose spans follow each other without touching.
+fn many_years(on_every_day: u32) -> Vec<Rule> {
     let single = |number: usize| {
         let year = 1901 + 2 * (number % 511) as u32;
         range(year, year)
     };
 
-    (0..RULE_LIMIT)
-        .map(|number| {
-            let hour = number as u32 % 20;
-            let years = number * ITEM_LIMIT..(number + 1) * ITEM_LIMIT;
+    let in_years = (0..RULE_LIMIT - on_every_day as usize).map(|number| {
+        let hour = number as u32 % 20;
+        let years = number * ITEM_LIMIT..(number + 1) * ITEM_LIMIT;
 
-            Rule {
-                years: years.map(single).collect::<Vec<Stepped>>(),
-                ..also(OPEN, hour, hour + 3).saying(number as u32 % 5)
-            }
-        })
-        .collect()
+        Rule {
+            years: years.map(single).collect::<Vec<Stepped>>(),
+            ..also(OPEN, hour, hour + 3).saying(number as u32 % 5)
+        }
+    });
+
+    every_day(on_every_day, |number, place| {
+        let minute = 45 * number + 2 * place;
+        fixed(minute, minute + 1)
+    })
+    .chain(in_years)
+    .collect()
+}
+
+/// So many rules of sixteen spans that stand on every day, each with a comment of its own.
+fn every_day(rules: u32, span: fn(u32, u32) -> Span) -> impl Iterator<Item = Rule> {
+    (0..rules).map(move |number| Rule {
+        spans: (0..ITEM_LIMIT as u32)
+            .map(|place| span(number, place))
+            .collect(),
+        ..also(OPEN, 0, 24).saying(100 + number)
+    })
 }
 
 /// A rule for each interval of each dimension, with a span and a comment of its own, so that no two of 4 by 4 by 8 by 8 boxes have the same
 /// day, after so many rules of sixteen spans that stand on every day.
 fn many_groups(on_every_day: u32) -> Vec<Rule> {
-    let every_day = (0..on_every_day).map(|number| Rule {
-        spans: (0..ITEM_LIMIT as u32)
-            .map(|place| fixed(90 * place + number, 90 * place + number + 20))
-            .collect(),
-        ..also(OPEN, 0, 24).saying(100 + number)
-    });
-
     let cuts = [
         (&WEEKDAY_CUTS[..], Rule::on as fn(Rule, u32, u32) -> Rule),
         (&WEEK_CUTS, Rule::in_weeks),
@@ -263,5 +276,10 @@ fn many_groups(on_every_day: u32) -> Vec<Rule> {
         )
     });
 
-    every_day.chain(own).collect()
+    every_day(on_every_day, |number, place| {
+        let minute = 90 * place + number;
+        fixed(minute, minute + 20)
+    })
+    .chain(own)
+    .collect()
 }

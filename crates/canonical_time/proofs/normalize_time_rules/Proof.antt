@@ -1,98 +1,118 @@
 -- `canonical_time::normalize_time_rules` meets its contract.
--- Assumes nothing.
-use mathlib.Core.Path.{_∙_}
 use native.Mathlib.Omega.{arith}
-use Rattle.canonical_time.proofs.FoldWays.{few-strokes, cuts-bounded, fold-laid}
+use borrow.Author.Needs.{needs}
+use Rattle.canonical_time.proofs.FoldWays.{few-strokes, cuts-bounded, painted-laid, grouped-laid}
 use Rattle.canonical_time.proofs.normalize_time_rules.Statement.{statement}
 use Rattle.canonical_time.proofs.normalize_time_rules.Tie as tie
 
 flatten-requires : tie.Need-flatten-requires
-flatten-requires c κs =
-    let pre = c .before .before .before .before .before .before .before .before .before .before .before .before .pre in
-    (pre .0, (omega arith, omega (arith, pre .1), omega (arith, pre .1)))
+flatten-requires c κs = search needs
 
 write-strokes-requires : tie.Need-write-strokes-requires
-write-strokes-requires c κs =
-    let pre = c .before .before .before .before .before .before .before .before .before .before .before .before .before .before .before .before .before .before .before .before .pre .1 in
-    let flat = c .before .before .before .before .before .before .before .flatten in
-    (omega (arith, pre, flat .ensures .3), omega (arith, pre, flat .ensures .3, flat .kept .0), omega (arith, pre, flat .ensures .3, flat .kept .1 .0))
+write-strokes-requires c κs = search needs
 
-write-cuts-requires : tie.Need-write-cuts-requires
-write-cuts-requires c κs =
-    let pre = c .before .before .before .before .before .before .before .before .before .before .before .before .before .before .before .before .before .before .before .before .before .before .before .before .before .pre .1 in
-    let flat = c .before .before .before .before .before .before .before .before .before .before .before .before .flatten in
-    let few = few-strokes _ _ _ _ (c .before .before .before .before .write-strokes .ensures .1) in
-    (omega (arith, few, pre, flat .ensures .3, c .before .before .before .before .write-strokes .kept .0), omega (arith, few, pre, flat .ensures .3))
-
-sub-write-cells : tie.Need-sub-write-cells
-sub-write-cells c = omega (arith, c .before .before .before .before .before .write-cuts .ensures .2)
-
-write-cells-requires : tie.Need-write-cells-requires
-write-cells-requires c κs =
-    let pre = c .before .before .before .before .before .before .before .before .before .before .before .before .before .before .before .before .before .before .before .before .before .before .before .before .before .before .before .before .before .before .before .pre .1 in
-    let flat = c .before .before .before .before .before .before .before .before .before .before .before .before .before .before .before .before .before .before .flatten in
-    let cut = c .before .before .before .before .before .write-cuts in
-    let few = few-strokes _ _ _ _ (c .before .before .before .before .before .before .before .before .before .before .write-strokes .ensures .1) in (
-      omega (arith, few, pre, flat .ensures .3, c .before .before .before .before .before .before .before .before .before .before .write-strokes .kept .0),
-      omega (arith, few, pre, flat .ensures .3, cut .ensures .3, cut .kept .0),
-      omega (arith, few, pre, flat .ensures .3, cut .ensures .3),
-    )
-
-sub-sweep-classes : tie.Need-sub-sweep-classes
-sub-sweep-classes c = omega (arith, c .before .before .before .before .before .before .before .before .before .before .before .before .write-cuts .ensures .2)
+write-pieces-requires : tie.Need-write-pieces-requires
+write-pieces-requires c κs =
+    let stroked = c .before .before .before .before .before in
+    let flat = stroked .before .before .before .before .before .before .before .before in
+    let room = flat .before .before .before .before .before .before .before .before .before .before .before .before .before .pre .1 in
+    let few = few-strokes _ _ _ _ (stroked .write-strokes .ensures .1) in
+    let spans = flat .flatten .ensures .3 in
+    (omega (arith, few, room, spans, stroked .write-strokes .kept .0), omega (arith, few, room, spans), omega (arith, few, room, spans))
 
 sweep-classes-requires : tie.Need-sweep-classes-requires
 sweep-classes-requires c κs =
-    let pre = c .before .before .before .before .before .before .before .before .before .before .before .before .before .before .before .before .before .before .before .before .before .before .before .before .before .before .before .before .before .before .before .before .before .before .before .before .before .before .pre .1 in
-    let flat = c .before .before .before .before .before .before .before .before .before .before .before .before .before .before .before .before .before .before .before .before .before .before .before .before .before .flatten in
-    let cut = c .before .before .before .before .before .before .before .before .before .before .before .before .write-cuts in
-    let few = few-strokes _ _ _ _ (c .before .before .before .before .before .before .before .before .before .before .before .before .before .before .before .before .before .write-strokes .ensures .1) in (
-      (omega (arith, few, pre, flat .ensures .3, cut .ensures .3), omega arith, omega arith, omega arith),
+    let pieced = c .before .before .before .before .before .before .before .before in
+    let stroked = pieced .before .before .before .before .before .before in
+    let flat = stroked .before .before .before .before .before .before .before .before in
+    let room = flat .before .before .before .before .before .before .before .before .before .before .before .before .before .pre .1 in
+    let few = few-strokes _ _ _ _ (stroked .write-strokes .ensures .1) in
+    let spans = flat .flatten .ensures .3 in
+    let size = pieced .write-pieces .ensures .3 in (
       (
-        (
-          omega (arith, few, pre, flat .ensures .3, cut .ensures .3, cut .ensures .2, c .before .before .before .before .before .before .before .before .before .before .before .before .before .before .before .before .before .write-strokes .kept .0),
-          omega (arith, few, pre, flat .ensures .3, cut .ensures .3, cut .ensures .2, cut .kept .0),
-          omega (arith, few, pre, flat .ensures .3, cut .ensures .3, c .before .before .before .before .before .before .write-cells .kept .0),
-        ),
-        cuts-bounded _ _ _ _ (cut .ensures .0) (cut .ensures .1) (omega (arith, cut .ensures .2)) (omega (arith, few, pre, flat .ensures .3, cut .ensures .3)),
+        omega (arith, few, room, spans, size),
+        omega (arith, few, room, spans, size, stroked .write-strokes .kept .0),
+        omega (arith, few, room, spans, size, pieced .write-pieces .kept .0),
+        omega (arith, few, room, spans, size, pieced .write-pieces .kept .1 .0),
       ),
-    )
-
-groups-requires : tie.Need-groups-requires
-groups-requires c κs =
-    let pre = c .before .before .before .before .before .before .before .before .before .before .before .before .before .before .before .before .before .before .before .before .before .before .before .before .before .before .before .before .before .before .before .before .before .before .before .before .before .before .before .before .before .before .before .before .before .before .before .before .before .pre .1 in
-    let flat = c .before .before .before .before .before .before .before .before .before .before .before .before .before .before .before .before .before .before .before .before .before .before .before .before .before .before .before .before .before .before .before .before .before .before .before .before .flatten in
-    let swept = c .before .before .before .before .before .before .before .before .before .before .sweep-classes in (
-      omega (arith, pre, flat .ensures .3, flat .kept .0),
-      omega (arith, pre, flat .ensures .3, flat .kept .1 .0),
-      omega (arith, pre, flat .ensures .3, c .before .before .before .before .before .before .before .before .before .before .before .before .before .before .before .before .before .before .before .before .before .before .before .before .before .before .before .before .write-strokes .kept .0, swept .kept .1 .1 .0),
-      omega (arith, pre, flat .ensures .3, swept .ensures .2),
+      cuts-bounded _ _ _ _ _ (pieced .write-pieces .ensures .0) (pieced .write-pieces .ensures .2) (omega (arith, few, room, spans, size)),
     )
 
 same-length : tie.Need-same-length
-same-length c = c .before .before .before .before .groups .kept .0 ∙ c .before .before .before .before .before .before .before .before .before .before .before .before .before .before .before .sweep-classes .kept .0
+same-length c = search needs
 
 same-length-2 : tie.Need-same-length-2
-same-length-2 c = c .before .before .before .before .before .before .before .before .before .before .before .before .before .before .before .before .before .before .before .before .before .before .before .before .before .before .before .before .before .before .before .before .before .before .before .before .before .before .before .before .before .flatten .kept .0
+same-length-2 c = search needs
 
 same-length-3 : tie.Need-same-length-3
-same-length-3 c = c .before .before .before .before .before .before .before .before .before .before .before .before .before .before .before .before .before .before .before .before .before .before .before .before .before .before .before .before .before .before .before .before .before .before .before .before .before .before .before .before .before .flatten .kept .1 .0
+same-length-3 c = search needs
 
 same-length-4 : tie.Need-same-length-4
-same-length-4 c = c .before .before .before .before .groups .kept .1 .1 .0 ∙ c .before .before .before .before .before .before .before .before .before .before .before .before .before .before .before .sweep-classes .kept .1 .1 .0 ∙ c .before .before .before .before .before .before .before .before .before .before .before .before .before .before .before .before .before .before .before .before .before .before .before .before .before .before .before .before .before .before .before .before .before .write-strokes .kept .0
+same-length-4 c = search needs
 
 same-length-5 : tie.Need-same-length-5
-same-length-5 c = c .before .before .before .before .before .before .before .before .before .before .before .before .before .before .before .before .before .before .before .before .before .before .before .before .before .before .before .before .write-cuts .kept .0
+same-length-5 c = search needs
 
 same-length-6 : tie.Need-same-length-6
-same-length-6 c = c .before .before .before .before .before .before .before .before .before .before .before .before .before .before .before .sweep-classes .kept .1 .1 .1 .1 .0 ∙ c .before .before .before .before .before .before .before .before .before .before .before .before .before .before .before .before .before .before .before .before .before .before .write-cells .kept .0
+same-length-6 c = search needs
 
 returns : tie.Need-returns
 returns c =
-    let pre = c .before .before .before .before .before .before .before .before .before .before .before .before .before .before .before .before .before .before .before .before .before .before .before .before .before .before .before .before .before .before .before .before .before .before .before .before .before .before .before .before .before .before .before .before .before .before .before .before .before .before .before .before .before .before .pre .1 in
-    let swept = c .before .before .before .before .before .before .before .before .before .before .before .before .before .before .before .sweep-classes .ensures in
-    fold-laid _ _ _ _ _ _ _ _ _ _ _ _ _ _ _ _ _ _ _ _ _ _ _ (c .before .before .before .before .before .before .before .before .before .before .before .before .before .before .before .before .before .before .before .before .before .before .before .before .before .before .before .before .before .before .before .before .before .before .before .before .before .before .before .before .before .flatten .ensures) (c .before .before .before .before .before .before .before .before .before .before .before .before .before .before .before .before .before .before .before .before .before .before .before .before .before .before .before .before .before .before .before .before .before .write-strokes .ensures) (c .before .before .before .before .before .before .before .before .before .before .before .before .before .before .before .before .before .before .before .before .before .before .before .before .before .before .before .before .write-cuts .ensures)
-    (c .before .before .before .before .before .before .before .before .before .before .before .before .before .before .before .before .before .before .before .before .before .before .write-cells .ensures) (swept .0, swept .1) (c .before .before .before .before .groups .ensures) (pre .1) (pre .2) (pre .3) (pre .4) (pre .5)
+    let swept = c .before .before .before .before .before .before .before in
+    let pieced = swept .before .before .before .before .before .before .before .before .before in
+    let stroked = pieced .before .before .before .before .before .before in
+    let flat = stroked .before .before .before .before .before .before .before .before in
+    let room = flat .before .before .before .before .before .before .before .before .before .before .before .before .before .pre .1 in
+    painted-laid _ _ _ _ _ _ _ _ _ _ _ _ _ _ _ _ _ _ _ _ _ (flat .flatten .ensures) (stroked .write-strokes .ensures) (pieced .write-pieces .ensures)
+    (swept .sweep-classes .ensures .0, swept .sweep-classes .ensures .1) (room .1, room .2, room .3, room .4, room .5) (omega arith)
+
+groups-requires : tie.Need-groups-requires
+groups-requires c κs =
+    let swept = c .before .before .before .before .before .before .before .before .before .before .before in
+    let stroked = swept .before .before .before .before .before .before .before .before .before .before .before .before .before .before .before in
+    let flat = stroked .before .before .before .before .before .before .before .before in
+    let room = flat .before .before .before .before .before .before .before .before .before .before .before .before .before .pre .1 in
+    let spans = flat .flatten .ensures .3 in (
+      omega (arith, room, spans, flat .flatten .kept .0),
+      omega (arith, room, spans, flat .flatten .kept .1 .0),
+      omega (arith, room, spans, stroked .write-strokes .kept .0, swept .sweep-classes .kept .1 .0),
+      omega (arith, room, spans, swept .sweep-classes .ensures .2),
+    )
+
+same-length-7 : tie.Need-same-length-7
+same-length-7 c = search needs
+
+same-length-8 : tie.Need-same-length-8
+same-length-8 c =
+    let swept = c .before .before .before .before .before .before .before .before .before .before .before .before .before .before .before .before in
+    let stroked = swept .before .before .before .before .before .before .before .before .before .before .before .before .before .before .before in
+    stroked .before .before .before .before .before .before .before .before .flatten .kept .0
+
+same-length-9 : tie.Need-same-length-9
+same-length-9 c =
+    let swept = c .before .before .before .before .before .before .before .before .before .before .before .before .before .before .before .before in
+    let stroked = swept .before .before .before .before .before .before .before .before .before .before .before .before .before .before .before in
+    stroked .before .before .before .before .before .before .before .before .flatten .kept .1 .0
+
+same-length-10 : tie.Need-same-length-10
+same-length-10 c = search needs
+
+same-length-11 : tie.Need-same-length-11
+same-length-11 c = search needs
+
+same-length-12 : tie.Need-same-length-12
+same-length-12 c = search needs
+
+returns-2 : tie.Need-returns-2
+returns-2 c =
+    let grouped = c .before .before .before .before in
+    let swept = grouped .before .before .before .before .before .before .before .before .before .before .before .before in
+    let pieced = swept .before .before .before .before .before .before .before .before .before in
+    let stroked = pieced .before .before .before .before .before .before in
+    let flat = stroked .before .before .before .before .before .before .before .before in
+    let room = flat .before .before .before .before .before .before .before .before .before .before .before .before .before .pre .1 in
+    grouped-laid _ _ _ _ _ _ _ _ _ _ _ _ _ _ _ _ _ _ _ _ _ (flat .flatten .ensures) (stroked .write-strokes .ensures) (pieced .write-pieces .ensures)
+    (swept .sweep-classes .ensures .0, swept .sweep-classes .ensures .1) (room .1, room .2, room .3, room .4, room .5) _ _ (grouped .groups .ensures)
 
 pub normalize-time-rules-spec : {M : Type 1} → statement M
 normalize-time-rules-spec =
@@ -100,16 +120,20 @@ normalize-time-rules-spec =
     (tie.spec
     flatten-requires
     write-strokes-requires
-    write-cuts-requires
-    sub-write-cells
-    write-cells-requires
-    sub-sweep-classes
+    write-pieces-requires
     sweep-classes-requires
-    groups-requires
     same-length
     same-length-2
     same-length-3
     same-length-4
     same-length-5
     same-length-6
-    returns)
+    returns
+    groups-requires
+    same-length-7
+    same-length-8
+    same-length-9
+    same-length-10
+    same-length-11
+    same-length-12
+    returns-2)

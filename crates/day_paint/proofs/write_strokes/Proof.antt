@@ -1,5 +1,4 @@
 -- `day_paint::write_strokes` meets its contract.
--- Assumes nothing.
 use mathlib.Core.Path.{_≡_, refl, sym, _∙_}
 use mathlib.Core.List.{[]}
 use Prim.Native.Nat.{_+_, _-_, _≤_}
@@ -7,18 +6,20 @@ use native.Mathlib.Omega.{arith}
 use lib.ListN.{length, length-set}
 use borrow.Author.Needs.{needs}
 use Rattle.day_paint.specs.Stroke.{strokesFrom}
-use Rattle.day_paint.proofs.StrokeWays.{Finishes, list-paints, list-runs, list-ends}
+use Rattle.day_paint.proofs.StrokeWays.{Finishes, list-starts, list-paints, list-runs, list-ends}
 use Rattle.day_paint.proofs.write_strokes.Statement.{statement}
 use Rattle.day_paint.proofs.write_strokes.Tie as tie
 
 abbrev Inv-loop : tie.InvT-loop
-Inv-loop strokes₀ k states spans i n next₀ place₀ strokes next place = (place + (n - next) ≤ length strokes) × (length strokes ≡ length strokes₀) × Finishes strokes place (strokesFrom states spans next (n - next)) strokes₀ k (strokesFrom states spans i (n - i))
+Inv-loop strokes₀ states spans n next₀ place₀ strokes next place =
+    (place + (n - next) ≤ length strokes) × (length strokes ≡ length strokes₀)
+    × Finishes strokes place (strokesFrom states spans next (n - next)) strokes₀ 0 (strokesFrom states spans 0 n)
 
 abbrev μ-loop : tie.MeasureT-loop
-μ-loop strokes₀ k states spans i n next₀ place₀ strokes next place = n - next
+μ-loop strokes₀ states spans n next₀ place₀ strokes next place = n - next
 
 loop-holds : tie.Need-loop-holds Inv-loop μ-loop
-loop-holds c = (omega arith, refl, λ t r l. l)
+loop-holds c = (omega arith, refl, list-starts _ _ _ _)
 
 mul-p : tie.Need-mul-p Inv-loop μ-loop
 mul-p c = search needs
@@ -54,7 +55,14 @@ loop-less : tie.Need-loop-less Inv-loop μ-loop
 loop-less c = search needs
 
 loop-again : tie.Need-loop-again Inv-loop μ-loop
-loop-again c = (simp length-set (omega arith), simp length-set (c .before .before .before .before .before .before .loop .inv .1), λ t r l. c .before .before .before .before .before .before .loop .inv .2 t r (list-paints (c .before .before .before .before .before .before .before .before .before .before .args .states .now) (c .before .before .before .before .before .before .before .before .before .before .args .spans .now) (c .before .before .before .before .before .before .loop .strokes) t (c .before .before .before .before .before .before .loop .place) r (c .before .before .before .before .before .before .loop .next) (c .before .before .before .before .before .before .before .before .before .before .args .n) (omega arith) (sym (c .before .before .is-simple .ensures) ∙ c .before .if1 .taken) _ (c .stroke .ensures) l))
+loop-again c =
+    let on = c .before .before .before .before .before .before .loop in
+    let start = c .before .before .before .before .before .before .before .before .before .before in (
+      simp length-set (omega arith),
+      simp length-set (on .inv .1),
+      λ t r l. on .inv .2 t r (list-paints (start .args .states .now) (start .args .spans .now) (on .strokes) t (on .place) r (on .next) (start .args .n) (omega arith)
+          (sym (c .before .before .is-simple .ensures) ∙ c .before .if1 .taken) _ (c .stroke .ensures) l),
+    )
 
 write-run-strokes-requires : tie.Need-write-run-strokes-requires Inv-loop μ-loop
 write-run-strokes-requires c κs = search needs
@@ -63,13 +71,18 @@ same-length : tie.Need-same-length Inv-loop μ-loop
 same-length c = c .before .before .write-run-strokes .kept .0 ∙ c .before .before .before .before .before .before .before .before .before .loop .inv .1
 
 returns : tie.Need-returns Inv-loop μ-loop
-returns c = c .before .before .before .before .before .before .before .before .before .loop .inv .2 _ _ (list-runs _ _ _ _ _ _ _ _ (omega arith) (sym (c .before .before .before .before .before .is-simple .ensures) ∙ c .before .before .before .before .if1 .left) (c .before .before .write-run-strokes .ensures))
+returns c =
+    let written = c .before .before in
+    let other = written .before .before in
+    let found = sym (other .before .is-simple .ensures) ∙ other .if1 .left in
+    let laid = other .before .before .before .before .before .loop .inv .2 _ _ (list-runs _ _ _ _ _ _ _ _ (omega arith) found (written .write-run-strokes .ensures)) in
+    (laid .0, omega (arith, laid .1))
 
 same-length-2 : tie.Need-same-length-2 Inv-loop μ-loop
 same-length-2 c = c .before .loop .inv .1
 
 returns-2 : tie.Need-returns-2 Inv-loop μ-loop
-returns-2 c = c .before .loop .inv .2 _ _ (list-ends _ _ _ [] _ 0 _ _ (omega arith))
+returns-2 c = let laid = c .before .loop .inv .2 _ _ (list-ends _ _ _ [] _ 0 _ _ (omega arith)) in (laid .0, omega (arith, laid .1))
 
 pub write-strokes-spec : {M : Type 1} → statement M
 write-strokes-spec =

@@ -1,0 +1,117 @@
+-- `canonical_time::flatten::flatten` meets its contract.
+use Prim.Native.Nat.{_-_}
+use native.Mathlib.Omega.{arith}
+use borrow.Author.Needs.{needs}
+use Rattle.canonical_time.proofs.FlattenWays.{FlatOn, flat-start, flat-on, flat-done, named-rule}
+use Rattle.canonical_time.proofs.flatten.flatten.Statement.{statement}
+use Rattle.canonical_time.proofs.flatten.flatten.Tie as tie
+
+abbrev Inv-loop : tie.InvT-loop
+Inv-loop stated₀ spanned₀ states counts spans list n next₀ place₀ stated spanned next place = FlatOn states counts spans list n stated₀ spanned₀ next place stated spanned
+
+abbrev μ-loop : tie.MeasureT-loop
+μ-loop stated₀ spanned₀ states counts spans list n next₀ place₀ stated spanned next place = n - next
+
+loop-holds : tie.Need-loop-holds Inv-loop μ-loop
+loop-holds c = flat-start _ _ _ _ _ _ _ (c .before .before .before .before .before .before .pre .1)
+
+mul-index : tie.Need-mul-index Inv-loop μ-loop
+mul-index c = search needs
+
+shared-slice-read-index : tie.Need-shared-slice-read-index Inv-loop μ-loop
+shared-slice-read-index c = search needs
+
+index-requires : tie.Need-index-requires Inv-loop μ-loop
+index-requires c κs = search needs
+
+shared-slice-read-count : tie.Need-shared-slice-read-count Inv-loop μ-loop
+shared-slice-read-count c =
+    let rule = c .before in
+    let start = rule .before .before .before .before .before .before .before .before .before .before in
+    named-rule _ _ _ _ (start .pre .0) _ _ (rule .before .before .loop-test .taken) (rule .index .ensures .0) .1
+
+count-requires : tie.Need-count-requires Inv-loop μ-loop
+count-requires c κs = search needs
+
+mul-push-spans : tie.Need-mul-push-spans Inv-loop μ-loop
+mul-push-spans c = search needs
+
+shared-slice-read-push-spans : tie.Need-shared-slice-read-push-spans Inv-loop μ-loop
+shared-slice-read-push-spans c =
+    let rule = c .before .before .before .before .before in
+    let start = rule .before .before .before .before .before .before .before .before .before .before in
+    named-rule _ _ _ _ (start .pre .0) _ _ (rule .before .before .loop-test .taken) (rule .index .ensures .0) .0
+
+mul-push-spans-2 : tie.Need-mul-push-spans-2 Inv-loop μ-loop
+mul-push-spans-2 c = search needs
+
+mul-push-spans-3 : tie.Need-mul-push-spans-3 Inv-loop μ-loop
+mul-push-spans-3 c = search needs
+
+add-push-spans : tie.Need-add-push-spans Inv-loop μ-loop
+add-push-spans c =
+    let count = c .before .before .before in
+    let rule = count .before .before in
+    let start = rule .before .before .before .before .before .before .before .before .before .before in
+    omega (arith, start .pre .0 .few (rule .index .result), count .count .ensures, rule .index .ensures)
+
+push-spans-requires : tie.Need-push-spans-requires Inv-loop μ-loop
+push-spans-requires c κs =
+    let count = c .before .before .before in
+    let rule = count .before .before in
+    let start = rule .before .before .before .before .before .before .before .before .before .before in
+    let more = rule .before .before .loop-test .taken in
+    let named = named-rule _ _ _ _ (start .pre .0) _ _ more (rule .index .ensures .0) in
+    let few = start .pre .0 .few (rule .index .result) in
+    let room = rule .before .before .before .loop .inv .room in
+    (omega (arith, few, count .count .ensures, room .0, more), omega (arith, few, count .count .ensures, room .1, more), omega (arith, few, count .count .ensures, named .2))
+
+add-next : tie.Need-add-next Inv-loop μ-loop
+add-next c = search needs
+
+loop-less : tie.Need-loop-less Inv-loop μ-loop
+loop-less c = search needs
+
+loop-again : tie.Need-loop-again Inv-loop μ-loop
+loop-again c =
+    let pushed = c .before .before .before .before in
+    let count = pushed .before .before .before .before in
+    let rule = count .before .before in
+    let more = rule .before .before in
+    let few = more .before .before .before .before .before .before .before .before .pre .0 .few (rule .index .result) in
+    flat-on _ _ _ _ _ _ _ _ _ _ _ (more .before .loop .inv) (more .loop-test .taken) _ _ (rule .index .ensures .0) (count .count .ensures) (omega (arith, few, count .count .ensures)) _ _ _
+    (pushed .push-spans .ensures) (pushed .push-spans .kept .0, pushed .push-spans .kept .1 .0)
+
+same-length : tie.Need-same-length Inv-loop μ-loop
+same-length c = c .before .loop .inv .lengths .0
+
+same-length-2 : tie.Need-same-length-2 Inv-loop μ-loop
+same-length-2 c = c .before .loop .inv .lengths .1
+
+returns : tie.Need-returns Inv-loop μ-loop
+returns c = flat-done _ _ _ _ _ _ _ _ _ _ _ (c .before .loop .inv) (omega arith)
+
+pub flatten-spec : {M : Type 1} → statement M
+flatten-spec =
+    tie.close
+    (tie.spec
+    Inv-loop
+    μ-loop
+    loop-holds
+    mul-index
+    shared-slice-read-index
+    index-requires
+    shared-slice-read-count
+    count-requires
+    mul-push-spans
+    shared-slice-read-push-spans
+    mul-push-spans-2
+    mul-push-spans-3
+    add-push-spans
+    push-spans-requires
+    add-next
+    loop-less
+    loop-again
+    same-length
+    same-length-2
+    returns)
