@@ -75,15 +75,18 @@ module _ (x a b : ℕ) where
   unfolding meets
   off h = le-ltb (meetsFrom x a) (meetsUpTo x b) h
 
+  bounds : (a ≤ meetsFrom x a) × (strokeStart x ≤ meetsFrom x a) × (meetsUpTo x b ≤ strokeEnd x) × (meetsUpTo x b ≤ b)
+  bounds = omega (arith, later-bound a (strokeStart x), earlier-bound (strokeEnd x) b)
+
   -- it ended before, it begins after, or the range has no minutes
   pub meets-past : strokeEnd x ≤ a → meets x a b ≡ false
-  meets-past h = off (omega (arith, later-bound a (strokeStart x), earlier-bound (strokeEnd x) b))
+  meets-past h = off (omega (arith, bounds))
 
   pub meets-before : b ≤ strokeStart x → meets x a b ≡ false
-  meets-before h = off (omega (arith, later-bound a (strokeStart x), earlier-bound (strokeEnd x) b))
+  meets-before h = off (omega (arith, bounds))
 
   pub meets-none : b ≤ a → meets x a b ≡ false
-  meets-none h = off (omega (arith, later-bound a (strokeStart x), earlier-bound (strokeEnd x) b))
+  meets-none h = off (omega (arith, bounds))
 
   -- otherwise it meets it, unless it has no minutes itself
   pub meets-in : a < b → a < strokeEnd x → strokeStart x < b → ltb (strokeStart x) (strokeEnd x) ≡ meets x a b
@@ -94,8 +97,7 @@ module _ (x a b : ℕ) where
           let s : strokeStart x < strokeEnd x = ltb-true (strokeStart x) (strokeEnd x) e in
           sym (meets-at (later-or (λ v. v < meetsUpTo x b) a (strokeStart x)
           (λ l. earlier-or (λ v. a < v) (strokeEnd x) b (λ m. h) (λ m. u)) (λ l. earlier-or (λ v. strokeStart x < v) (strokeEnd x) b (λ m. s) (λ m. k))))
-      go false e =
-          sym (off (omega (arith, ltb-false (strokeStart x) (strokeEnd x) e, later-bound a (strokeStart x), earlier-bound (strokeEnd x) b)))
+      go false e = sym (off (omega (arith, ltb-false (strokeStart x) (strokeEnd x) e, bounds)))
 
 -- ## The last stroke that meets a range
 module _ (q : List ℕ) (a b : ℕ) where

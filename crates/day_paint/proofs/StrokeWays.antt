@@ -2,32 +2,18 @@
 use mathlib.Core.Path.{_≡_, sym, ap, _∙_}
 use mathlib.Core.List.{List, [], _∷_}
 use mathlib.Core.Bool.{true, false}
-use Prim.Native.Nat.{ℕ, suc, _+_, _*_, _-_, _/_, _%_, _≤_, _<_}
+use Prim.Native.Nat.{ℕ, _+_, _*_, _-_, _/_, _%_, _≤_, _<_}
 use native.Mathlib.Omega.{arith}
-use lib.ListN.{length, getD, set}
-use lib.Seq.{sets}
+use lib.ListN.{getD, set}
 use borrow.Author.Tests.{eq-eqb, ne-eqb}
 use Rattle.definition.specs.Day.{simple}
 use Rattle.span_number.specs.Number.{spanAt}
 use Rattle.day_paint.specs.Stroke.{strokeNumber, strokesOfRun, strokesFrom}
-use Rattle.words.proofs.Sets.{left-in, left-none, sets-next}
-
--- a text laid from k on, and the place after it
-abbrev pub Laid : List ℕ → List ℕ → ℕ → ℕ → List ℕ → Type 0
-Laid s t k r words = (t ≡ sets s k words) × (r ≡ k + length words)
+use Rattle.words.proofs.Sets.{Laid, none-laid, same-laid, one-laid, left-in, left-none}
 
 -- whatever lays the rest lays the whole
 abbrev pub Finishes : List ℕ → ℕ → List ℕ → List ℕ → ℕ → List ℕ → Type 0
 Finishes s k rest s₀ k₀ words = (t : List ℕ) (r : ℕ) → Laid s t k r rest → Laid s₀ t k₀ r words
-
-none-laid : (s : List ℕ) (k : ℕ) (words : List ℕ) → words ≡ [] → Laid s s k k words
-none-laid s k words e = (sym (ap (sets s k) e), let h : k ≡ k + 0 = omega arith in h ∙ sym (ap (λ w. k + length w) e))
-
-same-laid : (s t : List ℕ) (k r : ℕ) (words more : List ℕ) → words ≡ more → Laid s t k r more → Laid s t k r words
-same-laid s t k r words more e h = (h .0 ∙ ap (sets s k) (sym e), h .1 ∙ ap (λ w. k + length w) (sym e))
-
-one-laid : (s t : List ℕ) (k r x : ℕ) (words : List ℕ) → Laid (set s k x) t (k + 1) r words → Laid s t k r (x ∷ words)
-one-laid s t k r x words h = (h .0 ∙ sets-next s k x words, let e : k + 1 + length words ≡ k + suc (length words) = omega arith in h .1 ∙ e)
 
 module _ (xs ps : List ℕ) (q t : List ℕ) (k r i n : ℕ) where
   module _ (S : ℕ) where

@@ -16,7 +16,7 @@ use Rattle.definition.specs.Day.{stateClass}
 use Rattle.span_number.specs.Number.{stateAt, partsNumber}
 use Rattle.words.specs.Words.{part, entryWords}
 use Rattle.day_row.specs.Row.{runUpTo, runsFrom, clearFrom, isOfClass, classWords, classLeft, classesWords, allClosed}
-use Rattle.words.proofs.Sets.{left-in, left-none, part-sets, length-part}
+use Rattle.words.proofs.Sets.{Laid, none-laid, left-in, left-none, part-sets, length-part}
 
 -- words laid from a place on, and how many
 abbrev pub Counted : List ℕ → List ℕ → ℕ → ℕ → List ℕ → Type 0
@@ -144,13 +144,6 @@ module _ (cs : List ℕ) (class n : ℕ) (s₀ : List ℕ) (at : ℕ) (vs₀ : L
             }
 
 -- ## Class after class
--- words laid from a place on, and the place after them
-abbrev Laid : List ℕ → List ℕ → ℕ → ℕ → List ℕ → Type 0
-Laid s t at r words = (t ≡ sets s at words) × (r ≡ at + length words)
-
-none-laid : (s : List ℕ) (at : ℕ) (words : List ℕ) → words ≡ [] → Laid s s at at words
-none-laid s at words e = (sym (ap (sets s at) e), omega (arith, ap length e))
-
 module _ (cs vs : List ℕ) (n class : ℕ) (s : List ℕ) (at : ℕ) where
   classes-more : class ≤ 5 → (s₁ us : List ℕ) (next : ℕ) → Swept s s₁ at next (classWords cs class vs 0 (n - 0)) us (classLeft class vs 0 (n - 0)) → (t : List ℕ) (r : ℕ)
       → Laid s₁ t next r (classesWords cs n (class + 1) us (6 - (class + 1))) → Laid s t at r (classesWords cs n class vs (6 - class))

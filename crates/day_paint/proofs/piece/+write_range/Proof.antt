@@ -71,7 +71,8 @@ pub +write-range-spec : {M : Type 1} → statement M
     let put = c .before .before .before .before in
     let none = put .before .before .before in
     let last = none .before in
-    bare-laid _ _ _ _ _ _ _ _ _ _ _ _ (last .before .before .loop .inv) _ (last .last-meeting .ensures) (omega (arith, none .if1 .taken)) (last .before .loop-test .taken) _ _ _ (put .put-piece .ensures))
+    bare-laid _ _ _ _ _ _ _ _ _ _ _ _ (last .before .before .loop .inv) _ (last .last-meeting .ensures) (omega (arith, none .if1 .taken)) (last .before .loop-test .taken) _ _ _
+    (put .put-piece .ensures))
     -- the last one that meets it
     (λ c. search needs)
     (λ c.
@@ -80,7 +81,12 @@ pub +write-range-spec : {M : Type 1} → statement M
     (λ c.
     let some = c .before in
     let last = some .before in
-    omega (arith, fewer-still _ _ _ _ _ _ _ _ _ _ _ _ (last .before .before .loop .inv) _ (last .last-meeting .ensures), last .before .before .before .before .before .before .pre .1 .0, some .if1 .left))
+    omega (
+      arith,
+      fewer-still _ _ _ _ _ _ _ _ _ _ _ _ (last .before .before .loop .inv) _ (last .last-meeting .ensures),
+      last .before .before .before .before .before .before .pre .1 .0,
+      some .if1 .left,
+    ))
     (λ c κs. search needs)
     -- what lies to its left
     (λ c. search needs)
@@ -110,8 +116,8 @@ pub +write-range-spec : {M : Type 1} → statement M
     let began = now .before in
     let some = began .before .before in
     let last = some .before in
-    let room = own-room _ _ _ _ _ _ _ _ _ _ _ _ (last .before .before .loop .inv) _ (last .last-meeting .ensures) (some .if1 .left) _ (began .stroke-start .ensures) (omega (arith, now .if2 .left)) _ _ _
-    refl refl refl in
+    let room = own-room _ _ _ _ _ _ _ _ _ _ _ _ (last .before .before .loop .inv) _ (last .last-meeting .ensures) (some .if1 .left) _ (began .stroke-start .ensures) (omega (arith, now .if2 .left))
+    _ _ _ refl refl refl in
     (omega (arith, room .0), omega (arith, room .1)))
     (λ c. search needs)
     (λ c κs. search needs)
@@ -123,8 +129,8 @@ pub +write-range-spec : {M : Type 1} → statement M
     let began = now .before in
     let some = began .before .before in
     let last = some .before in
-    let beyond = shows-on _ _ _ _ _ _ _ _ _ _ _ _ (last .before .before .loop .inv) _ (last .last-meeting .ensures) (some .if1 .left) _ (began .stroke-start .ensures) (omega (arith, now .if2 .left)) _ _ _
-    (stated .stroke-state .ensures) (ended .stroke-end .ensures) (c .earlier-of .ensures) in
+    let beyond = shows-on _ _ _ _ _ _ _ _ _ _ _ _ (last .before .before .loop .inv) _ (last .last-meeting .ensures) (some .if1 .left) _ (began .stroke-start .ensures) (omega (arith, now .if2 .left))
+    _ _ _ (stated .stroke-state .ensures) (ended .stroke-end .ensures) (c .earlier-of .ensures) in
     omega (arith, beyond, last .before .loop-test .taken))
     (λ c.
     let ended = c .before in
@@ -134,8 +140,8 @@ pub +write-range-spec : {M : Type 1} → statement M
     let began = now .before in
     let some = began .before .before in
     let last = some .before in
-    own-on _ _ _ _ _ _ _ _ _ _ _ _ (last .before .before .loop .inv) _ (last .last-meeting .ensures) (some .if1 .left) _ (began .stroke-start .ensures) (omega (arith, now .if2 .left)) _ _ _
-    (stated .stroke-state .ensures) (ended .stroke-end .ensures) (c .earlier-of .ensures) _ _ _ (put .put-piece2 .ensures) (put .put-piece2 .kept .0, put .put-piece2 .kept .1 .0))
+    own-on _ _ _ _ _ _ _ _ _ _ _ _ (last .before .before .loop .inv) _ (last .last-meeting .ensures) (some .if1 .left) _ (began .stroke-start .ensures) (omega (arith, now .if2 .left))
+    _ _ _ (stated .stroke-state .ensures) (ended .stroke-end .ensures) (c .earlier-of .ensures) _ _ _ (put .put-piece2 .ensures) (put .put-piece2 .kept .0, put .put-piece2 .kept .1 .0))
     -- nothing is left
     (λ c. c .before .loop .inv .lengths .0)
     (λ c. c .before .loop .inv .lengths .1)
