@@ -1,4 +1,4 @@
--- The ways out of successor and predecessor, once over the bounds: the proofs of `succ` and `pred` of each kind cite them.
+-- One lemma for each return of successor and predecessor, once over the bounds: the proofs of `succ` and `pred` of each kind cite them.
 -- Assumes nothing.
 use mathlib.Core.Path.{_≡_}
 use mathlib.Core.Option.{none, some}

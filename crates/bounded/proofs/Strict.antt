@@ -1,15 +1,12 @@
--- The ways out of splitting and of the way back, once over the bounds; and that the way back gives a rule's items from runs.
+-- One lemma for each return of splitting and of the way back, once over the bounds.
 -- Assumes nothing.
-use mathlib.Core.Path.{_≡_, refl, sym, ap, ap₂}
-use mathlib.Core.List.{List, [], _∷_, map}
+use mathlib.Core.Path.{_≡_, ap}
+use mathlib.Core.List.{[], _∷_}
 use mathlib.Core.Option.{none, some}
-use mathlib.Core.Bool.{false}
 use Prim.Native.Nat.{suc, _-_, _≤_, _<_}
 use borrow.Author.Tests.{lt-ltb, le-ltb}
-use Rattle.laws.specs.Lists.{All}
-use Rattle.grid.specs.Cut.{Range, sameRange}
+use Rattle.grid.specs.Cut.{Range}
 use Rattle.definition.specs.Range.{Ends, split}
-use Rattle.definition.specs.Group.{itemsOf}
 use Rattle.bounded.specs.Strict.{strict, inclusive}
 
 module _ (bounds : Range) (e : Ends) (r : Range) (q : r ≡ strict e) where
@@ -29,13 +26,3 @@ module _ (r : Range) where
   pub inclusive-none : r .1 ≤ r .0 → none ≡ inclusive r
   unfolding inclusive
   inclusive-none h = simp (le-ltb _ _ h)
-
-map-inclusive : (rs : List Range) → All (λ r. r .0 < r .1) rs → map inclusive rs ≡ map some (map (λ q. (q .0, q .1 - 1)) rs)
-map-inclusive [] h = refl
-map-inclusive (r ∷ rs) h = ap₂ _∷_ (sym (inclusive-some r (h .0))) (map-inclusive rs (h .1))
-
--- the items that a group's runs are written as, run by run, unless the first run is the whole dimension
-pub items-inclusive : (bounds r : Range) (rs : List Range) → sameRange r bounds ≡ false → All (λ q. q .0 < q .1) (r ∷ rs)
-    → map inclusive (r ∷ rs) ≡ map some (itemsOf bounds (r ∷ rs))
-unfolding itemsOf
-items-inclusive bounds r rs f h = rw (f, itemsOf) (map-inclusive (r ∷ rs) h)

@@ -1,39 +1,20 @@
--- Splitting, over any bounds: a value lies in just one of an item's ranges where the item, wrapping or not, has it, and in none elsewhere;
--- the ranges have values, lie apart and stay within the bounds; an item that starts at its end's successor has every value.
+-- Splitting, over any bounds: a value lies in just one of an item's ranges where the item, wrapping or not, has it, and in none elsewhere.
 -- Assumes nothing.
 use mathlib.Core.Path.{_≡_, refl, sym, ap, _∙_}
 use mathlib.Core.List.{List, [], _∷_}
 use mathlib.Core.Bool.{Bool, true, false, _&&_, _||_, cond}
-use Prim.Native.Nat.{ℕ, suc, _+_, _-_, _≤_, _<_}
+use Prim.Native.Nat.{ℕ, _+_}
 use native.Mathlib.Nat.{zero-add}
 use native.Mathlib.Omega.{arith}
 use lib.Dec.{leb, ltb, leb·suc-suc}
-use borrow.Author.Tests.{ltb-true, ltb-false, leb-true, leb-false, le-leb, lt-leb, lt-ltb}
-use Rattle.laws.specs.Lists.{anyOf, count, All}
+use borrow.Author.Tests.{leb-true, leb-false, lt-ltb}
+use Rattle.laws.specs.Lists.{anyOf, count}
 use Rattle.laws.proofs.Flags.{split-and}
 use Rattle.grid.specs.Cut.{Range, holds}
-use Rattle.grid.proofs.Interval.{Rising}
-use Rattle.grid.proofs.Cut.{holds-in}
 use Rattle.definition.specs.Range.{Ends, split}
-use Rattle.definition.proofs.Lawful.{Bounded}
 use Rattle.bounded.specs.Strict.{strict}
 use Rattle.bounded.specs.Wrap.{lies}
 use Rattle.bounded.proofs.Strict.{split-one, split-two}
-
--- an item within the bounds has ranges that have values, rise and lie apart, and stay within the bounds
-pub split-rising : (b : Range) (e : Ends) → Bounded b e → Rising (b .0) (split b e) × All (λ r. r .1 ≤ b .1) (split b e)
-unfolding split
-split-rising b e h = go (ltb (e .0) (suc (e .1))) refl
-  where
-    first : (b .0 ≤ e .0) × (e .0 < b .1)
-    first = holds-in (e .0) b (h .0)
-
-    last : (b .0 ≤ e .1) × (e .1 < b .1)
-    last = holds-in (e .1) b (h .1)
-
-    go : (t : Bool) → ltb (e .0) (suc (e .1)) ≡ t → Rising (b .0) (split b e) × All (λ r. r .1 ≤ b .1) (split b e)
-    go true k = rw (k, split) (omega (arith, first, last, ltb-true (e .0) (suc (e .1)) k))
-    go false k = rw (k, split) (omega (arith, first, last, ltb-false (e .0) (suc (e .1)) k))
 
 -- some element passes where one or more do
 any-count : {A : Type 0} (t : A → Bool) (D : List A) → anyOf t D ≡ ltb 0 (count t D)
@@ -83,17 +64,3 @@ module _ (b : Range) (e : Ends) (x : ℕ) (h : holds x b ≡ true) where
       same : (f : Bool) → ltb 0 (cond f 1 0) ≡ f
       same true = refl
       same false = refl
-
--- an item that starts at its end's successor has every value
-pub lies-all : (last x : ℕ) → lies (suc last, last) x ≡ true
-unfolding lies
-lies-all last x = rw (lt-leb (suc last) last (omega arith), lies) (go (leb x last) refl)
-  where
-    go : (t : Bool) → leb x last ≡ t → leb x last || leb (suc last) x ≡ true
-    go true k = rw k
-    go false k = rw k (le-leb (suc last) x (omega (arith, leb-false x last k)))
-
--- the way back: a range's first and last value split into the range
-pub split-inclusive : (b r : Range) → r .0 < r .1 → split b (r .0, r .1 - 1) ≡ r ∷ []
-split-inclusive b r h =
-    let q : r .1 ≡ suc (r .1 - 1) = omega arith in sym (split-one b (r .0, r .1 - 1) r (ap (λ (n : ℕ). (r .0, n)) q) h)

@@ -9,12 +9,12 @@ use lib.Seq.{drop-cons, sets}
 use Rattle.definition.specs.Day.{day}
 use Rattle.words.specs.Words.{part}
 use Rattle.day_words.specs.Day.{flat, listRules}
-use Rattle.canonical_time.specs.Flatten.{Tables}
+use Rattle.tables.specs.Days.{Tables, boxWords, Ready}
 use Rattle.words.proofs.Sets.{part-sets}
-use Rattle.paving_update.specs.Update.{listPlaces, listLimit}
-use Rattle.paving_update.specs.Boxes.{listOf}
-use Rattle.paving_update.proofs.Drawing.{list-length}
-use Rattle.box_day.specs.Boxes.{boxWords, Ready, Scratch}
+use Rattle.tables.specs.Sizes.{listPlaces, listLimit}
+use Rattle.tables.specs.Lists.{listOf}
+use Rattle.tables.proofs.Lists.{list-length}
+use Rattle.box_day.specs.Boxes.{Scratch}
 use Rattle.list_memory.proofs.Lists.{list-part}
 
 part-taken : (s : List ℕ) (at n : ℕ) → at + n ≤ length s → take n (drop at s) ≡ part s at n

@@ -4,7 +4,8 @@ use mathlib.Core.Path.{_≡_, sym, subst}
 use mathlib.Core.List.{List}
 use Prim.Native.Nat.{ℕ, _<_}
 use native.Mathlib.Omega.{arith}
-use Rattle.box_day.specs.Boxes.{Ready, Scratch}
+use Rattle.box_day.specs.Boxes.{Scratch}
+use Rattle.tables.specs.Days.{Ready}
 
 pub ready-kept : (states counts spans lists : List ℕ) (box : ℕ → ℕ) (many room room′ : ℕ) → room′ ≡ room → ((r : ℕ) → r < many → Ready states counts spans lists room (box r))
     → (r : ℕ) → r < many → Ready states counts spans lists room′ (box r)

@@ -5,7 +5,8 @@ ghost use lib.Dec.{eqb};
 ghost use lib.ListN.{length};
 ghost use Rattle.laws.specs.Tests.{sameList};
 ghost use Rattle.words.specs.Words.{part};
-ghost use Rattle.box_day.specs.Boxes.{boxWords, Ready, Scratch};
+ghost use Rattle.box_day.specs.Boxes.{Scratch};
+ghost use Rattle.tables.specs.Days.{boxWords, Ready};
 
 const LIST_PLACES: usize = 33;
 

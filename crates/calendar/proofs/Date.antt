@@ -62,7 +62,12 @@ year-days y = go (isLeap y)
 pub make-date : (y m d : ℕ) → (1900 ≤ y) × (y < 10000) → (1 ≤ m) × (m < 13) → (1 ≤ d) × (d ≤ monthLength y m) → isDate y m d ≡ true
 unfolding isDate
 make-date y m d years months days =
-    simp (in-holds y yearBounds (years .0) (years .1), in-holds m monthBounds (months .0) (months .1), le-leb 1 d (days .0), le-leb d (monthLength y m) (days .1))
+    simp (
+      in-holds y yearBounds (years .0) (years .1),
+      in-holds m monthBounds (months .0) (months .1),
+      le-leb 1 d (days .0),
+      le-leb d (monthLength y m) (days .1),
+    )
 
 module _ (y m d : ℕ) (h : isDate y m d ≡ true) where
   pub date-year : (1900 ≤ y) × (y < 10000)

@@ -93,7 +93,8 @@ unfolding times
 on-over zero y n l h j = absurd (omega arith)
 on-over (suc k) y n l h j = ⊎-elim next (λ q. same q (on-over k y (suc n) q (omega arith) (omega arith))) (eq-or-lt-of-le l)
   where
-    same : n < yearLength y → times k dayAfter (y, suc n) ≡ (suc y, suc n + k - yearLength y) → times k dayAfter (dayAfter (y, n)) ≡ (suc y, n + suc k - yearLength y)
+    same : n < yearLength y → times k dayAfter (y, suc n) ≡ (suc y, suc n + k - yearLength y)
+        → times k dayAfter (dayAfter (y, n)) ≡ (suc y, n + suc k - yearLength y)
     same q on = let e : suc n + k - yearLength y ≡ n + suc k - yearLength y = omega arith in ap (times k dayAfter) (same-year y n q) ∙ on ∙ rw e
 
     next : n ≡ yearLength y → times k dayAfter (dayAfter (y, n)) ≡ (suc y, n + suc k - yearLength y)

@@ -12,7 +12,7 @@ use lib.Seq.{sets}
 use Rattle.laws.proofs.Flags.{split-or}
 use Rattle.laws.specs.Lists.{anyOf, All}
 use Rattle.grid.specs.Cut.{Range}
-use Rattle.definition.specs.Field.{got, sheetBits, readAll, Layout}
+use Rattle.definition.specs.Field.{got, sheetBits, readAll}
 use Rattle.definition.specs.Rule.{weekdayBounds, weekBounds, monthBounds, yearBounds, YearRange, MonthdayRange, WeekRange, WeekDayRange, Rule}
 use Rattle.definition.specs.Sheet.{yearRange, monthdayRange, weekRange, weekDayRange}
 use Rattle.definition.specs.Range.{ranges}

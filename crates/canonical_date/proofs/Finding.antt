@@ -1,5 +1,4 @@
--- What the walk over the rows answers at a readable rule is what is found there.
--- Assumes nothing.
+-- What the walk over the rows leaves at a readable rule: its days in the tables; and what it answers is what is found there.
 use mathlib.Core.Path.{_≡_, refl, sym, ap, _∙_}
 use mathlib.Core.List.{List}
 use mathlib.Core.Option.{Option, some}
@@ -8,45 +7,52 @@ use Prim.Native.Nat.{ℕ, _+_, _≤_, _<_, _^_}
 use native.Mathlib.Omega.{arith}
 use lib.ListN.{length}
 use Rattle.definition.specs.Field.{sheetBits}
+use Rattle.definition.specs.Rule.{Rule}
 use Rattle.definition.proofs.Bits.{Bytes}
 use Rattle.definition.proofs.Lengths.{rule-short}
 use Rattle.definition.proofs.RuleParts.{RuleParts, rule-parts}
 use Rattle.sheet.specs.Begin.{ruleAt, Readable}
+use Rattle.tables.specs.Rules.{DaysHeld}
 use Rattle.canonical_date.specs.declared.days.Days.{Days}
 use Rattle.canonical_date.specs.declared.days.Days.the-variants.{Spans, Stops}
 use Rattle.canonical_date.specs.Days.{loaded, daysOf, daysLoaded}
-use Rattle.canonical_date.specs.Rule.{daysStop, daysRows, layRows, countRows}
+use Rattle.canonical_date.specs.Rule.{daysStop, daysRows}
 use Rattle.canonical_date.specs.Found.{Loads, Found}
 use Rattle.canonical_date.proofs.ItemFacts.{some-other}
 use Rattle.canonical_date.proofs.DayRows.{count-few}
 use Rattle.canonical_date.proofs.DaysMeaning.{days-pass, days-halt, days-few}
 use Rattle.canonical_date.proofs.Table.{table-selector, table-counts}
 
-module _ (sheet : List ℕ) (b : Bytes sheet) (p : ℕ) (readable : Readable (sheetBits sheet) p) (low : p < 2 ^ 25) (l c l′ c′ : List ℕ) (room : 256 ≤ length l) (seats : 4 ≤ length c) where
-  found-spans : (n q : ℕ) → loaded l′ c′ (some (n, q)) ≡ daysLoaded (sheetBits sheet) p l c → Loads (sheetBits sheet) (ruleAt (sheetBits sheet) p) l c l′ c′ n q
-  found-spans n q e = go (daysStop (ruleAt (sheetBits sheet) p)) refl
-    where
-      w : RuleParts (sheetBits sheet) p (ruleAt (sheetBits sheet) p) (readable .end)
-      w = rule-parts (sheetBits sheet) p (ruleAt (sheetBits sheet) p) (readable .end) (readable .read)
+module _ (sheet : List ℕ) (b : Bytes sheet) (p : ℕ) (readable : Readable (sheetBits sheet) p) (low : p < 2 ^ 25) (l c : List ℕ) (room : 256 ≤ length l) (seats : 4 ≤ length c) where
+  abbrev r : Rule
+  r = ruleAt (sheetBits sheet) p
 
-      go : (t : Bool) → daysStop (ruleAt (sheetBits sheet) p) ≡ t → Loads (sheetBits sheet) (ruleAt (sheetBits sheet) p) l c l′ c′ n q
+  w : RuleParts (sheetBits sheet) p r (readable .end)
+  w = rule-parts (sheetBits sheet) p r (readable .end) (readable .read)
+
+  -- THE RULE'S DAYS stand in the tables
+  pub days-held : daysStop r ≡ false → DaysHeld ((daysLoaded (sheetBits sheet) p l c) .counts) ((daysLoaded (sheetBits sheet) p l c) .ranges) r
+  days-held f =
+      let loads = days-pass (sheetBits sheet) p _ _ w l c f in
+      let few = days-few sheet b p r (readable .end) w f in
+      rw loads (record {
+        selected = table-selector r l c room seats few;
+        few = λ i m. omega (arith, table-counts 0 (daysRows r) c (omega arith) few i (omega arith) (omega arith));
+      })
+
+  found-spans : (l′ c′ : List ℕ) (n q : ℕ) → loaded l′ c′ (some (n, q)) ≡ daysLoaded (sheetBits sheet) p l c → Loads (sheetBits sheet) r n q
+  found-spans l′ c′ n q e = go (daysStop r) refl
+    where
+      go : (t : Bool) → daysStop r ≡ t → Loads (sheetBits sheet) r n q
       go true f = some-other {A = ℕ × ℕ} (n, q) (sym (days-halt (sheetBits sheet) p _ _ w l c f) ∙ sym (ap (λ x. x .spans) e))
       go false f =
-          let r = ruleAt (sheetBits sheet) p in
           let g = e ∙ days-pass (sheetBits sheet) p _ _ w l c f in
           let same : _≡_ {A = Option (ℕ × ℕ)} (some (n, q)) (some (length (r .spans), w .spans-at)) = ap (λ x. x .spans) g in
           let pair : _≡_ {A = ℕ × ℕ} (n, q) (length (r .spans), w .spans-at) = cc in
           let many : n ≡ length (r .spans) = ap (λ v. v .0) pair in
           let place : q ≡ w .spans-at = ap (λ v. v .1) pair in
-          let few = days-few sheet b p r (readable .end) w f in
-          let table : l′ ≡ layRows 0 (daysRows r) l = ap (λ x. x .ranges) g in
-          let counts : c′ ≡ countRows 0 (daysRows r) c = ap (λ x. x .counts) g in
           record {
             passes = f;
-            table = table;
-            counted = counts;
-            selected = rw (table, counts) (table-selector r l c room seats few);
-            few = λ i m. rw counts (omega (arith, table-counts 0 (daysRows r) c (omega arith) few i (omega arith) (omega arith)));
             spans = record {
               many = many;
               few-spans = rw many (count-few (sheetBits sheet) (p + 20) 4 (length (r .spans)) _ (w .count-spans));
@@ -56,12 +62,10 @@ module _ (sheet : List ℕ) (b : Bytes sheet) (p : ℕ) (readable : Readable (sh
             };
           }
 
-  pub found : (v : Days) → loaded l′ c′ (daysOf v) ≡ daysLoaded (sheetBits sheet) p l c → Found (sheetBits sheet) (ruleAt (sheetBits sheet) p) l c l′ c′ v
-  found (Spans n q) e = found-spans n q e
-  found Stops e = go (daysStop (ruleAt (sheetBits sheet) p)) refl
+  pub found : (l′ c′ : List ℕ) (v : Days) → loaded l′ c′ (daysOf v) ≡ daysLoaded (sheetBits sheet) p l c → Found (sheetBits sheet) r v
+  found l′ c′ (Spans n q) e = found-spans l′ c′ n q e
+  found l′ c′ Stops e = go (daysStop r) refl
     where
-      go : (t : Bool) → daysStop (ruleAt (sheetBits sheet) p) ≡ t → daysStop (ruleAt (sheetBits sheet) p) ≡ true
+      go : (t : Bool) → daysStop r ≡ t → daysStop r ≡ true
       go true f = f
-      go false f =
-          let w = rule-parts (sheetBits sheet) p (ruleAt (sheetBits sheet) p) (readable .end) (readable .read) in
-          some-other {A = ℕ × ℕ} (length ((ruleAt (sheetBits sheet) p) .spans), w .spans-at) (ap (λ x. x .spans) (e ∙ days-pass (sheetBits sheet) p _ _ w l c f))
+      go false f = some-other {A = ℕ × ℕ} (length (r .spans), w .spans-at) (ap (λ x. x .spans) (e ∙ days-pass (sheetBits sheet) p _ _ w l c f))

@@ -13,7 +13,7 @@ use Rattle.laws.proofs.Lists.{All-map}
 use Rattle.grid.specs.Cut.{Range}
 use Rattle.grid.proofs.Cut.{Inside}
 use Rattle.definition.specs.Field.{Read, got, refused, sheetBits, Layout}
-use Rattle.definition.specs.Rule.{weekdayBounds, weekBounds, monthBounds, yearBounds, YearRange, months, monthsOf, dated, WeekRange, fixedDays, holiday}
+use Rattle.definition.specs.Rule.{weekdayBounds, weekBounds, monthBounds, yearBounds, months, monthsOf, dated, fixedDays, holiday}
 use Rattle.definition.specs.Sheet.{yearRange, monthdayRange, weekRange, weekDayRange}
 use Rattle.definition.specs.Range.{Ends, split}
 use Rattle.definition.specs.Stop.{everyNth}

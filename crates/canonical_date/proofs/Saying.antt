@@ -9,7 +9,7 @@ use lib.Dec.{eqb}
 use Rattle.laws.specs.Lists.{onlyIf}
 use Rattle.grid.specs.Cut.{Range}
 use Rattle.grid.proofs.Cut.{holds-in}
-use Rattle.definition.specs.Field.{Read, got, refused, sheetBits, Layout}
+use Rattle.definition.specs.Field.{Read, got, refused, sheetBits}
 use Rattle.definition.specs.Rule.{weekdayBounds, weekBounds, monthBounds, yearBounds, YearRange, months, WeekRange, fixedDays}
 use Rattle.definition.specs.Sheet.{yearRange, monthdayRange, weekRange, weekDayRange}
 use Rattle.definition.specs.Range.{Ends, split}

@@ -13,8 +13,7 @@ use Rattle.laws.specs.Lists.{from, All}
 use Rattle.grid.specs.Cut.{Range}
 use Rattle.definition.specs.Rule.{Rule}
 use Rattle.definition.specs.Point.{dimensions, selector}
-use Rattle.paving_update.specs.Update.{rangeOf}
-use Rattle.paving_update.specs.Boxes.{selectorOf}
+use Rattle.tables.specs.Ranges.{rangeOf, selectorOf}
 use Rattle.canonical_date.specs.Row.{flat}
 use Rattle.canonical_date.specs.Rule.{daysRows, layRows, countRows}
 use Rattle.canonical_date.proofs.Flat.{flat-length}

@@ -59,7 +59,7 @@ pub fn rule_ranges(sheet: &[u8], at: usize, ranges: &mut [u16], counts: &mut [u1
     requires { ⌜ Readable (sheetBits (now sheet)) at ⌝ }
     requires { ⌜ (at < 2 ^ 25) × (256 ≤ length (now ranges)) × (4 ≤ length (now counts)) ⌝ }
     ensures { λ r. ⌜ (loaded (now (ranges .exit)) (now (counts .exit)) (daysOf r) ≡ daysLoaded (sheetBits (now (sheet .entry))) at (now (ranges .entry)) (now (counts .entry)))
-        × Found (sheetBits (now (sheet .entry))) (ruleAt (sheetBits (now (sheet .entry))) at) (now (ranges .entry)) (now (counts .entry)) (now (ranges .exit)) (now (counts .exit)) r ⌝ }
+        × Found (sheetBits (now (sheet .entry))) (ruleAt (sheetBits (now (sheet .entry))) at) r ⌝ }
 {
     rows(
         sheet,

@@ -1,5 +1,5 @@
-pub mod FlattenWays
+pub mod FlattenReturns
 pub mod MeanList
 pub mod MeanPieces
 pub mod MeanDay
-pub mod FoldWays
+pub mod FoldReturns

@@ -2,7 +2,7 @@
 use mathlib.Core.Path.{_≡_, refl, sym, ap, ap₂, _∙_, subst}
 use mathlib.Core.List.{List, [], _∷_, _++_, map, append-assoc, map-append}
 use mathlib.Core.Bool.{Bool, true, false}
-use Prim.Native.Nat.{ℕ, zero, suc, _+_, _-_, _≤_, _<_}
+use Prim.Native.Nat.{ℕ, zero, suc, _+_, _≤_, _<_}
 use native.Mathlib.Omega.{arith}
 use lib.Dec.{eqb}
 use lib.ListN.{getD, length, length-map}
@@ -33,14 +33,16 @@ flat-append : (d e : Day) → flat (d ++ e) ≡ flat d ++ flat e
 unfolding flat
 flat-append [] e = refl
 flat-append (x ∷ d) e =
-    ap (entryWords (stateNumber (x .0)) (map spanNumber (x .1)) ++_) (flat-append d e) ∙ sym (append-assoc (entryWords (stateNumber (x .0)) (map spanNumber (x .1))) (flat d) (flat e))
+    ap (entryWords (stateNumber (x .0)) (map spanNumber (x .1)) ++_) (flat-append d e)
+    ∙ sym (append-assoc (entryWords (stateNumber (x .0)) (map spanNumber (x .1))) (flat d) (flat e))
 
 length-left : (c : ℕ) (vs : List ℕ) (j r : ℕ) → length (classLeft c vs j r) ≡ length vs
 unfolding classLeft
 length-left c vs j zero = refl
 length-left c vs j (suc r) = go (isOfClass c (getD vs j 0)) refl (λ ws. length-left c ws (j + 1) r)
   where
-    go : (b : Bool) → isOfClass c (getD vs j 0) ≡ b → ((ws : List ℕ) → length (classLeft c ws (j + 1) r) ≡ length ws) → length (classLeft c vs j (suc r)) ≡ length vs
+    go : (b : Bool) → isOfClass c (getD vs j 0) ≡ b → ((ws : List ℕ) → length (classLeft c ws (j + 1) r) ≡ length ws)
+        → length (classLeft c vs j (suc r)) ≡ length vs
     go true e ih = rw (e, classLeft) (ih (clearFrom vs (getD vs j 0) j (suc r)) ∙ length-clear vs (getD vs j 0) j (suc r))
     go false e ih = rw (e, classLeft) (ih vs)
 
@@ -51,13 +53,15 @@ upFrom c (suc k) = c ∷ upFrom (c + 1) k
 
 module _ (cs : List ℕ) (n : ℕ) (climbs : (k : ℕ) → k < n → getD cs k 0 < getD cs (k + 1) 0) where
   classes-mean : (k c : ℕ) (vs : List ℕ) (f : Map Range State) → 1 ≤ c → n ≤ length vs → Agree cs f vs 0 n
-      → classesWords cs n c vs k ≡ flat (map asEntry (map asJoined (groups sameState sameRange closed (map (λ c S. eqb (stateClass S) c) (upFrom c k)) (intervalsAt cs 0 n ∷ []) f)))
+      → classesWords cs n c vs k
+      ≡ flat (map asEntry (map asJoined (groups sameState sameRange closed (map (λ c S. eqb (stateClass S) c) (upFrom c k)) (intervalsAt cs 0 n ∷ []) f)))
   unfolding classesWords groups upFrom
   classes-mean zero c vs f pos size a = unfold flat in refl
   classes-mean (suc k) c vs f pos size a =
       let t = class-mean cs n climbs c pos n 0 vs f [] (intervalsAt cs 0 n) refl (omega arith) (omega arith) a tt in
       let s : List (Group Range State) × Map Range State = sweep sameState sameRange closed (λ S. eqb (stateClass S) c) (intervalsAt cs 0 n ∷ []) f in
-      let more : List (Group Range State) = groups sameState sameRange closed (map (λ c S. eqb (stateClass S) c) (upFrom (c + 1) k)) (intervalsAt cs 0 n ∷ []) (s .1) in
+      let more : List (Group Range State) =
+      groups sameState sameRange closed (map (λ c S. eqb (stateClass S) c) (upFrom (c + 1) k)) (intervalsAt cs 0 n ∷ []) (s .1) in
       ap₂ _++_ (sym (t .words)) (classes-mean k (c + 1) (classLeft c vs 0 n) (s .1) (omega arith) (omega (arith, length-left c vs 0 n)) (t .left))
       ∙ sym (flat-append (map asEntry (map asJoined (s .0))) (map asEntry (map asJoined more)))
       ∙ ap flat (sym (ap (map asEntry) (map-append asJoined (s .0) more) ∙ map-append asEntry (map asJoined (s .0)) (map asJoined more)))
@@ -130,5 +134,8 @@ module _ (states counts spans list : List ℕ) (i r : ℕ) (xs ps cs vs : List �
   pub day-words : classesWords cs n 1 vs 5 ++ groupWords xs ps 0 N ≡ flat (day (listRules states counts spans list i r))
   unfolding day dayOf
   day-words =
-      ap₂ _++_ (painted-words ∙ ap (λ z. flat (paintedEntries z)) (sym paints)) (groups-mean xs ps 0 N ∙ ap (λ z. flat (map sortedEntry (grouped z))) (sym whole))
-      ∙ sym (flat-append (paintedEntries (painting (flattened (map entryOf (listRules states counts spans list i r))))) (map sortedEntry (grouped (flattened (map entryOf (listRules states counts spans list i r))))))
+      ap₂ _++_ (painted-words ∙ ap (λ z. flat (paintedEntries z)) (sym paints))
+      (groups-mean xs ps 0 N ∙ ap (λ z. flat (map sortedEntry (grouped z))) (sym whole))
+      ∙ sym
+      (flat-append (paintedEntries (painting (flattened (map entryOf (listRules states counts spans list i r)))))
+      (map sortedEntry (grouped (flattened (map entryOf (listRules states counts spans list i r))))))

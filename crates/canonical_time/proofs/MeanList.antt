@@ -21,6 +21,7 @@ pub pairs-list : (states counts spans list : List ℕ) (i r : ℕ)
 unfolding pairs statesFrom spansFrom listRules flattened flatMap
 pairs-list states counts spans list i zero = refl
 pairs-list states counts spans list i (suc r) =
-    pairs-run (getD states (getD list i 0) 0) (getD counts (getD list i 0) 0) (getD list i 0 * 16) spans (statesFrom states counts list (i + 1) r) (spansFrom counts spans list (i + 1) r)
+    pairs-run (getD states (getD list i 0) 0) (getD counts (getD list i 0) 0) (getD list i 0 * 16) spans (statesFrom states counts list (i + 1) r)
+    (spansFrom counts spans list (i + 1) r)
     ∙ ap (stated (stateAt (getD states (getD list i 0) 0), map spanAt (part spans (getD list i 0 * 16) (getD counts (getD list i 0) 0))) ++_)
     (pairs-list states counts spans list (i + 1) r)

@@ -40,7 +40,8 @@ module _ (f : ℕ → ℕ) where
   tiles-all a b [] h = let e : 0 ≡ b - a = omega arith in ap (from a) e
   tiles-all a b (t ∷ P) h =
       let e : suc (t .1 - suc (t .0)) + (b - t .1) ≡ b - a = omega (arith, h .0, h .1, tiles-up f (t .1) b P (h .3)) in
-      ap (block (pieceRange t) ++_) (tiles-all (t .1) b P (h .3)) ∙ from-append (t .0) (suc (t .1 - suc (t .0))) (b - t .1) (t .1) (omega (arith, h .0, h .1)) ∙ ap₂ from (h .0) e
+      ap (block (pieceRange t) ++_) (tiles-all (t .1) b P (h .3)) ∙ from-append (t .0) (suc (t .1 - suc (t .0))) (b - t .1) (t .1)
+      (omega (arith, h .0, h .1)) ∙ ap₂ from (h .0) e
 
   pub tiles-shown : (a b : ℕ) (P : List Piece) → Tiles f a b P → map pieceState P ≡ map f (map pieceStart P)
   tiles-shown a b [] h = refl
@@ -68,15 +69,18 @@ module _ (f : ℕ → ℕ) (P : List Piece) (h : Tiles f 0 1440 P) (g : Map ℕ 
   apart = (rising-apart 0 (map pieceRange P) (tiles-rise f 0 1440 P h), tt)
 
   tests : (os : List (State → Bool)) → All (λ ok. ok closed ≡ false) os
-      → Tests (λ v. v) (λ v. Unit {0}) sameState sameState (λ u v pu pv. refl) sameRange eqb closed closed refl tt (block ∷ []) fills (map pieceRange P ∷ []) apart os os
+      → Tests (λ v. v) (λ v. Unit {0}) sameState sameState (λ u v pu pv. refl) sameRange eqb closed closed refl tt (block ∷ []) fills
+      (map pieceRange P ∷ []) apart os os
   tests [] u = tt
   tests (ok ∷ os) u = (λ v p. refl, u .0, tests os (u .1))
 
   groups-minutes : map (image (λ v. v) (block ∷ [])) (groups sameState sameRange closed stateClasses (map pieceRange P ∷ []) (λ is. g (starts is)))
       ≡ groups sameState eqb closed stateClasses (map coordinates (minuteBounds ∷ [])) g
   groups-minutes =
-      groups-image (λ v. v) (λ v. Unit {0}) sameState sameState (λ u v pu pv. refl) sameRange eqb closed closed refl tt (block ∷ []) fills (map pieceRange P ∷ []) apart exact-state (exact-pair exact-eqb exact-eqb)
-      stateClasses stateClasses (tests stateClasses (refl, (refl, (refl, (refl, (refl, tt)))))) (λ is. g (starts is)) g (λ p. tt) (tiles-constant f g e 0 1440 P h)
+      groups-image (λ v. v) (λ v. Unit {0}) sameState sameState (λ u v pu pv. refl) sameRange eqb closed closed refl tt (block ∷ []) fills
+      (map pieceRange P ∷ []) apart exact-state (exact-pair exact-eqb exact-eqb)
+      stateClasses stateClasses (tests stateClasses (refl, (refl, (refl, (refl, (refl, tt)))))) (λ is. g (starts is)) g (λ p. tt)
+      (tiles-constant f g e 0 1440 P h)
       ∙ ap (λ R. groups sameState eqb closed stateClasses (R ∷ []) g) (tiles-all f 0 1440 P h)
 
   part-runs : (S : Set Range) → Part (map pieceRange P ∷ []) S → map runs (image {W = State} (λ v. v) (block ∷ []) (closed, S) .1) ≡ map joined S
@@ -90,6 +94,7 @@ module _ (f : ℕ → ℕ) (P : List Piece) (h : Tiles f 0 1440 P) (g : Map ℕ 
       ap (map asRuns) (sym groups-minutes) ∙ each (groups sameState sameRange closed stateClasses (map pieceRange P ∷ []) (λ is. g (starts is)))
       (groups-part sameState sameRange closed (map pieceRange P ∷ []) stateClasses (λ is. g (starts is)))
     where
-      each : (gs : List (Group Range State)) → All (λ g. Part (map pieceRange P ∷ []) (g .1)) gs → map asRuns (map (image (λ v. v) (block ∷ [])) gs) ≡ map asJoined gs
+      each : (gs : List (Group Range State)) → All (λ g. Part (map pieceRange P ∷ []) (g .1)) gs
+          → map asRuns (map (image (λ v. v) (block ∷ [])) gs) ≡ map asJoined gs
       each [] p = refl
       each (g ∷ gs) p = ap₂ _∷_ (ap (λ S. (g .0, S)) (part-runs (g .1) (p .0))) (each gs (p .1))

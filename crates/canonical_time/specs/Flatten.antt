@@ -1,8 +1,8 @@
 -- A list of rule numbers over tables: a state for each rule, how many spans it has, and these from sixteen times its number on.
 -- Assumes nothing.
 use mathlib.Core.List.{List, [], _∷_, _++_}
-use Prim.Native.Nat.{ℕ, zero, suc, _+_, _*_, _<_, _≤_}
-use lib.ListN.{getD, length}
+use Prim.Native.Nat.{ℕ, zero, suc, _+_, _*_}
+use lib.ListN.{getD}
 use Rattle.words.specs.Words.{part}
 
 -- a state n times
@@ -18,8 +18,3 @@ statesFrom states counts list i (suc r) = sameStates (getD states (getD list i 0
 unfoldable pub spansFrom : List ℕ → List ℕ → List ℕ → ℕ → ℕ → List ℕ
 spansFrom counts spans list i zero = []
 spansFrom counts spans list i (suc r) = part spans (getD list i 0 * 16) (getD counts (getD list i 0) 0) ++ spansFrom counts spans list (i + 1) r
-
--- each rule that the list names stands in the tables, with sixteen spans at most
-pub record Tables (states counts spans list : List ℕ) : Type 0 where
-  pub named : (i : ℕ) → i < length list → (getD list i 0 < length states) × (getD list i 0 < length counts) × (getD list i 0 * 16 + 16 ≤ length spans)
-  pub few : (r : ℕ) → getD counts r 0 ≤ 16

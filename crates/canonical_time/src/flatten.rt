@@ -4,7 +4,8 @@ ghost use Prim.Native.Nat.{_+_, _*_, _-_, _<_, _≤_};
 ghost use lib.ListN.{length};
 ghost use lib.Seq.{sets};
 ghost use Rattle.words.specs.Words.{part};
-ghost use Rattle.canonical_time.specs.Flatten.{sameStates, statesFrom, spansFrom, Tables};
+ghost use Rattle.canonical_time.specs.Flatten.{sameStates, statesFrom, spansFrom};
+ghost use Rattle.tables.specs.Days.{Tables};
 
 // A rule number as an index.
 pub fn index(r: u16) -> usize

@@ -11,7 +11,7 @@ ghost use Prim.Native.Nat.{_+_, _*_, _≤_};
 ghost use lib.ListN.{length};
 ghost use lib.Seq.{sets};
 ghost use Rattle.definition.specs.Day.{day};
-ghost use Rattle.canonical_time.specs.Flatten.{Tables};
+ghost use Rattle.tables.specs.Days.{Tables};
 ghost use Rattle.day_words.specs.Day.{flat, listRules};
 
 // The day of a list of rule numbers over tables, in its flat form; answers how many words it has. Five lent buffers are scratch:

@@ -1,44 +1,39 @@
 -- The steps of the cutting: the rows at their places, the bounds cut, then a rule more. Rests on the laws of cuts as rules come in, and on
 -- how few ranges a rule has that a sheet carries.
--- Assumes nothing.
 use mathlib.Core.Path.{_≡_, refl, sym, ap, _∙_, subst}
 use mathlib.Core.Bool.{Bool, true, false}
 use mathlib.Core.List.{List, [], _∷_}
-use Prim.Native.Nat.{ℕ, zero, suc, _+_, _*_, _≤_, _<_}
+use Prim.Native.Nat.{ℕ, zero, suc, _+_, _-_, _*_, _≤_, _<_}
 use native.Mathlib.Omega.{arith}
 use native.Mathlib.Nat.{mul-le-mul-right}
 use lib.Dec.{eqb}
-use lib.ListN.{length, getD, take, set}
+use lib.ListN.{length, getD, take, drop, set}
 use lib.Seq.{take-all}
 use borrow.Author.Tests.{eqb-true, eqb-false}
-use Rattle.laws.specs.Lists.{from, All}
-use Rattle.laws.proofs.Lists.{All-map, All-image}
-use Rattle.laws.proofs.Numbers.{All-from}
+use Rattle.laws.specs.Lists.{All}
+use Rattle.laws.proofs.Lists.{All-map, All-take}
 use Rattle.grid.specs.Cut.{cuts}
 use Rattle.grid.proofs.Count.{cuts-count}
-use Rattle.definition.specs.Field.{sheetBits}
 use Rattle.definition.specs.Rule.{Rule}
-use Rattle.definition.specs.Sheet.{form1, limits1, rule}
+use Rattle.definition.specs.Sheet.{form1, limits1}
 use Rattle.definition.specs.Range.{ranges}
-use Rattle.definition.specs.Point.{Dimension, dimensions, selector}
+use Rattle.definition.specs.Point.{Dimension, dimensions}
 use Rattle.definition.specs.Box.{allRanges, boxCount}
-use Rattle.definition.proofs.Bits.{Bytes, sheet-bits}
-use Rattle.definition.proofs.SheetRead.{rule-faithful}
-use Rattle.sheet.specs.Begin.{noRule, ruleAt}
-use Rattle.sheet.specs.Rules.{rulesAt}
-use Rattle.sheet.proofs.Begins.{rules-many, rules-each}
+use Rattle.definition.proofs.Lawful.{Lawful, rule-lawful}
 use Rattle.paving.specs.Grid.{sizeOf}
-use Rattle.paving_update.specs.Update.{rangePlaces}
-use Rattle.paving_update.specs.Boxes.{selectorOf}
+use Rattle.tables.specs.Ranges.{tableRow}
+use Rattle.tables.specs.Rules.{ruleAt, DaysHeld, RuleDays}
+use Rattle.tables.proofs.Ranges.{part-length, row-lent}
+use Rattle.tables.specs.Sizes.{rowPlaces}
 use Rattle.paving_cuts.specs.Cuts.{Rowed, rowed, cutRows, startRow, Space}
-use Rattle.paving_cuts.specs.Rules.{CutBy, Roomy, startRows}
+use Rattle.paving_cuts.specs.Rules.{Roomy, startRows}
+use Rattle.tables.specs.Cuts.{CutBy, Cut}
 use Rattle.paving_cuts.proofs.Rows.{row-length, cut-start}
 use Rattle.paving_cuts.proofs.ByRules.{boxes-counted}
+use Rattle.paving_points.proofs.Boxes.{lawful-bounded}
 use Rattle.paving_points.proofs.Cuts.{rule-space, rule-cut}
 use Rattle.paving_points.proofs.Few.{items-few, ranges-few, rules-roomy}
-use Rattle.drawing.specs.Drawing.{Scratch}
-use Rattle.phases.specs.Phases.{Cut}
-use Rattle.cutting.specs.Cutting.{AllPass, rowPlaces, Placed, Rows}
+use Rattle.cutting.specs.Cutting.{Placed, Rows}
 
 -- ## The start
 pub rows-placed : (rows : List ℕ) (places : ℕ) → length rows ≡ 4 → Placed places (set (set (set (set rows 0 0) 1 places) 2 (2 * places)) 3 (3 * places))
@@ -87,50 +82,49 @@ module _ (rows sizes table : List ℕ) (room : ℕ) (rs : List Rule) where
       go false e ih = ih (omega (arith, eqb-false i (length ds) e))
 
 -- ## The rules
--- after the last one all are cut at
-pub all-cut : (s begins rows sizes table : List ℕ) (k n : ℕ) → k ≤ n → n ≤ k → CutBy rows sizes table (take k (rulesAt s begins n)) dimensions
-    → CutBy rows sizes table (rulesAt s begins n) dimensions
-all-cut s begins rows sizes table k n l m c =
-    subst (λ qs. CutBy rows sizes table qs dimensions) (take-all k (rulesAt s begins n) (omega (arith, rules-many s begins n))) c
+module _ (counts ranges : List ℕ) (n : ℕ) (rs : List Rule) (days : RuleDays counts ranges n rs) where
+  lawful : All Lawful rs
+  lawful = All-map (λ r f. rule-lawful form1 limits1 r f) rs (days .fits)
 
-module _ (sheet : List ℕ) (bytes : Bytes sheet) (begins : List ℕ) (n : ℕ) (all : AllPass (sheetBits sheet) begins n) where
-  abbrev rs : List Rule
-  rs = rulesAt (sheetBits sheet) begins n
-
-  -- a rule that is read has few ranges, so all their cuts have room
+  -- a rule that fits a sheet has few ranges, so all their cuts have room
   roomy : Roomy (rowPlaces n) rs dimensions
-  unfolding rulesAt
   roomy =
-      rules-roomy (rowPlaces n) 32 rs dimensions (All-image _ (λ k. ruleAt (sheetBits sheet) (getD begins k 0)) (from 0 n) (All-from _ 0 n (λ k l m. few k (omega arith))))
-      (omega (arith, rules-many (sheetBits sheet) begins n))
-    where
-      few : (k : ℕ) → k < n → All (λ d. length (ranges (d .bounds) (d .items (ruleAt (sheetBits sheet) (getD begins k 0)))) ≤ 32) dimensions
-      few k l =
-          let here = all .each k l .readable in
-          let fits = (rule-faithful form1 limits1) .written (sheetBits sheet) (sheet-bits sheet bytes) (getD begins k 0) _ (here .end) (here .read) .1 in
-          All-map (λ d h. ranges-few (d .bounds) (d .items (ruleAt (sheetBits sheet) (getD begins k 0))) 16 (omega arith) h) dimensions (items-few form1 limits1 _ fits)
+      rules-roomy (rowPlaces n) 32 rs dimensions
+      (All-map (λ r f. All-map (λ d h. ranges-few (d .bounds) (d .items r) 16 (omega arith) h) dimensions (items-few form1 limits1 r f)) rs (days .fits)) (omega (arith, days .many))
+
+  -- after the last rule all are cut at
+  pub all-cut : (rows sizes table : List ℕ) (k : ℕ) → n ≤ k → CutBy rows sizes table (take k rs) dimensions → CutBy rows sizes table rs dimensions
+  all-cut rows sizes table k m c = subst (λ qs. CutBy rows sizes table qs dimensions) (take-all k rs (omega (arith, days .many))) c
 
   module _ (rows sizes table : List ℕ) (there : Rows (rowPlaces n) rows sizes (length table)) where
-    -- rule k, whose ranges are loaded, after the rules before it
-    module _ (k : ℕ) (here : k < n) (before : CutBy rows sizes table (take k rs) dimensions) (counts loaded : List ℕ)
-        (selected : selectorOf counts loaded 4 ≡ selector dimensions (ruleAt (sheetBits sheet) (getD begins k 0))) where
-      many : k < length rs
-      many = omega (arith, rules-many (sheetBits sheet) begins n)
+    -- rule k, after the rules before it
+    module _ (k : ℕ) (here : k < n) (before : CutBy rows sizes table (take k rs) dimensions) where
+      abbrev lent-counts : List ℕ
+      lent-counts = take (k * 4 + 4 - k * 4) (drop (k * 4) counts)
 
-      same : selectorOf counts loaded 4 ≡ selector dimensions (getD rs k noRule)
-      same = selected ∙ ap (selector dimensions) (sym (rules-each (sheetBits sheet) begins n k here))
+      abbrev lent-ranges : List ℕ
+      lent-ranges = take (k * 256 + 256 - k * 256) (drop (k * 256) ranges)
 
-      pub next-space : Scratch (length loaded) (length counts) → ((i : ℕ) → i < 4 → getD counts i 0 * 2 ≤ rangePlaces) → Space (length table) rows sizes counts loaded 4
-      next-space scratch few =
-          rule-space rows counts loaded (rowPlaces n) rs k many dimensions same roomy (there .placed) (length table) sizes table before (there .all-cuts) (omega (arith, all .few))
-          (omega (arith, there .four-rows)) (omega (arith, there .four-sizes)) (scratch .all-counts) (scratch .all-ranges) few
+      held : DaysHeld lent-counts lent-ranges (ruleAt rs k)
+      held =
+          subst (λ c. DaysHeld c lent-ranges (ruleAt rs k)) (sym (row-lent counts k 4))
+          (subst (λ r. DaysHeld (tableRow counts k 4) r (ruleAt rs k)) (sym (row-lent ranges k 256)) (days .each k here))
 
-      pub next-cut : (t : Rowed) → t ≡ cutRows rows counts loaded 4 (rowed table sizes) → CutBy rows (t .sizes) (t .cuts) (take (k + 1) rs) dimensions
+      pub next-space : Space table rows sizes lent-counts lent-ranges 4
+      next-space =
+          rule-space rows lent-counts lent-ranges (rowPlaces n) rs k (omega (arith, days .many)) dimensions (held .selected) roomy (there .placed) sizes table before
+          (lawful-bounded (take k rs) (All-take Lawful k rs lawful)) (there .all-cuts) (omega (arith, days .few-rules))
+          (omega (arith, there .four-rows)) (omega (arith, there .four-sizes))
+          (omega (arith, part-length counts (k * 4) (k * 4 + 4) (omega arith) (omega (arith, days .all-counts))))
+          (omega (arith, part-length ranges (k * 256) (k * 256 + 256) (omega arith) (omega (arith, days .all-ranges)))) (held .few)
+
+      pub next-cut : (t : Rowed) → t ≡ cutRows rows lent-counts lent-ranges 4 (rowed table sizes) → CutBy rows (t .sizes) (t .cuts) (take (k + 1) rs) dimensions
       next-cut t e =
           let z : suc k ≡ k + 1 = omega arith in
           subst (λ j. CutBy rows (t .sizes) (t .cuts) (take j rs) dimensions) z
           (subst (λ t. CutBy rows (t .sizes) (t .cuts) (take (suc k) rs) dimensions) (sym e)
-          (rule-cut rows counts loaded (rowPlaces n) rs k many dimensions same roomy (there .placed) (rowed table sizes) before (omega (arith, there .four-sizes)) (there .all-cuts)))
+          (rule-cut rows lent-counts lent-ranges (rowPlaces n) rs k (omega (arith, days .many)) dimensions (held .selected) roomy (there .placed) (rowed table sizes) before
+          (omega (arith, there .four-sizes)) (there .all-cuts)))
 
     -- THE ROWS OF ALL RULES, and the boxes between their cuts
     pub cut-there : (boxes : ℕ) → boxes ≡ sizeOf sizes 4 → CutBy rows sizes table rs dimensions → (boxes ≡ boxCount dimensions rs) × Cut rows sizes table rs

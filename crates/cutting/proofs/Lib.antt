@@ -1,3 +1,1 @@
 pub mod Cutting
-pub mod Reading
-pub mod Later

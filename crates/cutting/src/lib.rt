@@ -1,21 +1,15 @@
-// The fold's first phase: the rules before the first stopper in tables, and each dimension cut at both ends of their ranges.
+// Each dimension cut at both ends of the drained rules' ranges, and the number of boxes between the cuts.
 ghost use mathlib.Core.Path.{_≡_};
-ghost use mathlib.Core.List.{[]};
+ghost use mathlib.Core.List.{List, []};
 ghost use Prim.Native.Nat.{_*_, _≤_, _<_};
 ghost use lib.ListN.{length};
-ghost use Rattle.definition.specs.Field.{sheetBits};
+ghost use Rattle.definition.specs.Rule.{Rule};
 ghost use Rattle.definition.specs.Point.{dimensions};
 ghost use Rattle.definition.specs.Box.{boxCount};
-ghost use Rattle.sheet.specs.Rules.{rulesAt};
-ghost use Rattle.paving_cuts.specs.Rules.{CutBy};
-ghost use Rattle.drawing.specs.Drawing.{Scratch};
-ghost use Rattle.phases.specs.Phases.{Cut};
-ghost use Rattle.cutting.specs.Cutting.{AllPass, rowPlaces, Placed, Rows, RulesRead, EachReading, DrainedCut};
-
-pub struct Drained {
-    pub rules: usize,
-    pub boxes: u64,
-}
+ghost use Rattle.tables.specs.Sizes.{rowPlaces};
+ghost use Rattle.tables.specs.Rules.{RuleDays};
+ghost use Rattle.tables.specs.Cuts.{CutBy, Cut};
+ghost use Rattle.cutting.specs.Cutting.{Placed, Rows};
 
 // A row for each dimension, one behind the other.
 fn place_rows(rows: &mut [u16], places: u16)
@@ -43,91 +37,51 @@ fn start_rows(cuts: &mut [u16], sizes: &mut [u16], rows: &mut [u16], places: u16
 
 // Cuts the rows at the ranges of some rules, one rule after the other.
 fn cut_rules(
-    sheet: &[u8],
-    begins: &[usize],
-    rules: usize,
     cuts: &mut [u16],
     sizes: &mut [u16],
     rows: &[u16],
-    ranges: &mut [u16],
-    counts: &mut [u16],
+    range_counts: &[u16],
+    ranges: &[u16],
+    rules: usize,
 )
-    requires { ⌜ AllPass (sheetBits (now sheet)) (now begins) rules ⌝ }
+    requires { ⌜ ((rs : List Rule) × RuleDays (now «range_counts») (now ranges) rules rs) ⌝ }
     requires { ⌜ Rows (rowPlaces rules) (now rows) (now sizes) (length (now cuts)) × CutBy (now rows) (now sizes) (now cuts) [] dimensions ⌝ }
-    requires { ⌜ Scratch (length (now ranges)) (length (now counts)) ⌝ }
-    ensures { λ _. ⌜ CutBy (now (rows .entry)) (now (sizes .exit)) (now (cuts .exit)) (rulesAt (sheetBits (now (sheet .entry))) (now (begins .entry)) rules) dimensions ⌝ }
+    ensures { λ _. ⌜ ((rs : List Rule) → RuleDays (now («range_counts» .entry)) (now (ranges .entry)) rules rs
+        → CutBy (now (rows .entry)) (now (sizes .exit)) (now (cuts .exit)) rs dimensions) ⌝ }
 {
     let mut rule: usize = 0;
     while rule < rules {
-        canonical_date::days::rule_ranges(sheet, begins[rule], ranges, counts);
-        paving_cuts::cut_rule(cuts, sizes, rows, counts, ranges, 4);
+        let from = rule * 4;
+        let to = from + 4;
+        let first = rule * 256;
+        let end = first + 256;
+        paving_cuts::cut_rule(
+            cuts,
+            sizes,
+            rows,
+            &range_counts[from..to],
+            &ranges[first..end],
+            4,
+        );
         rule += 1;
     }
 }
 
-// The rows of cuts of some rules, and the number of boxes between them.
-fn cut_all(
-    sheet: &[u8],
-    begins: &[usize],
-    rules: usize,
+// The rows of the cuts of some rules, so many, and the number of boxes between them.
+pub fn cut_all(
     cuts: &mut [u16],
     sizes: &mut [u16],
     rows: &mut [u16],
-    ranges: &mut [u16],
-    counts: &mut [u16],
+    range_counts: &[u16],
+    ranges: &[u16],
+    rules: usize,
 ) -> u64
-    requires { ⌜ AllPass (sheetBits (now sheet)) (now begins) rules ⌝ }
+    requires { ⌜ ((rs : List Rule) × RuleDays (now «range_counts») (now ranges) rules rs) ⌝ }
     requires { ⌜ (length (now rows) ≡ 4) × (length (now sizes) ≡ 4) × (4 * rowPlaces rules ≤ length (now cuts)) ⌝ }
-    requires { ⌜ Scratch (length (now ranges)) (length (now counts)) ⌝ }
-    ensures { λ r. ⌜ (r ≡ boxCount dimensions (rulesAt (sheetBits (now (sheet .entry))) (now (begins .entry)) rules))
-        × Cut (now (rows .exit)) (now (sizes .exit)) (now (cuts .exit)) (rulesAt (sheetBits (now (sheet .entry))) (now (begins .entry)) rules) ⌝ }
+    ensures { λ r. ⌜ ((rs : List Rule) → RuleDays (now («range_counts» .entry)) (now (ranges .entry)) rules rs
+        → (r ≡ boxCount dimensions rs) × Cut (now (rows .exit)) (now (sizes .exit)) (now (cuts .exit)) rs) ⌝ }
 {
     start_rows(cuts, sizes, rows, (2 + 64 * rules) as u16);
-    cut_rules(sheet, begins, rules, cuts, sizes, rows, ranges, counts);
+    cut_rules(cuts, sizes, rows, range_counts, ranges, rules);
     paving_cuts::box_count(sizes, 4)
-}
-
-// The drained rules of a sheet that was read, in tables, and the rows of their cuts: how many rules and boxes there are.
-pub fn cut_drained(
-    sheet: &[u8],
-    begins: &[usize],
-    count: usize,
-    states: &mut [u32],
-    span_counts: &mut [u8],
-    spans: &mut [u64],
-    replacing: &mut [u8],
-    cuts: &mut [u16],
-    sizes: &mut [u16],
-    rows: &mut [u16],
-) -> Drained
-    requires { ⌜ RulesRead (now sheet) (now begins) count ⌝ }
-    requires { ⌜ (count ≤ length (now states)) × (count ≤ length (now «span_counts»)) × (count * 16 ≤ length (now spans)) × (count ≤ length (now replacing)) ⌝ }
-    requires { ⌜ (length (now rows) ≡ 4) × (length (now sizes) ≡ 4) × (4 * rowPlaces count ≤ length (now cuts)) ⌝ }
-    ensures { λ r. ⌜ EachReading (now (sheet .entry)) (now (begins .entry)) count
-        (λ rs. DrainedCut (now (states .exit)) (now («span_counts» .exit)) (now (spans .exit)) (now (replacing .exit)) (now (rows .exit)) (now (sizes .exit)) (now (cuts .exit)) rs r) ⌝ }
-{
-    let mut ranges = [0u16; 256];
-    let mut counts = [0u16; 4];
-    let rules = draining::drain(
-        sheet,
-        begins,
-        count,
-        states,
-        span_counts,
-        spans,
-        replacing,
-        &mut ranges,
-        &mut counts,
-    );
-    let boxes = cut_all(
-        sheet,
-        begins,
-        rules,
-        cuts,
-        sizes,
-        rows,
-        &mut ranges,
-        &mut counts,
-    );
-    Drained { rules, boxes }
 }

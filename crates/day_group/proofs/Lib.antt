@@ -1,2 +1,2 @@
-pub mod GroupWays
+pub mod GroupReturns
 pub mod MeanGroup

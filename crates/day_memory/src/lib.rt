@@ -7,7 +7,8 @@ ghost use Prim.Native.Nat.{ℕ, _≤_, _<_};
 ghost use lib.ListN.{length, getD};
 ghost use Rattle.words.specs.Words.{part};
 ghost use Rattle.day_words.specs.Day.{fingerprintOf};
-ghost use Rattle.box_day.specs.Boxes.{boxWords, Ready, Scratch};
+ghost use Rattle.box_day.specs.Boxes.{Scratch};
+ghost use Rattle.tables.specs.Days.{boxWords, Ready};
 ghost use Rattle.day_memory.specs.Known.{Printed, SameWords};
 
 // The first known box, from one on, whose day has the words of another day, so many.

@@ -1,6 +1,6 @@
-pub mod StrokeWays
+pub mod StrokeReturns
 pub mod MeanStroke
 pub mod Meeting
 pub mod Pieces
-pub mod PieceWays
+pub mod PieceReturns
 pub mod MeanPiece

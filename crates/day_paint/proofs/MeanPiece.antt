@@ -90,12 +90,14 @@ module _ (q : List ℕ) where
       hi : (u ≤ strokeEnd x) × (u ≤ b)
       hi = earlier-bound (strokeEnd x) b
 
-      go : (t : Bool) → meets (getD q i 0) a b ≡ t → Tiles (at i) a b (pieces q i a b) → (a ≤ p → Tiles (at i) a p (pieces q i a p)) → (u ≤ b → Tiles (at i) u b (pieces q i u b))
+      go : (t : Bool) → meets (getD q i 0) a b ≡ t → Tiles (at i) a b (pieces q i a b) → (a ≤ p → Tiles (at i) a p (pieces q i a p))
+          → (u ≤ b → Tiles (at i) u b (pieces q i u b))
           → Tiles (at (suc i)) a b (pieces q (suc i) a b)
       go true e w l r =
           let s : p < u = meets-true x a b e in
           rw (step-in q i a b e) (tiles-append (at (suc i)) a p b (pieces q i a p) ((p, u, strokeState x) ∷ pieces q i u b)
-          (tiles-same (at i) (at (suc i)) a p (pieces q i a p) (λ m j k. more i m ∙ over-before x m (at i m) (below-later a (strokeStart x) m j k)) (l (lo .0))) (
+          (tiles-same (at i) (at (suc i)) a p (pieces q i a p) (λ m j k. more i m ∙ over-before x m (at i m) (below-later a (strokeStart x) m j k))
+          (l (lo .0))) (
             refl,
             s,
             (λ m j k. more i m ∙ over-in x m (at i m) (omega (arith, lo)) (omega (arith, hi))),

@@ -3,7 +3,7 @@
 use mathlib.Core.Path.{_≡_, refl, sym, ap, ap₂, _∙_}
 use mathlib.Core.List.{List, [], _∷_, map}
 use mathlib.Core.Bool.{Bool, true, false, _&&_, cond}
-use Prim.Native.Nat.{ℕ, zero, suc, _+_, _*_, _-_, _/_, _%_}
+use Prim.Native.Nat.{ℕ, zero, suc, _+_, _*_, _/_, _%_}
 use native.Mathlib.Omega.{arith}
 use lib.Dec.{eqb, leb, ltb}
 use lib.ListN.{getD}
@@ -39,14 +39,20 @@ stroke-back x p h =
     λ i. (ap stateAt a i, (ap₂ (λ v w. plainSpan (v, w)) b c ∙ sym (plain-span p h)) i)
 
 -- ## The painting
-run-strokes : (xs ps : List ℕ) (S i r : ℕ) → map strokeAt (strokesOfRun xs ps S i r) ≡ stated (stateAt S, keep simple (runOf (stateAt S) (pairs (part xs i r) (part ps i r))))
+run-strokes : (xs ps : List ℕ) (S i r : ℕ)
+    → map strokeAt (strokesOfRun xs ps S i r) ≡ stated (stateAt S, keep simple (runOf (stateAt S) (pairs (part xs i r) (part ps i r))))
 unfolding strokesOfRun part pairs runOf keep
 run-strokes xs ps S i zero = refl
 run-strokes xs ps S i (suc r) = go (eqb (getD xs i 0) S) refl (simple (spanAt (getD ps i 0))) refl (run-strokes xs ps S (i + 1) r)
   where
     go : (a : Bool) → eqb (getD xs i 0) S ≡ a → (b : Bool) → simple (spanAt (getD ps i 0)) ≡ b
         → map strokeAt (strokesOfRun xs ps S (i + 1) r) ≡ stated (stateAt S, keep simple (runOf (stateAt S) (pairs (part xs (i + 1) r) (part ps (i + 1) r))))
-        → map strokeAt (strokesOfRun xs ps S i (suc r)) ≡ stated (stateAt S, keep simple (runOf (stateAt S) ((stateAt (getD xs i 0), spanAt (getD ps i 0)) ∷ pairs (part xs (i + 1) r) (part ps (i + 1) r))))
+        → map strokeAt (strokesOfRun xs ps S i (suc r))
+        ≡ stated (
+          stateAt S,
+          keep simple
+              (runOf (stateAt S) ((stateAt (getD xs i 0), spanAt (getD ps i 0)) ∷ pairs (part xs (i + 1) r) (part ps (i + 1) r))),
+        )
     go false e b f ih = rw (e, strokesOfRun, same-states (getD xs i 0) S ∙ e, runOf)
     go true e true f ih =
         rw (e, strokesOfRun, f, strokesOfRun, same-states (getD xs i 0) S ∙ e, runOf, f, keep)
@@ -67,7 +73,8 @@ strokes-paint xs ps i (suc r) = go (simple (spanAt (getD ps i 0))) refl (strokes
 pub shown-mean : (S : ℕ) (strokes : List ℕ) (m : ℕ) → stateAt (shown S strokes m) ≡ lastOver within (stateAt S) (map strokeAt strokes) m
 unfolding shown lastOver strokeOver
 shown-mean S [] m = refl
-shown-mean S (x ∷ xs) m = shown-mean (strokeOver x m S) xs m ∙ ap (λ R. lastOver within R (map strokeAt xs) m) (go (leb (strokeStart x) m && ltb m (strokeEnd x)))
+shown-mean S (x ∷ xs) m =
+    shown-mean (strokeOver x m S) xs m ∙ ap (λ R. lastOver within R (map strokeAt xs) m) (go (leb (strokeStart x) m && ltb m (strokeEnd x)))
   where
     go : (b : Bool) → stateAt (cond b (strokeState x) S) ≡ cond b (stateAt (strokeState x)) (stateAt S)
     go true = refl

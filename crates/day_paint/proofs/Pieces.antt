@@ -18,7 +18,8 @@ module _ (q : List ℕ) where
 
   pub step-in : (i a b : ℕ) → meets (getD q i 0) a b ≡ true
       → pieces q (suc i) a b
-      ≡ pieces q i a (meetsFrom (getD q i 0) a) ++ (meetsFrom (getD q i 0) a, meetsUpTo (getD q i 0) b, strokeState (getD q i 0)) ∷ pieces q i (meetsUpTo (getD q i 0) b) b
+      ≡ pieces q i a (meetsFrom (getD q i 0) a) ++ (meetsFrom (getD q i 0) a, meetsUpTo (getD q i 0) b, strokeState (getD q i 0)) ∷ pieces q i
+      (meetsUpTo (getD q i 0) b) b
   unfolding pieces paintedOver
   step-in i a b e = rw (e, paintedOver)
 
@@ -37,7 +38,8 @@ module _ (q : List ℕ) where
   pieces-last zero a b = refl
   pieces-last (suc i) a b = go (meets (getD q i 0) a b) refl (pieces-last i a b)
     where
-      go : (t : Bool) → meets (getD q i 0) a b ≡ t → pieces q i a b ≡ pieces q (lastMeeting q i a b) a b → pieces q (suc i) a b ≡ pieces q (lastMeeting q (suc i) a b) a b
+      go : (t : Bool) → meets (getD q i 0) a b ≡ t → pieces q i a b ≡ pieces q (lastMeeting q i a b) a b
+          → pieces q (suc i) a b ≡ pieces q (lastMeeting q (suc i) a b) a b
       go true e ih = rw e
       go false e ih = rw e (step-over i a b e ∙ ih)
 
@@ -153,11 +155,13 @@ module _ (q : List ℕ) where
           go true f = omega (arith, ih, inside-yes e a b (omega (arith, h, later-bound a s, earlier-bound e b)) (ltb-true e b f))
           go false f = omega (arith, ap length (pieces-none q i u b (omega (arith, earlier-down e b (ltb-false e b f)))))
 
-      go : (t : Bool) → meets x a b ≡ t → length (pieces q i a b) ≤ suc (ends i a b) → length (pieces q i a p) ≤ suc (ends i a p) → length (pieces q i u b) ≤ suc (ends i u b)
+      go : (t : Bool) → meets x a b ≡ t → length (pieces q i a b) ≤ suc (ends i a b) → length (pieces q i a p) ≤ suc (ends i a p)
+          → length (pieces q i u b) ≤ suc (ends i u b)
           → length (pieces q (suc i) a b) ≤ suc (inside s a b + inside e a b + ends i a b)
       go true f ih il ir =
           let h : p < u = meets-true x a b f in
-          let all : length (pieces q (suc i) a b) ≡ length (pieces q i a p) + suc (length (pieces q i u b)) = ap length (step-in q i a b f) ∙ length-append (pieces q i a p) _ in
+          let all : length (pieces q (suc i) a b) ≡ length (pieces q i a p) + suc (length (pieces q i u b)) =
+          ap length (step-in q i a b f) ∙ length-append (pieces q i a p) _ in
           omega (arith, all, left h il, right h ir, ends-split i a p u b (omega (arith, later-bound a s)) (omega arith) (omega (arith, earlier-bound e b)))
       go false f ih il ir = omega (arith, ih, ap length (step-over q i a b f))
 

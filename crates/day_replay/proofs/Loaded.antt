@@ -11,7 +11,7 @@ use borrow.Author.Tests.{eqb-true, eqb-false, ltb-true, ltb-false}
 use Rattle.definition.specs.Day.{day}
 use Rattle.day_words.specs.Day.{flat, listRules}
 use Rattle.day_words.proofs.Room.{day-room}
-use Rattle.canonical_time.specs.Flatten.{Tables}
+use Rattle.tables.specs.Days.{Tables}
 use Rattle.day_replay.specs.Lent.{Loaded}
 
 -- ## The first n of a list are at most so large

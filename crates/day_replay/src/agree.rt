@@ -1,7 +1,7 @@
 // Do the days of a table's lists have the digest that the record says?
 use super::digest::few;
 use super::digest::with_days;
-use super::tables::load;
+use super::rule_tables::load;
 ghost use mathlib.Core.Path.{_≡_};
 ghost use Prim.Native.Nat.{_≤_};
 ghost use lib.ListN.{length};

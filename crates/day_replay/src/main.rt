@@ -2,7 +2,7 @@
 // table's days is compared with that of the Rust's. Prints how many tables were compared and how many differ.
 mod agree;
 mod digest;
-mod tables;
+mod rule_tables;
 
 use libc::STDOUT_FILENO;
 use records::number;

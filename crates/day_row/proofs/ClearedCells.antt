@@ -29,7 +29,8 @@ length-clear vs S j (suc r) = length-clear (cond (eqb (getD vs j 0) S) (set vs j
     go true = length-set vs j 65536
     go false = refl
 
-pub clear-at : (vs : List ℕ) (S j r k : ℕ) → j + r ≤ length vs → j ≤ k → k < j + r → getD (clearFrom vs S j r) k 0 ≡ cond (eqb (getD vs k 0) S) 65536 (getD vs k 0)
+pub clear-at : (vs : List ℕ) (S j r k : ℕ) → j + r ≤ length vs → j ≤ k → k < j + r
+    → getD (clearFrom vs S j r) k 0 ≡ cond (eqb (getD vs k 0) S) 65536 (getD vs k 0)
 unfolding clearFrom
 clear-at vs S j zero k room l h = absurd (omega arith)
 clear-at vs S j (suc r) k room l h = go (eqb j k) refl (λ ws q l h. clear-at ws S (j + 1) r k q l h)
@@ -50,7 +51,8 @@ clear-at vs S j (suc r) k room l h = go (eqb j k) refl (λ ws q l h. clear-at ws
     there d false = refl
 
     go : (b : Bool) → eqb j k ≡ b
-        → ((ws : List ℕ) → j + 1 + r ≤ length ws → j + 1 ≤ k → k < j + 1 + r → getD (clearFrom ws S (j + 1) r) k 0 ≡ cond (eqb (getD ws k 0) S) 65536 (getD ws k 0))
+        → ((ws : List ℕ) → j + 1 + r ≤ length ws → j + 1 ≤ k → k < j + 1 + r
+        → getD (clearFrom ws S (j + 1) r) k 0 ≡ cond (eqb (getD ws k 0) S) 65536 (getD ws k 0))
         → getD (clearFrom ws S (j + 1) r) k 0 ≡ cond (eqb (getD vs k 0) S) 65536 (getD vs k 0)
     go true e ih = let z : j ≡ k = eqb-true j k e in
         ap (λ v. getD (clearFrom ws S (j + 1) r) v 0) (sym z) ∙ clear-below ws S (j + 1) r j (omega arith) ∙ here (eqb (getD vs j 0) S)

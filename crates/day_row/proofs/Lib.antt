@@ -1,4 +1,4 @@
-pub mod RowWays
+pub mod RowReturns
 pub mod MeanRuns
 pub mod ClearedCells
 pub mod PopRow

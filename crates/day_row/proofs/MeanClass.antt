@@ -42,7 +42,8 @@ module _ (cs : List ℕ) where
   Mem-interval j zero k l h = absurd (omega arith)
   Mem-interval j (suc r) k l h = go (eqb k j) refl (λ q. Mem-interval (j + 1) r k q (omega arith))
     where
-      go : (b : Bool) → eqb k j ≡ b → (j + 1 ≤ k → Mem (getD cs k 0, getD cs (k + 1) 0) (intervalsAt (j + 1) r)) → Mem (getD cs k 0, getD cs (k + 1) 0) (intervalsAt j (suc r))
+      go : (b : Bool) → eqb k j ≡ b → (j + 1 ≤ k → Mem (getD cs k 0, getD cs (k + 1) 0) (intervalsAt (j + 1) r))
+          → Mem (getD cs k 0, getD cs (k + 1) 0) (intervalsAt j (suc r))
       go true e ih = inl (ap (λ i. (getD cs i 0, getD cs (i + 1) 0)) (eqb-true k j e))
       go false e ih = inr (ih (omega (arith, eqb-false k j e)))
 
@@ -68,7 +69,8 @@ unfolding classLeft
 left-below c vs j zero i h = refl
 left-below c vs j (suc r) i h = go (isOfClass c (getD vs j 0)) refl (λ ws. left-below c ws (j + 1) r i (omega arith))
   where
-    go : (b : Bool) → isOfClass c (getD vs j 0) ≡ b → ((ws : List ℕ) → getD (classLeft c ws (j + 1) r) i 0 ≡ getD ws i 0) → getD (classLeft c vs j (suc r)) i 0 ≡ getD vs i 0
+    go : (b : Bool) → isOfClass c (getD vs j 0) ≡ b → ((ws : List ℕ) → getD (classLeft c ws (j + 1) r) i 0 ≡ getD ws i 0)
+        → getD (classLeft c vs j (suc r)) i 0 ≡ getD vs i 0
     go true e ih = rw (e, classLeft) (ih (clearFrom vs (getD vs j 0) j (suc r)) ∙ clear-below vs (getD vs j 0) j (suc r) i h)
     go false e ih = rw (e, classLeft) (ih vs)
 
@@ -123,7 +125,8 @@ module _ (cs : List ℕ) (n : ℕ) (climbs : (k : ℕ) → k < n → getD cs k 0
     pub skips : isOfClass c (getD vs j 0) ≡ false → ws ≡ vs → g ≡ f → Agree cs f vs j (suc r) → Taken vs j (suc r) f pre D
     unfolding classWords classLeft
     skips e p q a = record {
-      words = ap (λ h. flat (map asEntry (map asJoined (swept D h .0)))) (sym q) ∙ later .words ∙ ap (λ v. classWords cs c v (j + 1) r) p ∙ sym (rw (e, classWords));
+      words = ap (λ h. flat (map asEntry (map asJoined (swept D h .0)))) (sym q) ∙ later .words ∙ ap (λ v. classWords cs c v (j + 1) r) p
+          ∙ sym (rw (e, classWords));
       kept = λ y m. ap (λ h. swept D h .1 (y ∷ [])) (sym q) ∙ later .kept y (Mem-left y pre _ m) ∙ ap (λ h. h (y ∷ [])) q;
       left = λ k l h. ap (λ u. swept D u .1 ((getD cs k 0, getD cs (k + 1) 0) ∷ [])) (sym q)
           ∙ one-more (ap (λ u. u ((getD cs j 0, getD cs (j + 1) 0) ∷ [])) q ∙ a j (omega arith) (omega arith) ∙ ap (λ v. stateAt (getD v j 0)) (sym p)) k l h
@@ -151,13 +154,15 @@ module _ (cs : List ℕ) (n : ℕ) (climbs : (k : ℕ) → k < n → getD cs k 0
 
     in-D : (k : ℕ) → j ≤ k → k < j + suc r → Mem (getD cs k 0, getD cs (k + 1) 0) D
     unfolding intervalsAt
-    in-D k l m = subst (Mem (getD cs k 0, getD cs (k + 1) 0)) (sym q) (Mem-right (getD cs k 0, getD cs (k + 1) 0) pre (intervalsAt cs j (suc r)) (Mem-interval cs j (suc r) k l m))
+    in-D k l m = subst (Mem (getD cs k 0, getD cs (k + 1) 0)) (sym q)
+        (Mem-right (getD cs k 0, getD cs (k + 1) 0) pre (intervalsAt cs j (suc r)) (Mem-interval cs j (suc r) k l m))
 
     pre-in-D : (y : Range) → Mem y pre → Mem y D
     pre-in-D y m = subst (Mem y) (sym q) (Mem-left y pre (x ∷ intervalsAt cs (j + 1) r) m)
 
     popped : pop sameState ok (D ∷ []) f ≡ some (f (x ∷ []), alike ok f x D ∷ [])
-    popped = ap (λ E. pop sameState ok (E ∷ []) f) q ∙ pop-some ok f pre x (intervalsAt cs (j + 1) r) h matches ∙ ap (λ E. some (f (x ∷ []), alike ok f x E ∷ [])) (sym q)
+    popped = ap (λ E. pop sameState ok (E ∷ []) f) q ∙ pop-some ok f pre x (intervalsAt cs (j + 1) r) h matches
+        ∙ ap (λ E. some (f (x ∷ []), alike ok f x E ∷ [])) (sym q)
 
     -- the group is the interval j with the later ones of its state
     group-set : alike ok f x D ≡ x ∷ picked cs vs (getD vs j 0) (j + 1) r
@@ -180,10 +185,13 @@ module _ (cs : List ℕ) (n : ℕ) (climbs : (k : ℕ) → k < n → getD cs k 0
     kept-before : (y : Range) → Mem y pre → g (y ∷ []) ≡ f (y ∷ [])
     kept-before y m =
         alike-cleared f x y D (pre-in-D y m)
-        ∙ ap (λ b. cond b closed (f (y ∷ []))) (sym (All-Mem (λ y. false ≡ sameState (f (y ∷ [])) (f (x ∷ []))) pre (unfold agree in alike-pre ok f pre x h matches) y m))
+        ∙ ap (λ b. cond b closed (f (y ∷ [])))
+        (sym (All-Mem (λ y. false ≡ sameState (f (y ∷ [])) (f (x ∷ []))) pre (unfold agree in alike-pre ok f pre x h matches) y m))
 
     pub unmatched : All (λ y. ok (g (y ∷ [])) ≡ false) (pre ++ x ∷ [])
-    unmatched = All-append _ pre (x ∷ []) (Mem-All (λ y. ok (g (y ∷ [])) ≡ false) pre (λ y m. ap ok (kept-before y m) ∙ All-Mem (λ y. ok (f (y ∷ [])) ≡ false) pre h y m)) (ap ok emptied ∙ ok-closed, tt)
+    unmatched = All-append _ pre (x ∷ [])
+        (Mem-All (λ y. ok (g (y ∷ [])) ≡ false) pre (λ y m. ap ok (kept-before y m) ∙ All-Mem (λ y. ok (f (y ∷ [])) ≡ false) pre h y m))
+        (ap ok emptied ∙ ok-closed, tt)
       where
         emptied : g (x ∷ []) ≡ closed
         emptied = alike-cleared f x x D (in-D j (omega arith) (omega arith)) ∙ ap (λ b. cond b closed (f (x ∷ []))) (exact-state .self (f (x ∷ [])))
@@ -194,7 +202,8 @@ module _ (cs : List ℕ) (n : ℕ) (climbs : (k : ℕ) → k < n → getD cs k 0
         let u : swept D f ≡ ((f (x ∷ []), alike ok f x D ∷ []) ∷ swept D g .0, swept D g .1) =
         unrolled D f ∙ ap (takeOut sameState sameRange closed f (λ g. swept D g)) popped in
         record {
-          words = ap (λ s. flat (map asEntry (map asJoined (s .0)))) u ∙ entry ∙ ap (entryWords (getD vs j 0) runs ++_) (later .words) ∙ sym (rw (e, classWords));
+          words = ap (λ s. flat (map asEntry (map asJoined (s .0)))) u ∙ entry ∙ ap (entryWords (getD vs j 0) runs ++_) (later .words)
+              ∙ sym (rw (e, classWords));
           kept = λ y m. ap (λ s. s .1 (y ∷ [])) u ∙ later .kept y (Mem-left y pre _ m) ∙ kept-before y m;
           left = λ k l m. ap (λ s. s .1 ((getD cs k 0, getD cs (k + 1) 0) ∷ [])) u
               ∙ one-more vs (clearFrom vs (getD vs j 0) j (suc r)) j r f g pre D later (cleared-cells j (omega arith) (omega arith)) k l m
@@ -207,7 +216,8 @@ module _ (cs : List ℕ) (n : ℕ) (climbs : (k : ℕ) → k < n → getD cs k 0
         left-step : classLeft c vs j (suc r) ≡ classLeft c (clearFrom vs (getD vs j 0) j (suc r)) (j + 1) r
         left-step = rw (e, classLeft)
 
-        entry : flat (map asEntry (map asJoined ((f (x ∷ []), alike ok f x D ∷ []) ∷ swept D g .0))) ≡ entryWords (getD vs j 0) runs ++ flat (map asEntry (map asJoined (swept D g .0)))
+        entry : flat (map asEntry (map asJoined ((f (x ∷ []), alike ok f x D ∷ []) ∷ swept D g .0)))
+            ≡ entryWords (getD vs j 0) runs ++ flat (map asEntry (map asJoined (swept D g .0)))
         entry = unfold flat in
             ap₂ (λ S w. entryWords S w ++ flat (map asEntry (map asJoined (swept D g .0)))) (ap stateNumber value ∙ state-number (getD vs j 0))
             (spans-words (joined (alike ok f x D)) ∙ ap (λ E. map rangeWord (joined E)) group-set ∙ sym (own-runs cs vs n climbs (getD vs j 0) j r room refl))
@@ -217,14 +227,17 @@ module _ (cs : List ℕ) (n : ℕ) (climbs : (k : ℕ) → k < n → getD cs k 0
       → Agree cs f vs j r → All (λ y. ok (f (y ∷ [])) ≡ false) pre → Taken vs j r f pre D
   unfolding intervalsAt
   class-mean zero j vs f pre D q room size a h = taken-none vs j f pre D q h
-  class-mean (suc r) j vs f pre D q room size a h = go (isOfClass c (getD vs j 0)) refl (λ ws g p s b k. class-mean r (j + 1) ws g (pre ++ (getD cs j 0, getD cs (j + 1) 0) ∷ []) D p (omega arith) s b k)
+  class-mean (suc r) j vs f pre D q room size a h = go (isOfClass c (getD vs j 0)) refl
+      (λ ws g p s b k. class-mean r (j + 1) ws g (pre ++ (getD cs j 0, getD cs (j + 1) 0) ∷ []) D p (omega arith) s b k)
     where
       after : D ≡ (pre ++ (getD cs j 0, getD cs (j + 1) 0) ∷ []) ++ intervalsAt cs (j + 1) r
       after = q ∙ sym (append-assoc pre ((getD cs j 0, getD cs (j + 1) 0) ∷ []) (intervalsAt cs (j + 1) r))
 
       go : (b : Bool) → isOfClass c (getD vs j 0) ≡ b
-          → ((ws : List ℕ) (g : Map Range State) → D ≡ (pre ++ (getD cs j 0, getD cs (j + 1) 0) ∷ []) ++ intervalsAt cs (j + 1) r → j + 1 + r ≤ length ws → Agree cs g ws (j + 1) r
-          → All (λ y. ok (g (y ∷ [])) ≡ false) (pre ++ (getD cs j 0, getD cs (j + 1) 0) ∷ []) → Taken ws (j + 1) r g (pre ++ (getD cs j 0, getD cs (j + 1) 0) ∷ []) D)
+          → ((ws : List ℕ) (g : Map Range State) → D ≡ (pre ++ (getD cs j 0, getD cs (j + 1) 0) ∷ []) ++ intervalsAt cs (j + 1) r → j + 1 + r ≤ length ws
+          → Agree cs g ws (j + 1) r
+          → All (λ y. ok (g (y ∷ [])) ≡ false) (pre ++ (getD cs j 0, getD cs (j + 1) 0) ∷ [])
+          → Taken ws (j + 1) r g (pre ++ (getD cs j 0, getD cs (j + 1) 0) ∷ []) D)
           → Taken vs j (suc r) f pre D
       go true e ih = takes vs j r f pre D q room size a h e
           (ih (clearFrom vs (getD vs j 0) j (suc r)) (g vs j r f pre D q room size a h e) after (omega (arith, length-clear vs (getD vs j 0) j (suc r)))

@@ -78,9 +78,11 @@ module _ (cs vs : List ℕ) (n : ℕ) (climbs : (k : ℕ) → k < n → getD cs 
   picked-starts j zero h = tt
   picked-starts j (suc r) h = go (eqb (getD vs j 0) S) refl (picked-starts (j + 1) r (omega arith))
     where
-      go : (b : Bool) → eqb (getD vs j 0) S ≡ b → Starts (getD cs (j + 1) 0) (joined (picked cs vs S (j + 1) r)) → Starts (getD cs j 0) (joined (picked cs vs S j (suc r)))
+      go : (b : Bool) → eqb (getD vs j 0) S ≡ b → Starts (getD cs (j + 1) 0) (joined (picked cs vs S (j + 1) r))
+          → Starts (getD cs j 0) (joined (picked cs vs S j (suc r)))
       go true e ih = rw (e, picked) (glue-starts (getD cs j 0) (getD cs (j + 1) 0) (joined (picked cs vs S (j + 1) r)))
-      go false e ih = rw (e, picked) (starts-from (getD cs j 0) (getD cs (j + 1) 0) (joined (picked cs vs S (j + 1) r)) (omega (arith, climbs j (omega arith))) ih)
+      go false e ih = rw (e, picked)
+          (starts-from (getD cs j 0) (getD cs (j + 1) 0) (joined (picked cs vs S (j + 1) r)) (omega (arith, climbs j (omega arith))) ih)
 
   -- THE RUNS OF A STATE
   runs-mean : (a j r : ℕ) → j + r ≤ n → a ≤ getD cs j 0 → runsFrom cs vs S a j r ≡ map rangeWord (joinedFrom a (getD cs j 0) (joined (picked cs vs S j r)))
@@ -96,9 +98,11 @@ module _ (cs vs : List ℕ) (n : ℕ) (climbs : (k : ℕ) → k < n → getD cs 
       up = climbs j (omega arith)
 
       go : (b : Bool) → eqb (getD vs j 0) S ≡ b
-          → ((b : ℕ) → b ≤ getD cs (j + 1) 0 → runsFrom cs vs S b (j + 1) r ≡ map rangeWord (joinedFrom b (getD cs (j + 1) 0) (joined (picked cs vs S (j + 1) r))))
+          → ((b : ℕ) → b ≤ getD cs (j + 1) 0
+          → runsFrom cs vs S b (j + 1) r ≡ map rangeWord (joinedFrom b (getD cs (j + 1) 0) (joined (picked cs vs S (j + 1) r))))
           → runsFrom cs vs S a j (suc r) ≡ map rangeWord (joinedFrom a (getD cs j 0) (joined (picked cs vs S j (suc r))))
-      go true e ih = rw (e, runsFrom, picked) (ih a (omega (arith, up)) ∙ ap (map rangeWord) (join-on a (getD cs j 0) (getD cs (j + 1) 0) (joined (picked cs vs S (j + 1) r)) l up))
+      go true e ih = rw (e, runsFrom, picked)
+          (ih a (omega (arith, up)) ∙ ap (map rangeWord) (join-on a (getD cs j 0) (getD cs (j + 1) 0) (joined (picked cs vs S (j + 1) r)) l up))
       go false e ih = rw (e, runsFrom, picked)
           (ap (runUpTo a (getD cs j 0) ++_) (ih (getD cs (j + 1) 0) (omega arith) ∙ ap (map rangeWord) own)
           ∙ join-break a (getD cs j 0) (getD cs (j + 1) 0) (joined (picked cs vs S (j + 1) r)) up (picked-starts (j + 1) r (omega arith)))
@@ -111,6 +115,7 @@ module _ (cs vs : List ℕ) (n : ℕ) (climbs : (k : ℕ) → k < n → getD cs 
       → runsFrom cs vs S (getD cs j 0) j (suc r) ≡ map rangeWord (joined ((getD cs j 0, getD cs (j + 1) 0) ∷ picked cs vs S (j + 1) r))
   unfolding picked
   own-runs j r h e =
-      let z : joinedFrom (getD cs j 0) (getD cs j 0) (joined (picked cs vs S j (suc r))) ≡ joined ((getD cs j 0, getD cs (j + 1) 0) ∷ picked cs vs S (j + 1) r) =
+      let z : joinedFrom (getD cs j 0) (getD cs j 0) (joined (picked cs vs S j (suc r)))
+      ≡ joined ((getD cs j 0, getD cs (j + 1) 0) ∷ picked cs vs S (j + 1) r) =
       rw (le-ltb (getD cs j 0) (getD cs j 0) (omega arith), eq-eqb (getD vs j 0) S e, picked) in
       runs-mean (getD cs j 0) j (suc r) h (omega arith) ∙ ap (map rangeWord) z

@@ -5,11 +5,10 @@ use mathlib.Core.Path.{_≡_, refl, sym, ap, _∙_}
 use mathlib.Core.List.{List, [], _∷_, _++_}
 use mathlib.Core.Logic.{_⊎_, inl, inr}
 use mathlib.Core.Option.{none, some}
-use mathlib.Core.Bool.{Bool, true, false, _&&_, cond, true≢false}
-use Prim.Native.Nat.{_+_}
+use mathlib.Core.Bool.{Bool, true, false, cond, true≢false}
 use Rattle.laws.specs.Lists.{keep, anyOf, All, Mem, firstOf}
 use Rattle.laws.specs.Tests.{Exact}
-use Rattle.laws.proofs.Flags.{same-flag, not-true}
+use Rattle.laws.proofs.Flags.{same-flag, not-true, and-true}
 use Rattle.laws.proofs.Lists.{All-map, Mem-keep, Mem-any, any-Mem}
 use Rattle.laws.proofs.Tests.{exact-eqb, exact-pair}
 use Rattle.grid.specs.Group.{Map, at, inside, agree, grow, pop, clear}
@@ -47,9 +46,13 @@ module _ (ok : State → Bool) (f : Map Range State) where
   pop-some pre x post h e = ap (grow sameState (pre ++ x ∷ post) f) (first-some pre x post h e)
 
   -- none before x has its value
-  pub alike-pre : (pre : List Range) (x : Range) → All (λ y. ok (f (y ∷ [])) ≡ false) pre → ok (f (x ∷ [])) ≡ true → All (λ y. false ≡ agree sameState (f (x ∷ [])) [] (at f y)) pre
+  pub alike-pre : (pre : List Range) (x : Range) → All (λ y. ok (f (y ∷ [])) ≡ false) pre → ok (f (x ∷ [])) ≡ true
+      → All (λ y. false ≡ agree sameState (f (x ∷ [])) [] (at f y)) pre
   unfolding agree
-  alike-pre pre x h e = All-map (λ y k. sym (not-true (sameState (f (y ∷ [])) (f (x ∷ []))) (λ s. true≢false (sym e ∙ ap ok (sym (exact-state .equal (f (y ∷ [])) (f (x ∷ [])) s)) ∙ k)))) pre h
+  alike-pre pre x h e = All-map
+      (λ y k.
+      sym (not-true (sameState (f (y ∷ [])) (f (x ∷ []))) (λ s. true≢false (sym e ∙ ap ok (sym (exact-state .equal (f (y ∷ [])) (f (x ∷ [])) s)) ∙ k))))
+      pre h
 
 Mem-keep-true : (t : Range → Bool) (x : Range) (D : List Range) → Mem x (keep t D) → t x ≡ true
 unfolding Mem keep
@@ -70,12 +73,9 @@ any-keep t x D m = same-flag _ _ (λ h. Mem-keep-true t x D (any-Mem exact-range
 
 -- the value of a coordinate of D after the alike ones are emptied
 pub alike-cleared : (f : Map Range State) (x y : Range) (D : List Range) → Mem y D
-    → clear sameRange closed (keep (λ y. agree sameState (f (x ∷ [])) [] (at f y)) D ∷ []) f (y ∷ []) ≡ cond (sameState (f (y ∷ [])) (f (x ∷ []))) closed (f (y ∷ []))
+    → clear sameRange closed (keep (λ y. agree sameState (f (x ∷ [])) [] (at f y)) D ∷ []) f (y ∷ [])
+    ≡ cond (sameState (f (y ∷ [])) (f (x ∷ []))) closed (f (y ∷ []))
 unfolding inside agree
 alike-cleared f x y D m =
     clear-value sameRange closed (keep (λ y. agree sameState (f (x ∷ [])) [] (at f y)) D ∷ []) f (y ∷ [])
     ∙ ap (λ b. cond b closed (f (y ∷ []))) (and-true _ ∙ any-keep (λ y. agree sameState (f (x ∷ [])) [] (at f y)) y D m)
-  where
-    and-true : (b : Bool) → b && true ≡ b
-    and-true true = refl
-    and-true false = refl

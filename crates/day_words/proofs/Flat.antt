@@ -6,12 +6,9 @@ use mathlib.Core.List.{List, [], _∷_, _++_, map}
 use Prim.Native.Nat.{ℕ, zero}
 use lib.ListN.{length}
 use Rattle.laws.specs.Lists.{All}
-use Rattle.laws.proofs.Lists.{All-map}
 use Rattle.definition.specs.Rule.{Span}
 use Rattle.definition.specs.Day.{Day}
-use Rattle.definition.specs.Group.{dayClass}
-use Rattle.span_number.specs.Number.{spanNumber, spanAt, NumberedState, Numbered}
-use Rattle.span_number.proofs.Numbers.{number-state, number-span}
+use Rattle.span_number.specs.Number.{spanNumber, spanAt}
 use Rattle.words.specs.Words.{entryWords}
 use Rattle.day_words.specs.Day.{flat, unflatFrom, unflat, OwnSpan, OwnNumbers}
 
@@ -48,12 +45,3 @@ unflat-flat (e ∷ d) h = let back : unflat (flat d) ≡ d = unflat-flat d (h .1
 -- equal flat forms, equal days
 pub flat-apart : (d e : Day) → OwnNumbers d → OwnNumbers e → flat d ≡ flat e → d ≡ e
 flat-apart d e h k q = sym (unflat-flat d h) ∙ ap unflat q ∙ unflat-flat e k
-
--- the class of a flat form is the day's
-pub flat-class : (d : Day) → OwnNumbers d → dayClass (unflat (flat d)) ≡ dayClass d
-flat-class d h = ap dayClass (unflat-flat d h)
-
--- every day with states and spans that a sheet can carry is such a day
-pub numbered-own : (d : Day) → All (λ e. NumberedState (e .0) × All Numbered (e .1)) d → OwnNumbers d
-numbered-own [] h = tt
-numbered-own (e ∷ d) h = ((number-state (e .0) (h .0 .0), All-map number-span (e .1) (h .0 .1)), numbered-own d (h .1))

@@ -1,5 +1,5 @@
-pub mod DayWays
-pub mod ClassWays
+pub mod DayReturns
+pub mod ClassReturns
 pub mod Flat
 pub mod Own
 pub mod Room

@@ -17,7 +17,8 @@ use Rattle.words.specs.Words.{part}
 use Rattle.day_words.specs.Day.{listRules, OwnState, OwnSpan, OwnNumbers}
 
 plain-own : (r : Range) → ProperRun r → OwnSpan (plainSpan r)
-plain-own r h = number-span (plainSpan r) (unfold timeNumber in record { starts = omega (arith, h .0, h .1); ends = omega (arith, h .1); early = omega (arith, h .1); few = omega arith })
+plain-own r h = number-span (plainSpan r)
+    (unfold timeNumber in record { starts = omega (arith, h .0, h .1); ends = omega (arith, h .1); early = omega (arith, h .1); few = omega arith })
 
 entry-own : (s : ℕ) (ps : List ℕ) → InList OwnState OwnSpan (stated (stateAt s, map spanAt ps))
 entry-own s [] = tt

@@ -15,7 +15,8 @@ use Rattle.words.specs.Words.{part, entryWords}
 use Rattle.day_words.specs.Day.{flat, unflatFrom, unflat}
 use Rattle.rule_writer.specs.Rows.{spansAt}
 use Rattle.rule_writer.proofs.Rows.{spans-length}
-use Rattle.day_writer.specs.Rules.{Carried, dayIn, Whole}
+use Rattle.day_writer.specs.Rules.{dayIn, Whole}
+use Rattle.tables.specs.Days.{Carried}
 
 -- ## Parts
 part-taken : (s : List ℕ) (at n : ℕ) → at + n ≤ length s → take n (drop at s) ≡ part s at n
@@ -98,7 +99,8 @@ module _ (words : List ℕ) (at : ℕ) where
       read : List Span × Day
       read = unflatFrom many (part words (at + 1 + 1) n)
 
-      split : (part words (at + 1 + 1 + length (map spanNumber (read .0))) (n - length (map spanNumber (read .0))) ≡ flat (read .1)) × (length (map spanNumber (read .0)) ≤ n)
+      split : (part words (at + 1 + 1 + length (map spanNumber (read .0))) (n - length (map spanNumber (read .0))) ≡ flat (read .1)) ×
+          (length (map spanNumber (read .0)) ≤ n)
       split = part-behind words (map spanNumber (read .0)) (flat (read .1)) (at + 1 + 1) n (ap (drop 2) (w .flatly))
 
       counted : many ≡ length (map spanNumber (read .0))

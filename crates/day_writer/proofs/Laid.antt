@@ -15,9 +15,11 @@ use Rattle.definition.specs.Group.{laidOver, asRule, asRules, rulesOf}
 use Rattle.words.specs.Words.{part}
 use Rattle.day_words.specs.Day.{unflatFrom}
 use Rattle.rule_writer.specs.Rows.{spansAt}
-use Rattle.rule_writer.specs.Written.{overItems, itemsIn, rowsBelow, ruleBits}
+use Rattle.rule_writer.specs.Written.{itemsIn, ruleBits}
+use Rattle.tables.specs.Items.{overItems, rowsBelow}
 use Rattle.rule_writer.proofs.Laid.{over-laid}
-use Rattle.day_writer.specs.Rules.{dayRules, entryRules, rulesBits, dayIn}
+use Rattle.day_writer.specs.Rules.{entryRules, rulesBits, dayIn}
+use Rattle.tables.specs.Pages.{dayRules}
 use Rattle.day_writer.proofs.Entries.{Step}
 
 -- ## Entry by entry
@@ -71,7 +73,8 @@ module _ (operator : ℕ) (ends counts words : List ℕ) (at n : ℕ) where
         let more : length entered ≡ suc (length later) = ap (λ d. length (entryRules operator (rowsBelow ends counts 4) d)) (s .entry) in
         omega (arith, more, e)
 
-    pub entries-size : (first behind : ℕ) → length (ruleBits operator (getD words at 0) ends counts (spansAt words (at + 2) many)) ≡ first → length (rulesBits later) ≡ behind
+    pub entries-size : (first behind : ℕ) → length (ruleBits operator (getD words at 0) ends counts (spansAt words (at + 2) many)) ≡ first
+        → length (rulesBits later) ≡ behind
         → length (rulesBits entered) ≡ first + behind
     entries-size first behind e f =
         ap length entries-bits

@@ -2,27 +2,20 @@
 -- rules": "Write the list's entries as rules over these sets' maximal runs, first Normal, others Additional".
 -- Assumes nothing.
 use mathlib.Core.Path.{_≡_}
-use mathlib.Core.List.{List, [], _∷_, map, flatMap}
-use Prim.Native.Nat.{ℕ, _+_, _≤_, _<_, _^_}
+use mathlib.Core.List.{List, [], _∷_, flatMap}
+use Prim.Native.Nat.{ℕ, _+_, _≤_}
 use lib.ListN.{length}
 use Rattle.laws.specs.Lists.{All}
-use Rattle.definition.specs.Field.{Layout}
 use Rattle.definition.specs.Rule.{operatorOf, Rule}
 use Rattle.definition.specs.Range.{Ends}
 use Rattle.definition.specs.Sheet.{form1, limits1, rule}
 use Rattle.definition.specs.Point.{dimensions}
-use Rattle.definition.specs.Day.{Entry, Day}
-use Rattle.definition.specs.Group.{asRule, asRules}
-use Rattle.span_number.specs.Number.{NumberedState}
+use Rattle.definition.specs.Day.{Day}
+use Rattle.definition.specs.Group.{asRule}
 use Rattle.words.specs.Words.{part}
 use Rattle.day_words.specs.Day.{flat, unflat}
-use Rattle.rule_writer.specs.Rows.{FitsSpan}
-use Rattle.rule_writer.specs.Written.{overItems}
-
--- ## Rules
--- a day's rules over the items of each dimension
-unfoldable pub dayRules : List (List Ends) → Day → List Rule
-dayRules E d = map (overItems dimensions E) (asRules d)
+use Rattle.tables.specs.Days.{Carried}
+use Rattle.tables.specs.Items.{overItems}
 
 -- the same entry by entry: the first with an operator's number, all others Additional
 unfoldable pub entryRules : ℕ → List (List Ends) → Day → List Rule
@@ -32,13 +25,6 @@ entryRules operator E (e ∷ d) = overItems dimensions E (asRule (operatorOf ope
 -- rules one behind the other, as bits
 abbrev pub rulesBits : List Rule → List ℕ
 rulesBits rs = flatMap (rule form1 limits1 .write) rs
-
--- ## Days
--- an entry that a rule's fields can carry
-pub record Carried (e : Entry) : Type 0 where
-  pub stated : NumberedState (e .0)
-  pub spanned : All FitsSpan (e .1)
-  pub few : length (e .1) < 2 ^ 10
 
 -- the day in so many words from a place on
 abbrev pub dayIn : List ℕ → ℕ → ℕ → Day

@@ -7,9 +7,9 @@ ghost use mathlib.Core.List.{List};
 ghost use Prim.Native.Nat.{ℕ, _*_, _≤_, _<_, _^_};
 ghost use lib.ListN.{length, getD};
 ghost use Rattle.item_writer.specs.Written.{Room, Wrote};
-ghost use Rattle.rule_writer.specs.Rows.{rowPlace, Rows};
-ghost use Rattle.rule_writer.specs.Written.{rowsBelow};
-ghost use Rattle.day_writer.specs.Rules.{entryRules, dayRules, rulesBits, dayIn, Whole};
+ghost use Rattle.tables.specs.Items.{rowPlace, Rows, rowsBelow};
+ghost use Rattle.day_writer.specs.Rules.{entryRules, rulesBits, dayIn, Whole};
+ghost use Rattle.tables.specs.Pages.{dayRules};
 
 pub struct Measure {
     pub rules: usize,

@@ -9,7 +9,7 @@ use lib.ListN.{length, take, drop, length-append, length-drop, take-append-drop}
 use lib.Seq.{take-at, drop-at, length-take-le}
 use lib.Pow.{pow-pos, split, high, low, shr-lt}
 use Rattle.laws.specs.Lists.{All}
-use Rattle.laws.proofs.Lists.{All-append}
+use Rattle.laws.proofs.Lists.{All-append, All-take}
 use Rattle.definition.specs.Field.{bits, number, sheetBits, bytes}
 
 -- bits are 0 or 1, bytes are below 256
@@ -52,9 +52,7 @@ bits-are-bits zero v l = tt
 bits-are-bits (suc w) v l = (let q : 1 + w ≡ suc w = omega arith in shr-lt 1 w (rw q l), bits-are-bits w (v % 2 ^ w) (mod-lt v (pow-pos w)))
 
 pub Bits-take : (w : ℕ) (bs : List ℕ) → Bits bs → Bits (take w bs)
-Bits-take zero bs h = tt
-Bits-take (suc w) [] h = tt
-Bits-take (suc w) (b ∷ bs) h = (h .0, Bits-take w bs (h .1))
+Bits-take w bs h = All-take (λ b. b < 2) w bs h
 
 pub Bits-drop : (i : ℕ) (bs : List ℕ) → Bits bs → Bits (drop i bs)
 Bits-drop zero bs h = h

@@ -80,10 +80,11 @@ module _ (rs : List Rule) (h : All Lawful rs) where
       each (g ∷ gs) p = (part-few (boxCount dimensions rs) allBounds (cutRanges rs) narrow (g .1) (p .0), each gs (p .1))
 
 -- ## Spans
-list-all : (P : Rule → Type 0) (l rs : List Rule) (p : List ℕ) → All P l → All P rs → All P (listFrom l rs p)
+-- the list at a point has none but the rules
+pub list-from : (P : Rule → Type 0) (l rs : List Rule) (p : List ℕ) → All P l → All P rs → All P (listFrom l rs p)
 unfolding listFrom
-list-all P l [] p k h = k
-list-all P l (r ∷ rs) p k h = list-all P (after r (combinations (selector dimensions r) p) l) rs p (next (combinations (selector dimensions r) p)) (h .1)
+list-from P l [] p k h = k
+list-from P l (r ∷ rs) p k h = list-from P (after r (combinations (selector dimensions r) p) l) rs p (next (combinations (selector dimensions r) p)) (h .1)
   where
     copies : (n : ℕ) → All P (replicate n r)
     copies zero = tt
@@ -105,10 +106,19 @@ spans-count : (n : ℕ) (l : List Rule) → All (λ r. length (r .spans) ≤ n) 
 unfolding flattened flatMap
 spans-count n [] h = omega arith
 spans-count n (r ∷ l) h =
-    omega (arith, length-append (stated (entryOf r)) (flatMap stated (map entryOf l)), length-map {B = State × Span} (r .spans) (λ s. (r .state, s)), h .0, spans-count n l (h .1))
+    omega (
+      arith,
+      length-append (stated (entryOf r)) (flatMap stated (map entryOf l)),
+      length-map {B = State × Span} (r .spans) (λ s. (r .state, s)),
+      h .0,
+      spans-count n l (h .1),
+    )
 
 -- every entry of a page has few spans
-pub pages-brief : (limit n : ℕ) (rs : List Rule) → firstTooLong limit rs ≡ none → All (λ r. length (r .spans) ≤ n) rs → All (λ g. Brief (suc (limit * n)) (g .0)) (pages rs)
+pub pages-brief : (limit n : ℕ) (rs : List Rule) → firstTooLong limit rs ≡ none → All (λ r. length (r .spans) ≤ n) rs
+    → All (λ g. Brief (suc (limit * n)) (g .0)) (pages rs)
 unfolding dayAt
 pages-brief limit n rs e h = pages-each rs (Brief (suc (limit * n))) tt
-    (λ p i. All-map (λ x k. omega (arith, k, spans-count n (listAt rs p) (list-all _ [] rs p tt h), mul-le-mul-right n (short-lists rs limit e p i))) (day (listAt rs p)) (day-brief (listAt rs p)))
+    (λ p i.
+    All-map (λ x k. omega (arith, k, spans-count n (listAt rs p) (list-from _ [] rs p tt h), mul-le-mul-right n (short-lists rs limit e p i)))
+    (day (listAt rs p)) (day-brief (listAt rs p)))

@@ -3,7 +3,7 @@
 -- Assumes nothing.
 use mathlib.Core.Path.{_≡_, refl, sym, ap, ap₂, _∙_, subst}
 use mathlib.Core.List.{List, [], _∷_, _++_, map, flatMap, append-nil}
-use mathlib.Core.Bool.{Bool, true, false, _&&_, not, cond}
+use mathlib.Core.Bool.{Bool, true, false, not, cond}
 use Prim.Native.Nat.{ℕ, _≤_}
 use native.Mathlib.Omega.{arith}
 use lib.Dec.{eqb, leb, ltb}
@@ -11,6 +11,7 @@ use borrow.Author.Tests.{ltb-true, ltb-false, le-ltb}
 use Rattle.laws.specs.Lists.{keep, All}
 use Rattle.laws.proofs.Lists.{All-map, All-each, every-all, every-keep, keep-all, keep-none}
 use Rattle.laws.proofs.Tests.{exact-swap}
+use Rattle.laws.proofs.Flags.{and-false}
 use Rattle.grid.specs.Group.{groups}
 use Rattle.grid.specs.Cut.{coordinates, asRuns}
 use Rattle.definition.specs.Rule.{Additional, State, closed, sameState, notAbove, spanKey, Span, insertSpan, sorted, Rule}
@@ -31,10 +32,6 @@ late S (x ∷ xs) h m l = ap (λ b. lastOver within (cond b (x .0) S) xs m) past
   where
     past : within (x .1) m ≡ false
     past = let k = simple-inside (x .1) (h .0) in rw (le-ltb m (minuteOf (x .1 .end)) (omega arith)) (and-false (leb (minuteOf (x .1 .start)) m))
-      where
-        and-false : (v : Bool) → v && false ≡ false
-        and-false true = refl
-        and-false false = refl
 
 stated-simple : (S : State) (ss : List Span) (zs : List Stated) → All (λ s. simple s ≡ true) ss → Simple zs → Simple (stated (S, ss) ++ zs)
 stated-simple S [] zs h k = k
@@ -50,7 +47,8 @@ painted-simple xs =
     flat-simple (paintedEntries xs) (painted-holds (λ S. Unit {0}) (λ s. simple s ≡ true) plain-simple xs (All-each (λ x. Unit {0}) (λ x. tt {0}) xs))
 
 painted-again : (xs : List Stated) → Simple xs → paintedEntries (flattened (paintedEntries xs)) ≡ paintedEntries xs
-painted-again xs h = unfold paintedEntries in ap (λ f. map asEntry (map asRuns (groups sameState eqb closed stateClasses (map coordinates (minuteBounds ∷ [])) f))) same
+painted-again xs h = unfold paintedEntries in ap
+    (λ f. map asEntry (map asRuns (groups sameState eqb closed stateClasses (map coordinates (minuteBounds ∷ [])) f))) same
   where
     again : List Stated
     again = flattened (paintedEntries xs)
@@ -196,7 +194,8 @@ run-other S (g ∷ gs) h o = go (g .1) (h .0)
     differs : sameState (g .0) S ≡ false
     differs = exact-swap exact-state (g .0) S ∙ o
 
-    go : (ss : List Span) → Filled ss → (runOf S (stated (g .0, ss) ++ flattened gs) ≡ []) × (afterRun S (stated (g .0, ss) ++ flattened gs) ≡ stated (g .0, ss) ++ flattened gs)
+    go : (ss : List Span) → Filled ss
+        → (runOf S (stated (g .0, ss) ++ flattened gs) ≡ []) × (afterRun S (stated (g .0, ss) ++ flattened gs) ≡ stated (g .0, ss) ++ flattened gs)
     go [] f = absurd f
     go (s ∷ ss) f = rw (differs, runOf, afterRun) (refl, refl)
 

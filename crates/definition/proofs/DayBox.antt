@@ -42,7 +42,8 @@ pub simple-inside : (s : Span) → simple s ≡ true → (minutesOf s .0 < minut
 unfolding simple
 simple-inside s h = go (s .start) (s .end) refl refl (split-and (fixedWithinDay (s .start) (s .end)) (not (s .openEnd) && noRepeats (s .repeats)) h .0)
   where
-    go : (a b : Time) → s .start ≡ a → s .end ≡ b → fixedWithinDay (s .start) (s .end) ≡ true → (minutesOf s .0 < minutesOf s .1) × (minutesOf s .1 ≤ midnight24)
+    go : (a b : Time) → s .start ≡ a → s .end ≡ b → fixedWithinDay (s .start) (s .end) ≡ true
+        → (minutesOf s .0 < minutesOf s .1) × (minutesOf s .1 ≤ midnight24)
     go (fixed m) (fixed n) p q f =
         rw (p, q) (let k = split-and (ltb m n) (leb n midnight24) (rw (p, q) at f) in (ltb-true m n (k .0), leb-true n midnight24 (k .1)))
     go (fixed m) (variable e o) p q f = absurd (false≢true (rw (p, q) at f))
@@ -58,7 +59,9 @@ last-marks S (x ∷ xs) m n k = last-marks (cond (within (x .1) m) (x .0) S) xs 
 pub painted-intervals : (xs : List Stated) → Simple xs → paintedEntries xs ≡ paintedOverIntervals xs
 unfolding paintedEntries paintedOverIntervals
 painted-intervals xs h =
-    ap (map asEntry) (groups-boxes (minuteBounds ∷ []) (omega arith, tt) (spanRanges xs) (inside xs h, tt) exact-state closed stateClasses (refl, (refl, (refl, (refl, (refl, tt))))) (painted xs) by-marks)
+    ap (map asEntry)
+    (groups-boxes (minuteBounds ∷ []) (omega arith, tt) (spanRanges xs) (inside xs h, tt) exact-state closed stateClasses
+    (refl, (refl, (refl, (refl, (refl, tt))))) (painted xs) by-marks)
   where
     inside : (ys : List Stated) → Simple ys → All (Inside minuteBounds) (map (λ x. minutesOf (x .1)) ys)
     inside [] k = tt

@@ -116,15 +116,21 @@ module _ (P : State → Type 0) (Q : Span → Type 0) where
   module _ (plain : (r : Range) → ProperRun r → Q (plainSpan r)) where
     pub painted-holds : (xs : List Stated) → All (λ x. P (x .0)) xs → InDay (paintedEntries xs)
     unfolding paintedEntries
-    painted-holds xs h = each gs (groups-values exact-state exact-eqb closed (coordinates minuteBounds) P stateClasses classes-closed (painted xs) (λ m i. shows-painter P closed xs h (inl refl) m))
+    painted-holds xs h = each gs
+        (groups-values exact-state exact-eqb closed (coordinates minuteBounds) P stateClasses classes-closed (painted xs)
+        (λ m i. shows-painter P closed xs h (inl refl) m))
         (groups-part sameState eqb closed (coordinates minuteBounds ∷ []) stateClasses (painted xs))
       where
         gs : List (Group ℕ State)
         gs = groups sameState eqb closed stateClasses (coordinates minuteBounds ∷ []) (painted xs)
 
-        each : (gs : List (Group ℕ State)) → All (λ g. P (g .0)) gs → All (λ g. Part (coordinates minuteBounds ∷ []) (g .1)) gs → InDay (map asEntry (map asRuns gs))
+        each : (gs : List (Group ℕ State)) → All (λ g. P (g .0)) gs → All (λ g. Part (coordinates minuteBounds ∷ []) (g .1)) gs
+            → InDay (map asEntry (map asRuns gs))
         each [] k p = tt
-        each (g ∷ gs) k p = ((k .0, All-image Q plainSpan (minuteRuns (map runs (g .1))) (All-map plain (minuteRuns (map runs (g .1))) (group-proper (g .1) (p .0)))), each gs (k .1) (p .1))
+        each (g ∷ gs) k p = (
+          (k .0, All-image Q plainSpan (minuteRuns (map runs (g .1))) (All-map plain (minuteRuns (map runs (g .1))) (group-proper (g .1) (p .0)))),
+          each gs (k .1) (p .1),
+        )
 
     -- THE WHOLE DAY
     pub day-holds : (l : List Rule) → InList (flattened (map entryOf l)) → InDay (day l)

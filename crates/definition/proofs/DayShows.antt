@@ -81,15 +81,18 @@ module _ (c : Cover) (m : ℕ) where
     where
       go : (v : Bool) → simple s ≡ v → hit (keep (λ s. not (simple s)) ss) || anyOf (λ s. within s m) (keep simple ss) ≡ hit ss
           → hit (keep (λ s. not (simple s)) (s ∷ ss)) || anyOf (λ s. within s m) (keep simple (s ∷ ss)) ≡ c .covers s m || hit ss
-      go true e ih = rw (e, keep, ← ih, c .onSimple s e m) (or-swap (hit (keep (λ s. not (simple s)) ss)) (within s m) (anyOf (λ s. within s m) (keep simple ss)))
+      go true e ih = rw (e, keep, ← ih, c .onSimple s e m)
+          (or-swap (hit (keep (λ s. not (simple s)) ss)) (within s m) (anyOf (λ s. within s m) (keep simple ss)))
       go false e ih = rw (e, keep, ← ih) (or-assoc (c .covers s m) (hit (keep (λ s. not (simple s)) ss)) (anyOf (λ s. within s m) (keep simple ss)))
 
-  last-grouped : (S : State) (xs : List Stated) → lastOver (c .covers) (lastOver within S (painting xs) m) (flattened (grouped xs)) m ≡ lastOver (c .covers) S xs m
+  last-grouped : (S : State) (xs : List Stated)
+      → lastOver (c .covers) (lastOver within S (painting xs) m) (flattened (grouped xs)) m ≡ lastOver (c .covers) S xs m
   unfolding painting grouped lastOver flattened flatMap anyOf
   last-grouped S [] = refl
   last-grouped S (x ∷ xs) = go (simple (x .1)) refl (λ R. last-grouped R xs)
     where
-      go : (v : Bool) → simple (x .1) ≡ v → ((R : State) → lastOver (c .covers) (lastOver within R (painting xs) m) (flattened (grouped xs)) m ≡ lastOver (c .covers) R xs m)
+      go : (v : Bool) → simple (x .1) ≡ v
+          → ((R : State) → lastOver (c .covers) (lastOver within R (painting xs) m) (flattened (grouped xs)) m ≡ lastOver (c .covers) R xs m)
           → lastOver (c .covers) (lastOver within S (painting (x ∷ xs)) m) (flattened (grouped (x ∷ xs))) m ≡ lastOver (c .covers) S (x ∷ xs) m
       go true e ih = rw (e, painting, grouped, c .onSimple (x .1) e m) (ih (cond (within (x .1) m) (x .0) S))
       go false e ih = rw (e, painting, grouped) (left ∙ sym right)

@@ -103,7 +103,8 @@ unfolding paintedOverIntervals boxes
 painted-runs xs =
     let D : List Range = intervals minuteBounds (map (λ x. minutesOf (x .1)) xs) in
     let f : Map Range State = λ is. painted xs (starts is) in
-    let c : length D ≡ length (cuts minuteBounds (map (λ x. minutesOf (x .1)) xs)) - 1 = unfold intervals in length-between (cuts minuteBounds (map (λ x. minutesOf (x .1)) xs)) in
+    let c : length D ≡ length (cuts minuteBounds (map (λ x. minutesOf (x .1)) xs)) - 1 = unfold intervals in
+    length-between (cuts minuteBounds (map (λ x. minutesOf (x .1)) xs)) in
     let all : size (D ∷ []) ≡ length D = unfold size in omega arith in
     omega (
       arith,

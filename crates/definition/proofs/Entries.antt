@@ -63,7 +63,8 @@ entry-groups e xs = go (e .1)
     go (s ∷ []) = join-more (e .0, s) (byState xs) .1
     go (s ∷ r ∷ ss) = more (go (r ∷ ss))
       where
-        more : length (byState (stated (e .0, r ∷ ss) ++ xs)) ≤ suc (length (byState xs)) → length (byState (stated (e .0, s ∷ r ∷ ss) ++ xs)) ≤ suc (length (byState xs))
+        more : length (byState (stated (e .0, r ∷ ss) ++ xs)) ≤ suc (length (byState xs))
+            → length (byState (stated (e .0, s ∷ r ∷ ss) ++ xs)) ≤ suc (length (byState xs))
         more ih = unfold byState in omega (arith, ih, join-same (e .0, s) (byState (stated (e .0, r ∷ ss) ++ xs)) (heads r ss))
 
 states-groups : (d : Day) → length (byState (flattened d)) ≤ length d
@@ -79,7 +80,8 @@ unfolding afterRun byState
 after-groups S [] = omega arith
 after-groups S (x ∷ xs) = go (sameState (x .0) S) refl (after-groups S xs)
   where
-    go : (b : Bool) → sameState (x .0) S ≡ b → length (byState (afterRun S xs)) ≤ length (byState xs) → length (byState (afterRun S (x ∷ xs))) ≤ length (byState (x ∷ xs))
+    go : (b : Bool) → sameState (x .0) S ≡ b → length (byState (afterRun S xs)) ≤ length (byState xs)
+        → length (byState (afterRun S (x ∷ xs))) ≤ length (byState (x ∷ xs))
     go true e ih = rw (e, afterRun) (omega (arith, ih, join-more x (byState xs)))
     go false e ih = rw (e, afterRun) (omega arith)
 
@@ -135,7 +137,8 @@ painted-count K xs h =
       length-map (map asRuns gs) asEntry,
       length-map gs asRuns,
       length-map gs (λ g. g .0),
-      distinct-count exact-state (values gs) K (groups-distinct exact-state exact-eqb closed (coordinates minuteBounds) stateClasses classes-closed (painted xs))
+      distinct-count exact-state (values gs) K
+          (groups-distinct exact-state exact-eqb closed (coordinates minuteBounds) stateClasses classes-closed (painted xs))
           (as-values gs (groups-values exact-state exact-eqb closed (coordinates minuteBounds) (λ v. Mem v K) stateClasses classes-closed (painted xs)
           (λ m i. shows-painter (λ S. Mem S K) closed xs h (inl refl) m))),
     )

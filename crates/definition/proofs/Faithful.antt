@@ -36,8 +36,10 @@ Always x = Unit {0}
 -- ## Standing bits
 -- behind bits that stand, the rest
 behind : (s bs rest : List ℕ) (p : ℕ) → p ≤ length s → drop p s ≡ bs ++ rest → (p + length bs ≤ length s) × (drop (p + length bs) s ≡ rest)
-behind s bs rest p l e =
-    (omega (arith, length-drop p s, ap length e, length-append bs rest), sym (drop-drop (length bs) p s) ∙ ap (drop (length bs)) e ∙ drop-at bs rest (length bs) refl)
+behind s bs rest p l e = (
+  omega (arith, length-drop p s, ap length e, length-append bs rest),
+  sym (drop-drop (length bs) p s) ∙ ap (drop (length bs)) e ∙ drop-at bs rest (length bs) refl,
+)
 
 stand-append : (bs cs s : List ℕ) (p q e : ℕ) → Stand bs s p q → Stand cs s q e → Stand (bs ++ cs) s p e
 stand-append bs cs s p q e a b = record {
@@ -46,7 +48,8 @@ stand-append bs cs s p q e a b = record {
 }
 
 -- a reading that begins within the bits ends within them
-pub read-within : {A : Type 0} {P : A → Type 0} {L : Layout A} → Faithful P L → (s : List ℕ) → Bits s → (p : ℕ) (x : A) (q : ℕ) → p ≤ length s → L .read s p ≡ got x q → q ≤ length s
+pub read-within : {A : Type 0} {P : A → Type 0} {L : Layout A} → Faithful P L → (s : List ℕ) → Bits s → (p : ℕ) (x : A) (q : ℕ) → p ≤ length s
+    → L .read s p ≡ got x q → q ≤ length s
 read-within {L = L} a s h p x q l e =
     let k = a .written s h p x q e .2 in
     omega (arith, k .ends, ap length (k .stands), length-append (L .write x) (drop q s), length-drop p s, length-drop q s)
@@ -129,7 +132,10 @@ module _ {A B : Type 0} {P : A → Type 0} {Q : B → Type 0} {L : Layout A} {M 
           let z : p + length (L .write (v .0)) + length (M .write (v .1)) ≡ p + length (L .write (v .0) ++ M .write (v .1)) =
           omega (arith, length-append (L .write (v .0)) (M .write (v .1)))
           in
-          rw (a .returns (v .0) (pv .0) (k .0) s p (M .write (v .1) ++ rest) l d, b .returns (v .1) (pv .1) (k .1) s (p + length (L .write (v .0))) rest (t .0) (t .1))
+          rw (
+            a .returns (v .0) (pv .0) (k .0) s p (M .write (v .1) ++ rest) l d,
+            b .returns (v .1) (pv .1) (k .1) s (p + length (L .write (v .0))) rest (t .0) (t .1),
+          )
           (ap (got v) z)
 
       there : (s : List ℕ) → Bits s → (p : ℕ) (v : A × B) (q : ℕ) → (L then M) .read s p ≡ got v q
@@ -167,7 +173,8 @@ module _ {A B : Type 0} {P : A → Type 0} (Q : B → Type 0) {L : Layout A} (ma
           → Q y × (L .fits (parts y) ≡ true) × Stand (L .write (parts y)) s p q
       there s h p y q e = go (L .read s p) refl e
         where
-          go : (r : Read A) → L .read s p ≡ r → andThen (λ x j. got (make x) j) r ≡ got y q → Q y × (L .fits (parts y) ≡ true) × Stand (L .write (parts y)) s p q
+          go : (r : Read A) → L .read s p ≡ r → andThen (λ x j. got (make x) j) r ≡ got y q
+              → Q y × (L .fits (parts y) ≡ true) × Stand (L .write (parts y)) s p q
           go (refused c i) r g = clash c i y q g
           go (got x j) r g =
               let m : make x ≡ y = cc in
@@ -184,7 +191,8 @@ module _ {A B : Type 0} {P : A → Type 0} {L : Layout A} {M : A → Layout B} (
   unfolding tagged
   tagged-faithful a every-tag b = record {
     binary = λ y u f. let k = split-and (L .fits (tag y)) ((M (tag y)) .fits y) f in
-        All-append _ (L .write (tag y)) ((M (tag y)) .write y) (a .binary (tag y) (every-tag y) (k .0)) ((b (tag y) (every-tag y) (k .0)) .binary y refl (k .1));
+        All-append _ (L .write (tag y)) ((M (tag y)) .write y) (a .binary (tag y) (every-tag y) (k .0))
+        ((b (tag y) (every-tag y) (k .0)) .binary y refl (k .1));
     returns = back;
     written = there;
   }
@@ -235,7 +243,8 @@ module _ {A : Type 0} {L : Layout A} (a : Faithful Always L) where
       let z : p + length (L .write x) + length (flatMap (L .write) xs) ≡ p + length (L .write x ++ flatMap (L .write) xs) =
       omega (arith, length-append (L .write x) (flatMap (L .write) xs))
       in
-      rw (a .returns x tt (k .0) s p (flatMap (L .write) xs ++ rest) l d, all-returns xs (k .1) s (p + length (L .write x)) rest (t .0) (t .1)) (ap (got (x ∷ xs)) z)
+      rw (a .returns x tt (k .0) s p (flatMap (L .write) xs ++ rest) l d, all-returns xs (k .1) s (p + length (L .write x)) rest (t .0) (t .1))
+      (ap (got (x ∷ xs)) z)
 
   all-written : (n : ℕ) (s : List ℕ) → Bits s → (p : ℕ) (xs : List A) (q : ℕ) → readAll (L .read) n s p ≡ got xs q
       → (length xs ≡ n) × (every (L .fits) xs ≡ true) × Stand (flatMap (L .write) xs) s p q
@@ -248,7 +257,8 @@ module _ {A : Type 0} {L : Layout A} (a : Faithful Always L) where
   all-written (suc n) s h p xs q e = first (L .read s p) refl e (all-written n s h)
     where
       second : (x : A) (j : ℕ) → L .read s p ≡ got x j → (r : Read (List A)) → readAll (L .read) n s j ≡ r → andThen (λ ys i. got (x ∷ ys) i) r ≡ got xs q
-          → ((p : ℕ) (ys : List A) (q : ℕ) → readAll (L .read) n s p ≡ got ys q → (length ys ≡ n) × (every (L .fits) ys ≡ true) × Stand (flatMap (L .write) ys) s p q)
+          → ((p : ℕ) (ys : List A) (q : ℕ) → readAll (L .read) n s p ≡ got ys q
+          → (length ys ≡ n) × (every (L .fits) ys ≡ true) × Stand (flatMap (L .write) ys) s p q)
           → (length xs ≡ suc n) × (every (L .fits) xs ≡ true) × Stand (flatMap (L .write) xs) s p q
       second x j r (refused c i) m g ih = clash c i xs q g
       second x j r (got ys i) m g ih =
@@ -256,11 +266,15 @@ module _ {A : Type 0} {L : Layout A} (a : Faithful Always L) where
           let z : i ≡ q = cc in
           let k = a .written s h p x j r in
           let t = ih j ys i m in
-          subst (λ zs. (length zs ≡ suc n) × (every (L .fits) zs ≡ true) × Stand (flatMap (L .write) zs) s p q) v
-          (ap suc (t .0), both-and _ _ (k .1) (t .1), stand-append (L .write x) (flatMap (L .write) ys) s p j q (k .2) (subst (Stand (flatMap (L .write) ys) s j) z (t .2)))
+          subst (λ zs. (length zs ≡ suc n) × (every (L .fits) zs ≡ true) × Stand (flatMap (L .write) zs) s p q) v (
+            ap suc (t .0),
+            both-and _ _ (k .1) (t .1),
+            stand-append (L .write x) (flatMap (L .write) ys) s p j q (k .2) (subst (Stand (flatMap (L .write) ys) s j) z (t .2)),
+          )
 
       first : (r : Read A) → L .read s p ≡ r → andThen (λ x j. andThen (λ ys i. got (x ∷ ys) i) (readAll (L .read) n s j)) r ≡ got xs q
-          → ((p : ℕ) (ys : List A) (q : ℕ) → readAll (L .read) n s p ≡ got ys q → (length ys ≡ n) × (every (L .fits) ys ≡ true) × Stand (flatMap (L .write) ys) s p q)
+          → ((p : ℕ) (ys : List A) (q : ℕ) → readAll (L .read) n s p ≡ got ys q
+          → (length ys ≡ n) × (every (L .fits) ys ≡ true) × Stand (flatMap (L .write) ys) s p q)
           → (length xs ≡ suc n) × (every (L .fits) xs ≡ true) × Stand (flatMap (L .write) xs) s p q
       first (refused c i) r g ih = clash c i xs q g
       first (got x j) r g ih = second x j r (readAll (L .read) n s j) refl g ih

@@ -37,7 +37,8 @@ bounds-proper = omega arith
 
 -- ## The ranges of lawful rules lie within the bounds
 ranges-within : (d : Dimension) → d .bounds .0 < d .bounds .1 → (rs : List Rule) → All (λ r. LawfulIn r d) rs → All (Inside (d .bounds)) (allRanges rs d)
-ranges-within d proper rs h = flatMap-all (Inside (d .bounds)) (λ r. ranges (d .bounds) (d .items r)) rs (All-map (λ r k. ranges-inside (d .bounds) proper (d .items r) k) rs h)
+ranges-within d proper rs h =
+    flatMap-all (Inside (d .bounds)) (λ r. ranges (d .bounds) (d .items r)) rs (All-map (λ r k. ranges-inside (d .bounds) proper (d .items r) k) rs h)
 
 -- dimension by dimension
 by-dimension : (ds : List Dimension) (rs : List Rule) → All (λ r. All (LawfulIn r) ds) rs → All (λ d. All (λ r. LawfulIn r d) rs) ds
@@ -47,7 +48,8 @@ by-dimension (d ∷ ds) rs h = (All-map (λ r k. k .0) rs h, by-dimension ds rs 
 pub lawful-within : (rs : List Rule) → All Lawful rs → Within allBounds (cutRanges rs)
 lawful-within rs h = go dimensions bounds-proper (by-dimension dimensions rs h)
   where
-    go : (ds : List Dimension) → Proper (map (λ d. d .bounds) ds) → All (λ d. All (λ r. LawfulIn r d) rs) ds → Within (map (λ d. d .bounds) ds) (map (allRanges rs) ds)
+    go : (ds : List Dimension) → Proper (map (λ d. d .bounds) ds) → All (λ d. All (λ r. LawfulIn r d) rs) ds
+        → Within (map (λ d. d .bounds) ds) (map (allRanges rs) ds)
     go [] o k = tt
     go (d ∷ ds) o k = (ranges-within d (o .0) rs (k .0), go ds (o .1) (k .1))
 

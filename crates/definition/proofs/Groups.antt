@@ -51,10 +51,12 @@ module _ (rs : List Rule) where
   -- what holds of the day of every point, and of the empty day, holds of every page's
   pub pages-each : (P : Day → Type 0) → P [] → ((p : List ℕ) → inside eqb points p ≡ true → P (dayAt rs p)) → All (λ g. P (g .0)) (pages rs)
   unfolding pages
-  pages-each P pe h = runs pointGroups (groups-each sameDay eqb [] points (λ ok. Unit {0}) (λ g. P (g .0)) (λ f. (p : List ℕ) → inside eqb points p ≡ true → P (f p))
+  pages-each P pe h = runs pointGroups
+      (groups-each sameDay eqb [] points (λ ok. Unit {0}) (λ g. P (g .0)) (λ f. (p : List ℕ) → inside eqb points p ≡ true → P (f p))
       (λ ok u f q. pop-inside sameDay exact-eqb ok P points f q) cleared dayClasses (tt, (tt, (tt, (tt, (tt, tt))))) (dayAt rs) h)
     where
-      cleared : (S : List (List ℕ)) (f : List ℕ → Day) → ((p : List ℕ) → inside eqb points p ≡ true → P (f p)) → (p : List ℕ) → inside eqb points p ≡ true → P (clear eqb [] S f p)
+      cleared : (S : List (List ℕ)) (f : List ℕ → Day) → ((p : List ℕ) → inside eqb points p ≡ true → P (f p)) → (p : List ℕ)
+          → inside eqb points p ≡ true → P (clear eqb [] S f p)
       cleared S f q p i = subst P (sym (clear-value eqb [] S f p)) (go (inside eqb S p))
         where
           go : (b : Bool) → P (cond b [] (f p))

@@ -37,7 +37,8 @@ week-faithful =
 module _ (t : ℕ) where
   month-body : (a b : Bool) → eqb t 0 ≡ a → eqb t 1 ≡ b → t < 3 → Faithful (λ m. monthdayTag m ≡ t) (monthdayOf t)
   unfolding monthdayOf
-  month-body true b e k l = rw e (via-faithful _ _ _ (then-faithful (field-faithful _ _ 4) (field-faithful _ _ 4)) (λ m q. (tt, tt)) made (λ x p f. (refl, sym z)))
+  month-body true b e k l =
+      rw e (via-faithful _ _ _ (then-faithful (field-faithful _ _ 4) (field-faithful _ _ 4)) (λ m q. (tt, tt)) made (λ x p f. (refl, sym z)))
     where
       z : t ≡ 0
       z = eqb-true t 0 e
@@ -47,7 +48,9 @@ module _ (t : ℕ) where
       made (monthsOf c d y) q = absurd (omega (arith, z))
       made (dated r) q = absurd (omega (arith, z))
   month-body false true e k l =
-      rw (e, k) (via-faithful _ _ _ (then-faithful (field-faithful _ _ 4) (then-faithful (field-faithful _ _ 4) (field-faithful _ _ 14))) (λ m q. (tt, (tt, tt))) made (λ x p f. (refl, sym z)))
+      rw (e, k)
+      (via-faithful _ _ _ (then-faithful (field-faithful _ _ 4) (then-faithful (field-faithful _ _ 4) (field-faithful _ _ 14)))
+      (λ m q. (tt, (tt, tt))) made (λ x p f. (refl, sym z)))
     where
       z : t ≡ 1
       z = eqb-true t 1 k
@@ -77,7 +80,8 @@ module _ (t : ℕ) where
   unfolding weekdayOf
   weekday-body true e l =
       rw e (via-faithful _ _ _
-      (then-faithful (field-faithful _ _ 3) (then-faithful (field-faithful _ _ 3) (then-faithful (field-faithful _ _ 16) (then-faithful (field-faithful _ _ 5) (field-faithful _ _ 5)))))
+      (then-faithful (field-faithful _ _ 3)
+      (then-faithful (field-faithful _ _ 3) (then-faithful (field-faithful _ _ 16) (then-faithful (field-faithful _ _ 5) (field-faithful _ _ 5)))))
       (λ d q. (tt, (tt, (tt, (tt, tt))))) made (λ x p f. (refl, sym z)))
     where
       z : t ≡ 0
@@ -87,7 +91,8 @@ module _ (t : ℕ) where
           → fixedDays (weekdayParts d .0) (weekdayParts d .1 .0) (weekdayParts d .1 .1 .0) (weekdayParts d .1 .1 .1 .0) (weekdayParts d .1 .1 .1 .1) ≡ d
       made (fixedDays c d o m n) q = refl
       made (holiday k o) q = absurd (omega (arith, z))
-  weekday-body false e l = rw e (via-faithful _ _ _ (then-faithful (field-faithful _ _ 1) (field-faithful _ _ 16)) (λ d q. (tt, tt)) made (λ x p f. (refl, sym z)))
+  weekday-body false e l =
+      rw e (via-faithful _ _ _ (then-faithful (field-faithful _ _ 1) (field-faithful _ _ 16)) (λ d q. (tt, tt)) made (λ x p f. (refl, sym z)))
     where
       z : t ≡ 1
       z = omega (arith, eqb-false t 0 e)
@@ -183,20 +188,20 @@ span-faithful =
         → ((x .0, (x .1 .0, (flagBit (flagOf (x .1 .1 .0)), x .1 .1 .1))) ≡ x) × Unit {0}
     parted x p f = (λ i. (x .0, (x .1 .0, (bit (x .1 .1 .0) (open-end-low x f) i, x .1 .1 .1))), tt)
 
+pub operator-number : (n : ℕ) → n < 3 → operatorNumber (operatorOf n) ≡ n
+operator-number zero l = refl
+operator-number (suc zero) l = refl
+operator-number (suc (suc zero)) l = refl
+operator-number (suc (suc (suc n))) l = absurd (omega arith)
+
 pub operator-faithful : Faithful Always (via operatorOf operatorNumber choice)
 unfolding field
-operator-faithful = via-faithful Always _ _ (field-faithful unlawful (λ v. ltb v 3) 2) (λ o u. tt) made (λ n p f. (number n (field-low 2 3 n f), tt))
+operator-faithful = via-faithful Always _ _ (field-faithful unlawful (λ v. ltb v 3) 2) (λ o u. tt) made (λ n p f. (operator-number n (field-low 2 3 n f), tt))
   where
     made : (o : Operator) → Unit {0} → operatorOf (operatorNumber o) ≡ o
     made Normal u = refl
     made Additional u = refl
     made Fallback u = refl
-
-    number : (n : ℕ) → n < 3 → operatorNumber (operatorOf n) ≡ n
-    number zero l = refl
-    number (suc zero) l = refl
-    number (suc (suc zero)) l = refl
-    number (suc (suc (suc n))) l = absurd (omega arith)
 
 pub kind-faithful : Faithful Always (via kindOf kindNumber choice)
 unfolding field

@@ -58,14 +58,20 @@ ends-lawful w b m n f g = (split-and (ltb m (2 ^ w)) (holds m b) f .1, split-and
 pub year-lawful : (y : YearRange) → yearRange .fits y ≡ true → Bounded yearBounds (y .start, y .end)
 unfolding yearRange via _then_ field
 year-lawful y f =
-    let k = split-and (ltb (y .start) (2 ^ 14) && holds (y .start) yearBounds) (ltb (y .end) (2 ^ 14) && holds (y .end) yearBounds && (ltb (y .step) (2 ^ 16) && leb 1 (y .step))) f in
-    ends-lawful 14 yearBounds (y .start) (y .end) (k .0) (split-and (ltb (y .end) (2 ^ 14) && holds (y .end) yearBounds) (ltb (y .step) (2 ^ 16) && leb 1 (y .step)) (k .1) .0)
+    let k =
+    split-and (ltb (y .start) (2 ^ 14) && holds (y .start) yearBounds)
+    (ltb (y .end) (2 ^ 14) && holds (y .end) yearBounds && (ltb (y .step) (2 ^ 16) && leb 1 (y .step))) f in
+    ends-lawful 14 yearBounds (y .start) (y .end) (k .0)
+    (split-and (ltb (y .end) (2 ^ 14) && holds (y .end) yearBounds) (ltb (y .step) (2 ^ 16) && leb 1 (y .step)) (k .1) .0)
 
 pub week-lawful : (w : WeekRange) → weekRange .fits w ≡ true → Bounded weekBounds (w .start, w .end)
 unfolding weekRange via _then_ field
 week-lawful w f =
-    let k = split-and (ltb (w .start) (2 ^ 6) && holds (w .start) weekBounds) (ltb (w .end) (2 ^ 6) && holds (w .end) weekBounds && (ltb (w .step) (2 ^ 8) && leb 1 (w .step))) f in
-    ends-lawful 6 weekBounds (w .start) (w .end) (k .0) (split-and (ltb (w .end) (2 ^ 6) && holds (w .end) weekBounds) (ltb (w .step) (2 ^ 8) && leb 1 (w .step)) (k .1) .0)
+    let k =
+    split-and (ltb (w .start) (2 ^ 6) && holds (w .start) weekBounds)
+    (ltb (w .end) (2 ^ 6) && holds (w .end) weekBounds && (ltb (w .step) (2 ^ 8) && leb 1 (w .step))) f in
+    ends-lawful 6 weekBounds (w .start) (w .end) (k .0)
+    (split-and (ltb (w .end) (2 ^ 6) && holds (w .end) weekBounds) (ltb (w .step) (2 ^ 8) && leb 1 (w .step)) (k .1) .0)
 
 pub month-lawful : (m : MonthdayRange) → monthdayRange .fits m ≡ true → All (Bounded monthBounds) (monthEnds m)
 unfolding monthdayRange tagged monthdayOf via _then_ field

@@ -1,15 +1,18 @@
--- How far the reading of each item goes at most, from a time's 19 bits to a span's 52; and how far a rule's. Rests on the laws of readings.
+-- How far the reading of each item goes at most, from a time's 19 bits to a span's 52; how far a rule's; and how many digits a number has
+-- in a line. Rests on the laws of readings.
 -- Assumes nothing.
-use mathlib.Core.Path.{_≡_, refl}
+use mathlib.Core.Path.{_≡_, refl, ap}
 use mathlib.Core.List.{List}
 use mathlib.Core.Option.{none}
 use mathlib.Core.Bool.{Bool, true, false}
-use Prim.Native.Nat.{ℕ, _+_, _*_, _≤_}
+use Prim.Native.Nat.{ℕ, zero, suc, _+_, _*_, _%_, _^_, _≤_}
 use native.Mathlib.Omega.{arith}
 use lib.Dec.{eqb}
+use lib.ListN.{length}
 use borrow.Author.Tests.{leb-true}
 use Rattle.definition.specs.Field.{got, Layout, noBits}
 use Rattle.definition.specs.Sheet.{yearRange, monthsLayout, monthsOfLayout, monthdayOf, monthdayRange, weekRange, holidayLayout, weekdayOf, weekDayRange, fixedLayout, timeOf, time, repeatsOf, repeatsLayout, span, form1, limits1, Counts, Title, Head, title, counts, head, body, rule}
+use Rattle.definition.specs.Text.{digits}
 use Rattle.definition.proofs.Reading.{then-parts, via-parts, tagged-parts, field-passed, Short, field-end, field-short, none-short, then-short, via-short, tagged-short, several-short}
 
 -- what is short enough is shorter than more
@@ -30,7 +33,9 @@ month-body t = go (eqb t 0) refl (eqb t 1) refl
   where
     go : (a : Bool) → eqb t 0 ≡ a → (b : Bool) → eqb t 1 ≡ b → Short (monthdayOf t) 32
     go true e b f = rw e (less monthsLayout 8 32 (omega arith) (via-short _ _ _ 8 (then-short _ _ 4 4 (field-short _ _ 4) (field-short _ _ 4))))
-    go false e true f = rw (e, f) (less monthsOfLayout 22 32 (omega arith) (via-short _ _ _ 22 (then-short _ _ 4 18 (field-short _ _ 4) (then-short _ _ 4 14 (field-short _ _ 4) (field-short _ _ 14)))))
+    go false e true f = rw (e, f)
+        (less monthsOfLayout 22 32 (omega arith)
+        (via-short _ _ _ 22 (then-short _ _ 4 18 (field-short _ _ 4) (then-short _ _ 4 14 (field-short _ _ 4) (field-short _ _ 14)))))
     go false e false f = rw (e, f) (via-short _ _ _ 32 (field-short _ _ 32))
 
 pub monthdays-short : Short monthdayRange 34
@@ -72,12 +77,15 @@ repeats-body t = go (eqb t 0) refl
 
 pub span-short : Short span 52
 unfolding span repeatsLayout
-span-short = via-short _ _ _ 52 (then-short _ _ 19 33 time-short (then-short _ _ 19 14 time-short (then-short _ _ 1 13 (field-short _ _ 1) (tagged-short _ _ _ 1 12 (field-short _ _ 1) repeats-body))))
+span-short = via-short _ _ _ 52
+    (then-short _ _ 19 33 time-short
+    (then-short _ _ 19 14 time-short (then-short _ _ 1 13 (field-short _ _ 1) (tagged-short _ _ _ 1 12 (field-short _ _ 1) repeats-body))))
 
 -- ## How far a rule goes
 -- counts keep their limit, and take fifty bits
 pub counts-low : (s : List ℕ) (p : ℕ) (n : Counts) (q : ℕ) → (counts form1 limits1) .read s p ≡ got n q
-    → (n .0 ≤ limits1 .items) × (n .1 .0 ≤ limits1 .items) × (n .1 .1 .0 ≤ limits1 .items) × (n .1 .1 .1 .0 ≤ limits1 .items) × (n .1 .1 .1 .1 ≤ limits1 .spans) × (q ≡ p + 50)
+    → (n .0 ≤ limits1 .items) × (n .1 .0 ≤ limits1 .items) × (n .1 .1 .0 ≤ limits1 .items) × (n .1 .1 .1 .0 ≤ limits1 .items) ×
+    (n .1 .1 .1 .1 ≤ limits1 .spans) × (q ≡ p + 50)
 unfolding counts
 counts-low s p n q e =
     let y = then-parts _ _ s p n q e in
@@ -113,7 +121,8 @@ body-short : (n : Counts) → Short (body form1 limits1 n) (n .0 * 44 + (n .1 .0
 unfolding body
 body-short n =
     then-short _ _ _ _ (several-short _ 44 years-short (n .0)) (then-short _ _ _ _ (several-short _ 34 monthdays-short (n .1 .0))
-    (then-short _ _ _ _ (several-short _ 20 weeks-short (n .1 .1 .0)) (then-short _ _ _ _ (several-short _ 33 weekdays-short (n .1 .1 .1 .0)) (several-short _ 52 span-short (n .1 .1 .1 .1)))))
+    (then-short _ _ _ _ (several-short _ 20 weeks-short (n .1 .1 .0))
+    (then-short _ _ _ _ (several-short _ 33 weekdays-short (n .1 .1 .1 .0)) (several-short _ 52 span-short (n .1 .1 .1 .1)))))
 
 pub head-parts : (s : List ℕ) (p : ℕ) (h : Head) (q : ℕ) → (head form1 limits1) .read s p ≡ got h q
     → (j : ℕ) × ((title form1 limits1) .read s p ≡ got (h .0) j) × ((counts form1 limits1) .read s j ≡ got (h .1) q)
@@ -127,4 +136,20 @@ rule-short s p r q e =
     let w = tagged-parts _ _ _ s p r q e in
     let k = head-parts s p (w .0) (w .1) (w .2) in
     let low = counts-low s (k .0) (w .0 .1) (w .1) (k .2) in
-    omega (arith, title-end s p (w .0 .0) (k .0) (k .1), low .0, low .1, low .2, low .3, low .4, low .5, via-short _ _ _ _ (body-short (w .0 .1)) s (w .1) r q (w .3))
+    omega (
+      arith,
+      title-end s p (w .0 .0) (k .0) (k .1),
+      low .0,
+      low .1,
+      low .2,
+      low .3,
+      low .4,
+      low .5,
+      via-short _ _ _ _ (body-short (w .0 .1)) s (w .1) r q (w .3),
+    )
+
+-- ## Digits
+pub length-digits : (w v : ℕ) → length (digits w v) ≡ w
+unfolding digits
+length-digits zero v = refl
+length-digits (suc w) v = ap suc (length-digits w (v % 10 ^ w))

@@ -24,3 +24,5 @@ pub mod Writing
 pub mod Worked
 pub mod WorkedLines
 pub mod WorkedDates
+pub mod Drained
+pub mod FoldCases

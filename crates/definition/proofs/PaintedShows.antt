@@ -3,13 +3,13 @@
 -- Assumes nothing.
 use mathlib.Core.Path.{_≡_, refl, sym, ap, _∙_}
 use mathlib.Core.List.{List, [], _∷_, _++_, map, flatMap, append-assoc}
-use mathlib.Core.Bool.{Bool, true, false, _&&_, _||_, cond, true≢false}
+use mathlib.Core.Bool.{Bool, true, false, _||_, cond, true≢false}
 use Prim.Native.Nat.{ℕ, suc, _≤_, _<_}
 use native.Mathlib.Omega.{arith}
 use lib.Dec.{eqb}
 use borrow.Author.Tests.{eqb-true, eqb-false, eq-eqb, lt-ltb, le-leb}
 use Rattle.laws.specs.Lists.{anyOf, All}
-use Rattle.laws.proofs.Flags.{or-assoc, or-left, or-right, same-flag, both-and}
+use Rattle.laws.proofs.Flags.{or-assoc, or-left, or-right, same-flag, both-and, and-true}
 use Rattle.laws.proofs.Lists.{All-keep}
 use Rattle.laws.proofs.Numbers.{from-inside, All-from}
 use Rattle.laws.proofs.Tests.{exact-eqb}
@@ -62,7 +62,8 @@ holds-join m x e h = same-flag _ _ (λ t. to (holds-in m (x, e) t) (eqb m x) ref
         go false q = let k = holds-in m (suc x, e) (rw q at t) in in-holds m (x, e) (omega arith) (omega arith)
 
 holds-one : (m x : ℕ) → holds m (x, suc x) ≡ eqb m x
-holds-one m x = same-flag _ _ (λ t. let k = holds-in m (x, suc x) t in eq-eqb m x (omega arith)) (λ t. let k = eqb-true m x t in in-holds m (x, suc x) (omega arith) (omega arith))
+holds-one m x = same-flag _ _ (λ t. let k = holds-in m (x, suc x) t in eq-eqb m x (omega arith))
+    (λ t. let k = eqb-true m x t in in-holds m (x, suc x) (omega arith) (omega arith))
 
 -- a run within the day
 abbrev pub ProperRun : Range → Type 0
@@ -88,7 +89,8 @@ glue-holds m x [] a = rw (holds-one m x)
 glue-holds m x (j ∷ rs) a = go (eqb (suc x) (j .0)) refl
   where
     go : (b : Bool) → eqb (suc x) (j .0) ≡ b → anyOf (holds m) (glue (x, suc x) (j ∷ rs)) ≡ eqb m x || (holds m j || anyOf (holds m) rs)
-    go true e = rw (e, glue, holds-join m x (j .1) (omega (arith, eqb-true (suc x) (j .0) e, a .0)), eqb-true (suc x) (j .0) e) (or-assoc (eqb m x) (holds m j) (anyOf (holds m) rs))
+    go true e = rw (e, glue, holds-join m x (j .1) (omega (arith, eqb-true (suc x) (j .0) e, a .0)), eqb-true (suc x) (j .0) e)
+        (or-assoc (eqb m x) (holds m j) (anyOf (holds m) rs))
     go false e = rw (e, glue, holds-one m x)
 
 pub runs-hold : (m : ℕ) (xs : List ℕ) → All (λ x. x < 1440) xs → anyOf (holds m) (runs xs) ≡ anyOf (eqb m) xs
@@ -124,10 +126,6 @@ module _ (c : Cover) (m : ℕ) where
         where
           below : All (λ x. x < 1440) E
           below = rw (k .0 .1) (All-keep (λ x. x < 1440) (k .0 .0) (coordinates minuteBounds) minutes-below)
-
-          and-true : (b : Bool) → b && true ≡ b
-          and-true true = refl
-          and-true false = refl
       go (E ∷ F ∷ S) k = absurd (k .1)
 
   found-avoid : (R : State) (gs : List (Group ℕ State)) → All (λ g. inside eqb (g .1) (m ∷ []) ≡ false) gs → found eqb R gs (m ∷ []) ≡ R
@@ -166,7 +164,8 @@ no-class S h = go (S .kind) (eqb (S .comment) 0) refl refl
     go Closed false p q = absurd (true≢false (rw (p, q) at (h .1 .1 .1 .1 .0)))
 
 -- THE PAINTED ENTRIES SHOW THE PAINTING
-pub last-painted : (c : Cover) (m : ℕ) → m < 1440 → (xs : List Stated) → lastOver (c .covers) closed (flattened (paintedEntries xs)) m ≡ lastOver within closed xs m
+pub last-painted : (c : Cover) (m : ℕ) → m < 1440 → (xs : List Stated)
+    → lastOver (c .covers) closed (flattened (paintedEntries xs)) m ≡ lastOver within closed xs m
 unfolding paintedEntries inside
 last-painted c m small xs =
     entries-show c m closed gs (groups-part sameState eqb closed (coordinates minuteBounds ∷ []) stateClasses (painted xs))

@@ -79,7 +79,8 @@ pub tagged-parts : {A B : Type 0} (L : Layout A) (M : A → Layout B) (tag : B �
 unfolding tagged
 tagged-parts {A} L M tag s p y q e = go (L .read s p) refl e
   where
-    go : (r : Read A) → L .read s p ≡ r → andThen (λ t j. (M t) .read s j) r ≡ got y q → (t : A) × (j : ℕ) × (L .read s p ≡ got t j) × ((M t) .read s j ≡ got y q)
+    go : (r : Read A) → L .read s p ≡ r → andThen (λ t j. (M t) .read s j) r ≡ got y q
+        → (t : A) × (j : ℕ) × (L .read s p ≡ got t j) × ((M t) .read s j ≡ got y q)
     go (refused c i) h g = clash c i y q g
     go (got t j) h g = (t, j, h, g)
 
@@ -143,10 +144,12 @@ then-short L M m n a b s p v q e = let k = then-parts L M s p v q e in omega (ar
 pub via-short : {A B : Type 0} (make : A → B) (parts : B → A) (L : Layout A) (n : ℕ) → Short L n → Short (via make parts L) n
 via-short make parts L n a s p y q e = let k = via-parts make parts L s p y q e in a s p (k .0) q (k .1)
 
-pub tagged-short : {A B : Type 0} (L : Layout A) (M : A → Layout B) (tag : B → A) (m n : ℕ) → Short L m → ((t : A) → Short (M t) n) → Short (tagged L M tag) (m + n)
+pub tagged-short : {A B : Type 0} (L : Layout A) (M : A → Layout B) (tag : B → A) (m n : ℕ) → Short L m → ((t : A) → Short (M t) n)
+    → Short (tagged L M tag) (m + n)
 tagged-short L M tag m n a b s p y q e = let k = tagged-parts L M tag s p y q e in omega (arith, a s p (k .0) (k .1) (k .2), b (k .0) s (k .1) y q (k .3))
 
-all-short : {A : Type 0} (L : Layout A) (m : ℕ) → Short L m → (n : ℕ) (s : List ℕ) (p : ℕ) (xs : List A) (q : ℕ) → readAll (L .read) n s p ≡ got xs q → (p ≤ q) × (q ≤ p + n * m)
+all-short : {A : Type 0} (L : Layout A) (m : ℕ) → Short L m → (n : ℕ) (s : List ℕ) (p : ℕ) (xs : List A) (q : ℕ) → readAll (L .read) n s p ≡ got xs q
+    → (p ≤ q) × (q ≤ p + n * m)
 unfolding readAll
 all-short L m a zero s p xs q e = let z : p ≡ q = cc in omega arith
 all-short L m a (suc n) s p xs q e =

@@ -43,7 +43,8 @@ pub record Sized (i s : ℕ) (r : Rule) : Type 0 where
   pub spans-few : length (r .spans) ≤ s
 
 -- ## The rules of a page
-items-less : (b : Range) (R : List Range) → length (itemsOf b R) ≤ length R
+-- there are no more items than runs
+pub items-less : (b : Range) (R : List Range) → length (itemsOf b R) ≤ length R
 unfolding itemsOf
 items-less b [] = omega arith
 items-less b (r ∷ R) = go (eqb (r .0) (b .0) && eqb (r .1) (b .1)) refl
@@ -60,22 +61,47 @@ module _ (i s : ℕ) where
   few es f l = subst (_≤ i) (sym (length-map es f)) l
 
   lays-weekdays : Lays weekdayDimension
-  lays-weekdays es r l k = record { years-few = k .years-few; monthdays-few = k .monthdays-few; weeks-few = k .weeks-few; weekdays-few = few es _ l; spans-few = k .spans-few }
+  lays-weekdays es r l k = record {
+    years-few = k .years-few;
+    monthdays-few = k .monthdays-few;
+    weeks-few = k .weeks-few;
+    weekdays-few = few es _ l;
+    spans-few = k .spans-few;
+  }
 
   lays-weeks : Lays weekDimension
-  lays-weeks es r l k = record { years-few = k .years-few; monthdays-few = k .monthdays-few; weeks-few = few es _ l; weekdays-few = k .weekdays-few; spans-few = k .spans-few }
+  lays-weeks es r l k = record {
+    years-few = k .years-few;
+    monthdays-few = k .monthdays-few;
+    weeks-few = few es _ l;
+    weekdays-few = k .weekdays-few;
+    spans-few = k .spans-few;
+  }
 
   lays-months : Lays monthDimension
-  lays-months es r l k = record { years-few = k .years-few; monthdays-few = few es _ l; weeks-few = k .weeks-few; weekdays-few = k .weekdays-few; spans-few = k .spans-few }
+  lays-months es r l k = record {
+    years-few = k .years-few;
+    monthdays-few = few es _ l;
+    weeks-few = k .weeks-few;
+    weekdays-few = k .weekdays-few;
+    spans-few = k .spans-few;
+  }
 
   lays-years : Lays yearDimension
-  lays-years es r l k = record { years-few = few es _ l; monthdays-few = k .monthdays-few; weeks-few = k .weeks-few; weekdays-few = k .weekdays-few; spans-few = k .spans-few }
+  lays-years es r l k = record {
+    years-few = few es _ l;
+    monthdays-few = k .monthdays-few;
+    weeks-few = k .weeks-few;
+    weekdays-few = k .weekdays-few;
+    spans-few = k .spans-few;
+  }
 
   -- in whatever order the dimensions stand
   lays : All Lays dimensions
   lays = search (lays-weekdays, lays-weeks, lays-months, lays-years)
 
-  laid-sized : (ds : List Dimension) → All Lays ds → (Rs : List (List Range)) → All (λ R. length R ≤ i) Rs → (r : Rule) → Sized i s r → Sized i s (laidOver ds Rs r)
+  laid-sized : (ds : List Dimension) → All Lays ds → (Rs : List (List Range)) → All (λ R. length R ≤ i) Rs → (r : Rule) → Sized i s r
+      → Sized i s (laidOver ds Rs r)
   unfolding laidOver
   laid-sized [] a Rs l r k = k
   laid-sized (d ∷ ds) a [] l r k = k
@@ -115,9 +141,12 @@ pub record CountsFit (form : Form) (rs : List Rule) : Type 0 where
 module _ (form : Form) (limits : Limits) where
   count-fits : (limit v : ℕ) → (counted (form .itemCount) limit) .fits v ≡ true → (v ≤ 2 ^ form .itemCount - 1) × (v ≤ limit)
   unfolding field
-  count-fits limit v f = let k = split-and (ltb v (2 ^ form .itemCount)) (leb v limit) f in (omega (arith, ltb-true v (2 ^ form .itemCount) (k .0)), leb-true v limit (k .1))
+  count-fits limit v f =
+      let k = split-and (ltb v (2 ^ form .itemCount)) (leb v limit) f in
+      (omega (arith, ltb-true v (2 ^ form .itemCount) (k .0)), leb-true v limit (k .1))
 
-  head-sized : (r : Rule) → (rule form limits) .fits r ≡ true → Sized (2 ^ form .itemCount - 1) (2 ^ form .itemCount - 1) r × (length (r .spans) ≤ limits .spans)
+  head-sized : (r : Rule) → (rule form limits) .fits r ≡ true
+      → Sized (2 ^ form .itemCount - 1) (2 ^ form .itemCount - 1) r × (length (r .spans) ≤ limits .spans)
   unfolding rule tagged head counts _then_
   head-sized r f =
       let items = counted (form .itemCount) (limits .items) in
@@ -160,7 +189,8 @@ module _ (form : Form) (limits : Limits) where
   unfolding judged
   judged-fine rs o h = go (ltb (limits .boxes) (boxCount dimensions rs)) refl o h
     where
-      go : (b : Bool) → ltb (limits .boxes) (boxCount dimensions rs) ≡ b → (p : Option ℕ) → judged limits rs p ≡ fine → (boxCount dimensions rs ≤ limits .boxes) × (p ≡ none)
+      go : (b : Bool) → ltb (limits .boxes) (boxCount dimensions rs) ≡ b → (p : Option ℕ) → judged limits rs p ≡ fine
+          → (boxCount dimensions rs ≤ limits .boxes) × (p ≡ none)
       go true e p k = let z : over manyBoxes (boxCount dimensions rs) ≡ fine = rw (e, judged) at k in let q : _≡_ {A = ℕ} 0 1 = cc in absurd (omega arith)
       go false e none k = (ltb-false (limits .boxes) (boxCount dimensions rs) e, refl)
       go false e (some j) k = let z : over longList j ≡ fine = rw (e, judged) at k in let q : _≡_ {A = ℕ} 0 1 = cc in absurd (omega arith)
@@ -190,8 +220,10 @@ module _ (form : Form) (limits : Limits) where
         );
         item-counts = All-append _ (flatMap rulesOf (pages ds)) (left rs)
             (flatMap-all _ rulesOf (pages ds)
-            (All-map₂ (λ g k b. rules-sized (2 ^ form .itemCount - 1) (2 ^ form .itemCount - 1) g (All-map (λ R l. omega (arith, l, d .0, roomy .items-room)) (g .1) k) b)
+            (All-map₂ (λ g k b. rules-sized (2 ^ form .itemCount - 1) (2 ^ form .itemCount - 1) g
+            (All-map (λ R l. omega (arith, l, d .0, roomy .items-room)) (g .1) k) b)
             (pages ds) (pages-few ds lawful)
-            (All-map (λ g k. All-map (λ x l. omega (arith, l, roomy .spans-room)) (g .0) k) (pages ds) (pages-brief (limits .entries) (limits .spans) ds (d .1) spans))))
+            (All-map (λ g k. All-map (λ x l. omega (arith, l, roomy .spans-room)) (g .0) k) (pages ds)
+            (pages-brief (limits .entries) (limits .spans) ds (d .1) spans))))
             (rest .0);
       }

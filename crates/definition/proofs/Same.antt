@@ -19,7 +19,9 @@ kind-equal j k e = sym (back j) ∙ ap kindOf e ∙ back k
 
 pub exact-state : Exact sameState
 exact-state = record {
-  self = λ s. both-and (eqb (kindNumber (s .kind)) (kindNumber (s .kind))) (eqb (s .comment) (s .comment)) (exact-eqb .self (kindNumber (s .kind))) (exact-eqb .self (s .comment));
+  self = λ s.
+      both-and (eqb (kindNumber (s .kind)) (kindNumber (s .kind))) (eqb (s .comment) (s .comment)) (exact-eqb .self (kindNumber (s .kind)))
+      (exact-eqb .self (s .comment));
   equal = λ s t h. let e = split-and (eqb (kindNumber (s .kind)) (kindNumber (t .kind))) (eqb (s .comment) (t .comment)) h in
       λ i. record { kind = kind-equal (s .kind) (t .kind) (exact-eqb .equal _ _ (e .0)) i; comment = exact-eqb .equal (s .comment) (t .comment) (e .1) i };
 }

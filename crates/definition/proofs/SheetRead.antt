@@ -20,7 +20,8 @@ use Rattle.definition.proofs.Faithful.{Faithful, Always, field-faithful
 use Rattle.definition.proofs.Items.{year-faithful, monthday-faithful, week-faithful, weekday-faithful, span-faithful, operator-faithful, kind-faithful}
 
 -- a value that was read is one that the layout can carry
-pub carried : {A : Type 0} {L : Layout A} → Faithful Always L → (sheet : List ℕ) → Bytes sheet → (p : ℕ) (x : A) (q : ℕ) → L .read (sheetBits sheet) p ≡ got x q → L .fits x ≡ true
+pub carried : {A : Type 0} {L : Layout A} → Faithful Always L → (sheet : List ℕ) → Bytes sheet → (p : ℕ) (x : A) (q : ℕ)
+    → L .read (sheetBits sheet) p ≡ got x q → L .fits x ≡ true
 carried a sheet b p x q e = a .written (sheetBits sheet) (sheet-bits sheet b) p x q e .1
 
 module _ (form : Form) (limits : Limits) where
@@ -32,7 +33,8 @@ module _ (form : Form) (limits : Limits) where
   unfolding head title counts
   head-faithful =
       then-faithful (then-faithful operator-faithful (then-faithful kind-faithful (field-faithful _ _ (form .comment))))
-      (then-faithful (count-faithful _) (then-faithful (count-faithful _) (then-faithful (count-faithful _) (then-faithful (count-faithful _) (count-faithful _)))))
+      (then-faithful (count-faithful _)
+      (then-faithful (count-faithful _) (then-faithful (count-faithful _) (then-faithful (count-faithful _) (count-faithful _)))))
 
   -- lists as long as the counts say
   abbrev Long : Counts → Body → Type 0
@@ -43,20 +45,24 @@ module _ (form : Form) (limits : Limits) where
   unfolding body
   body-faithful n =
       then-faithful (several-faithful year-faithful (n .0)) (then-faithful (several-faithful monthday-faithful (n .1 .0))
-      (then-faithful (several-faithful week-faithful (n .1 .1 .0)) (then-faithful (several-faithful weekday-faithful (n .1 .1 .1 .0)) (several-faithful span-faithful (n .1 .1 .1 .1)))))
+      (then-faithful (several-faithful week-faithful (n .1 .1 .0))
+      (then-faithful (several-faithful weekday-faithful (n .1 .1 .1 .0)) (several-faithful span-faithful (n .1 .1 .1 .1)))))
 
   pub rule-faithful : Faithful Always (rule form limits)
   unfolding rule
   rule-faithful = tagged-faithful headOf head-faithful (λ r. ((tt, (tt, tt)), (tt, (tt, (tt, (tt, tt)))))) (λ h u f. whole h)
     where
       under : (h : Head) (r : Rule) → headOf r ≡ h → Long (h .1) (bodyOf r)
-      under h r e = let n = ap (λ k. k .1) e in (ap (λ c. c .0) n, (ap (λ c. c .1 .0) n, (ap (λ c. c .1 .1 .0) n, (ap (λ c. c .1 .1 .1 .0) n, ap (λ c. c .1 .1 .1 .1) n))))
+      under h r e =
+          let n = ap (λ k. k .1) e in
+          (ap (λ c. c .0) n, (ap (λ c. c .1 .0) n, (ap (λ c. c .1 .1 .0) n, (ap (λ c. c .1 .1 .1 .0) n, ap (λ c. c .1 .1 .1 .1) n))))
 
       into : (h : Head) (b : Body) → Long (h .1) b → headOf (ruleWith h b) ≡ h
       into h b l = λ i. (h .0, (l .0 i, (l .1 .0 i, (l .1 .1 .0 i, (l .1 .1 .1 .0 i, l .1 .1 .1 .1 i)))))
 
       whole : (h : Head) → Faithful (λ r. headOf r ≡ h) (via (ruleWith h) bodyOf (body form limits (h .1)))
-      whole h = via-faithful _ (ruleWith h) bodyOf (body-faithful (h .1)) (under h) (λ r e. ap (λ k. ruleWith k (bodyOf r)) (sym e)) (λ b l f. (refl, into h b l))
+      whole h = via-faithful _ (ruleWith h) bodyOf (body-faithful (h .1)) (under h) (λ r e. ap (λ k. ruleWith k (bodyOf r)) (sym e))
+          (λ b l f. (refl, into h b l))
 
   pub rules-faithful : Faithful Always (rules form limits)
   unfolding rules
@@ -94,7 +100,8 @@ ended-bits {A} ws s n x y q e whole len stands h = first (firstSet (take (paddin
     low : q ≤ length s
     low = omega (arith, ap length stands, length-append ws (drop q s))
 
-    second : firstSet (take (padding q) (drop q s)) q ≡ none → (b : Bool) → ltb (8 * bytesFor q) (length s) ≡ b → (x ≡ y) × (q ≡ e) × (bytesFor q ≡ n) × (s ≡ ws ++ replicate (padding q) 0)
+    second : firstSet (take (padding q) (drop q s)) q ≡ none → (b : Bool) → ltb (8 * bytesFor q) (length s) ≡ b
+        → (x ≡ y) × (q ≡ e) × (bytesFor q ≡ n) × (s ≡ ws ++ replicate (padding q) 0)
     second f true k = let z : refused badEnd (8 * bytesFor q) ≡ got y e = rw (f, k, ended) at h in let c : _≡_ {A = ℕ} 0 1 = cc in absurd (omega arith)
     second f false k =
         let g : got x q ≡ got y e = rw (f, k, ended) at h in
@@ -137,7 +144,8 @@ module _ (form : Form) (limits : Limits) where
           (k .1, back, omega (arith, len, t .1))
 
   -- ENCODE, THEN DECODE
-  pub decode-encoded : (rs : List Rule) → (rules form limits) .fits rs ≡ true → decode form limits (encode form limits rs) ≡ got rs (length ((rules form limits) .write rs))
+  pub decode-encoded : (rs : List Rule) → (rules form limits) .fits rs ≡ true
+      → decode form limits (encode form limits rs) ≡ got rs (length ((rules form limits) .write rs))
   unfolding decode encode packed
   decode-encoded rs f =
       ap (λ s. andThen (ended s) ((rules form limits) .read s 0)) (sheet-bytes (bytesFor (length ws)) whole wide len)
@@ -162,6 +170,8 @@ module _ (form : Form) (limits : Limits) where
       finish =
           let z : 0 + length ws ≡ length ws = omega arith in
           let t : take (padding (length ws)) (drop (length ws) whole) ≡ zeros =
-          ap (take (padding (length ws))) (drop-at ws zeros (length ws) refl) ∙ take-all (padding (length ws)) zeros (omega (arith, length-replicate {A = ℕ} (padding (length ws)) 0))
+          ap (take (padding (length ws))) (drop-at ws zeros (length ws) refl) ∙ take-all (padding (length ws)) zeros
+          (omega (arith, length-replicate {A = ℕ} (padding (length ws)) 0))
           in
-          ap (ended whole rs) z ∙ ended-zeros whole rs (length ws) (ap (λ b. firstSet b (length ws)) t ∙ zero-all (padding (length ws)) (length ws)) (omega (arith, len))
+          ap (ended whole rs) z ∙ ended-zeros whole rs (length ws) (ap (λ b. firstSet b (length ws)) t ∙ zero-all (padding (length ws)) (length ws))
+          (omega (arith, len))

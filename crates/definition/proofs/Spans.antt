@@ -28,7 +28,8 @@ unfolding runOf afterRun
 run-parts S [] = omega arith
 run-parts S (x ∷ xs) = go (sameState (x .0) S) refl (run-parts S xs)
   where
-    go : (b : Bool) → sameState (x .0) S ≡ b → length (runOf S xs) + length (afterRun S xs) ≤ length xs → length (runOf S (x ∷ xs)) + length (afterRun S (x ∷ xs)) ≤ suc (length xs)
+    go : (b : Bool) → sameState (x .0) S ≡ b → length (runOf S xs) + length (afterRun S xs) ≤ length xs
+        → length (runOf S (x ∷ xs)) + length (afterRun S (x ∷ xs)) ≤ suc (length xs)
     go true e ih = rw (e, runOf, afterRun) (omega arith)
     go false e ih = rw (e, runOf, afterRun) (omega arith)
 
@@ -70,7 +71,8 @@ length-sorted (s ∷ ss) = inserted (sorted ss) ∙ ap suc (length-sorted ss)
     inserted [] = unfold insertSpan in refl
     inserted (t ∷ ts) = go (notAbove (spanKey s) (spanKey t)) refl (inserted ts)
       where
-        go : (b : Bool) → notAbove (spanKey s) (spanKey t) ≡ b → length (insertSpan s ts) ≡ suc (length ts) → length (insertSpan s (t ∷ ts)) ≡ suc (suc (length ts))
+        go : (b : Bool) → notAbove (spanKey s) (spanKey t) ≡ b → length (insertSpan s ts) ≡ suc (length ts)
+            → length (insertSpan s (t ∷ ts)) ≡ suc (suc (length ts))
         go true e ih = unfold insertSpan in rw (e, insertSpan)
         go false e ih = unfold insertSpan in rw (e, insertSpan) (ap suc ih)
 
@@ -86,7 +88,8 @@ painting-less (x ∷ xs) = go (simple (x .1)) refl (painting-less xs)
   where
     go : (b : Bool) → simple (x .1) ≡ b → length (painting xs) ≤ length xs → length (painting (x ∷ xs)) ≤ suc (length xs)
     go true e ih = rw (e, painting) (omega arith)
-    go false e ih = rw (e, painting) (omega (arith, length-map {B = Stated} (keep simple (runOf (x .0) xs)) (λ s. (x .0, s)), keep-less simple (runOf (x .0) xs), run-parts (x .0) xs))
+    go false e ih = rw (e, painting)
+        (omega (arith, length-map {B = Stated} (keep simple (runOf (x .0) xs)) (λ s. (x .0, s)), keep-less simple (runOf (x .0) xs), run-parts (x .0) xs))
 
 painted-brief : (xs : List Stated) → Brief (suc (length xs)) (paintedOverIntervals xs)
 unfolding paintedOverIntervals
@@ -104,10 +107,19 @@ painted-brief xs = each (groups sameState sameRange closed stateClasses (boxes (
         runs (E ∷ []) k =
             let b : length (joined E) ≡ length (joined (keep (k .0 .0) (intervals minuteBounds R))) = ap (λ F. length (joined F)) (k .0 .1) in
             let c : length (intervals minuteBounds R) ≡ length (cuts minuteBounds R) - 1 = unfold intervals in length-between (cuts minuteBounds R) in
-            omega (arith, length-map (joined E) plainSpan, b, c, runs-half (k .0 .0) minuteBounds R, cuts-count minuteBounds R, length-map xs (λ x. minutesOf (x .1)))
+            omega (
+              arith,
+              length-map (joined E) plainSpan,
+              b,
+              c,
+              runs-half (k .0 .0) minuteBounds R,
+              cuts-count minuteBounds R,
+              length-map xs (λ x. minutesOf (x .1)),
+            )
         runs (E ∷ F ∷ S) k = absurd (k .1)
 
-    each : (gs : List (Group Range State)) → All (λ g. Part (boxes (minuteBounds ∷ []) (spanRanges xs)) (g .1)) gs → Brief (suc (length xs)) (map asEntry (map asJoined gs))
+    each : (gs : List (Group Range State)) → All (λ g. Part (boxes (minuteBounds ∷ []) (spanRanges xs)) (g .1)) gs
+        → Brief (suc (length xs)) (map asEntry (map asJoined gs))
     each [] p = tt
     each (g ∷ gs) p = (one g (p .0), each gs (p .1))
 

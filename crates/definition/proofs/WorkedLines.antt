@@ -25,9 +25,11 @@ agrees c = sameList eqb (writtenNumbers (answer c)) (c .answer) && sameList eqb 
 
 computed : every agrees cases ≡ true
 unfolding agrees flatMap every anyOf sameList bits number sheetBits bytes fieldAt readField readAll field noBits _thenBits_ via tagged severalBits
-    yearRange monthdayOf monthdayRange weekRange weekdayOf weekDayRange timeOf time repeatsOf repeatsLayout span title counts head body rule rules firstSet ended decode
+    yearRange monthdayOf monthdayRange weekRange weekdayOf weekDayRange timeOf time repeatsOf repeatsLayout span title counts head body rule rules
+    firstSet ended decode
     ascii digits decimalIn word padded plain named _then_ of unless only several
-    item yearText weekText monthText weekdayText clock spanText stateText part ruleText lineOf line firstIndex wordless firstWordless writtenInto showRules showLine
+    item yearText weekText monthText weekdayText clock spanText stateText part ruleText lineOf line firstIndex wordless firstWordless writtenInto
+    showRules showLine
 computed = refl
 
 -- each answer as its case says

@@ -148,3 +148,7 @@ pub record Rule : Type 0 where
   pub weeks : List WeekRange
   pub weekdays : List WeekDayRange
   pub spans : List Span
+
+-- a rule with nothing in it: what is said to stand at a place past the last rule
+abbrev pub noRule : Rule
+noRule = record { operator = Normal; state = closed; years = []; monthdays = []; weeks = []; weekdays = []; spans = [] }

@@ -1,25 +1,20 @@
 -- The rules at the bits that a check notes are the rules that the definition reads.
 -- Assumes nothing.
-use mathlib.Core.Path.{_≡_, refl, ap, _∙_}
+use mathlib.Core.Path.{_≡_, ap, _∙_}
 use mathlib.Core.List.{List}
-use Prim.Native.Nat.{ℕ, zero, suc, _+_, _≤_, _<_}
+use Prim.Native.Nat.{ℕ, _+_, _≤_, _<_}
 use native.Mathlib.Omega.{arith}
 use lib.ListN.{length, getD}
 use lib.Seq.{ext-getD}
 use Rattle.definition.specs.Field.{got, sheetBits}
-use Rattle.definition.specs.Rule.{Rule}
+use Rattle.definition.specs.Rule.{Rule, noRule}
 use Rattle.definition.specs.Sheet.{form1, limits1, decode}
 use Rattle.definition.proofs.Bits.{Bytes}
 use Rattle.sheet.specs.Rules.{begun}
-use Rattle.sheet.specs.Begin.{noRule, ruleAt}
-use Rattle.sheet.proofs.Begins.{Begins, rules-begin}
+use Rattle.sheet.specs.Begin.{ruleAt}
+use Rattle.sheet.proofs.Begins.{rules-begin}
 use Rattle.draining.specs.Table.{rulesFrom}
-use Rattle.draining.proofs.Tabling.{rules-at}
-
-rules-length : (s begins : List ℕ) (n i : ℕ) → length (rulesFrom s begins i n) ≡ n
-unfolding rulesFrom
-rules-length s begins zero i = refl
-rules-length s begins (suc n) i = ap suc (rules-length s begins n (i + 1))
+use Rattle.draining.proofs.Tabling.{rules-at, rules-length}
 
 module _ (sheet : List ℕ) (b : Bytes sheet) (rs : List Rule) (q : ℕ) (e : decode form1 limits1 sheet ≡ got rs q) (begins : List ℕ) (room : 64 ≤ length begins) where
   -- THE RULES OF THE SHEET

@@ -12,7 +12,7 @@ use lib.Seq.{sets}
 use borrow.Author.Tests.{eq-eqb, ne-eqb}
 use Rattle.laws.specs.Lists.{anyOf}
 use Rattle.laws.proofs.Flags.{or-assoc}
-use Rattle.definition.specs.Field.{got, sheetBits, Layout, several}
+use Rattle.definition.specs.Field.{got, sheetBits, several}
 use Rattle.definition.specs.Rule.{Operator, Additional, Fallback, operatorOf, Kind, Open, Unknown, kindOf, Rule}
 use Rattle.definition.specs.Sheet.{form1, limits1, span, title}
 use Rattle.definition.specs.Stop.{isFallback, monthdayStops, weekdayStops, spanStops, stops}
@@ -78,11 +78,11 @@ module _ (sheet : List ℕ) (b : Bytes sheet) (r : Rule) (n q : ℕ) (w : SpansR
       (ap some (w .many) ∙ sym (rw (f, g)), numbers)
 
 -- what was found, once its case is known
-pub found-loads : (s : List ℕ) (r : Rule) (l c l′ c′ : List ℕ) (v : Days) (n q : ℕ) → v ≡ Spans n q → Found s r l c l′ c′ v → Loads s r l c l′ c′ n q
-found-loads s r l c l′ c′ v n q e h = subst (λ u. Found s r l c l′ c′ u) e h
+pub found-loads : (s : List ℕ) (r : Rule) (v : Days) (n q : ℕ) → v ≡ Spans n q → Found s r v → Loads s r n q
+found-loads s r v n q e h = subst (Found s r) e h
 
-pub found-stops : (s : List ℕ) (r : Rule) (l c l′ c′ : List ℕ) (v : Days) → v ≡ Stops → Found s r l c l′ c′ v → daysStop r ≡ true
-found-stops s r l c l′ c′ v e h = subst (λ u. Found s r l c l′ c′ u) e h
+pub found-stops : (s : List ℕ) (r : Rule) (v : Days) → v ≡ Stops → Found s r v → daysStop r ≡ true
+found-stops s r v e h = subst (Found s r) e h
 
 -- ## A rule's title
 pub not-normal : (n : ℕ) → (n ≡ 0 → ⊥) → isNormal (operatorOf n) ≡ false

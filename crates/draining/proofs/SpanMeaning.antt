@@ -6,7 +6,7 @@ use mathlib.Core.Option.{some}
 use mathlib.Core.Bool.{Bool, true, false, _||_, cond, false≢true}
 use Prim.Native.Nat.{ℕ, zero, suc}
 use Rattle.laws.specs.Lists.{anyOf}
-use Rattle.definition.specs.Field.{got, sheetBits, readAll, Layout}
+use Rattle.definition.specs.Field.{got, sheetBits, readAll}
 use Rattle.definition.specs.Rule.{Span}
 use Rattle.definition.specs.Sheet.{span}
 use Rattle.definition.specs.Stop.{spanStops}

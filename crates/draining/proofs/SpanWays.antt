@@ -9,7 +9,7 @@ use native.Mathlib.Omega.{arith}
 use lib.Dec.{eqb}
 use lib.ListN.{set}
 use lib.Seq.{sets}
-use Rattle.definition.specs.Field.{Read, got, refused, Layout}
+use Rattle.definition.specs.Field.{Read, got, refused}
 use Rattle.definition.specs.Rule.{Time, Span, repeatsKey}
 use Rattle.definition.specs.Sheet.{spanOf, span}
 use Rattle.definition.specs.Stop.{spanStops}

@@ -1,4 +1,5 @@
-// Draining: "Rules before the first stopper, in order", each with its state, its spans and whether it replaces, in tables.
+// Draining: "Rules before the first stopper, in order", each with its state, its spans, its ranges and whether it replaces, in tables. What
+// comes after the draining reads the tables and no sheet.
 pub mod rule;
 pub mod span;
 
@@ -19,19 +20,23 @@ pub fn drain(
     span_counts: &mut [u8],
     spans: &mut [u64],
     replacing: &mut [u8],
+    range_counts: &mut [u16],
     ranges: &mut [u16],
-    counts: &mut [u16],
 ) -> usize
     requires { ⌜ AllBegin (sheetBits (now sheet)) (now begins) count ⌝ }
     requires { ⌜ (count ≤ length (now begins)) × (count ≤ length (now states)) × (count ≤ length (now «span_counts»)) × (count * 16 ≤ length (now spans)) × (count ≤ length (now replacing)) ⌝ }
-    requires { ⌜ (256 ≤ length (now ranges)) × (4 ≤ length (now counts)) ⌝ }
+    requires { ⌜ (count * 4 ≤ length (now «range_counts»)) × (count * 256 ≤ length (now ranges)) ⌝ }
     ensures { λ r. ⌜ (r ≡ length (drained (rulesFrom (sheetBits (now (sheet .entry))) (now (begins .entry)) 0 count)))
-        × Tabled (now (states .exit)) (now («span_counts» .exit)) (now (spans .exit)) (now (replacing .exit))
+        × Tabled (now (states .exit)) (now («span_counts» .exit)) (now (spans .exit)) (now (replacing .exit)) (now («range_counts» .exit)) (now (ranges .exit))
         (drained (rulesFrom (sheetBits (now (sheet .entry))) (now (begins .entry)) 0 count)) ⌝ }
 {
     let mut i: usize = 0;
     while i < count {
         let at = begins[i];
+        let first = i * 256;
+        let end = first + 256;
+        let from = i * 4;
+        let to = from + 4;
         if crate::rule::drain_rule(
             sheet,
             at,
@@ -40,8 +45,8 @@ pub fn drain(
             span_counts,
             spans,
             replacing,
-            ranges,
-            counts,
+            &mut range_counts[from..to],
+            &mut ranges[first..end],
         ) {
             return i;
         }

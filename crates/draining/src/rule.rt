@@ -13,7 +13,7 @@ ghost use Rattle.definition.specs.Rule.{operatorOf, kindOf};
 ghost use Rattle.definition.specs.Stop.{isFallback, stops};
 ghost use Rattle.definition.specs.Point.{isNormal, isClosed};
 ghost use Rattle.sheet.specs.Begin.{ruleAt, Readable};
-ghost use Rattle.canonical_date.specs.Days.{Loaded, daysLoaded};
+ghost use Rattle.canonical_date.specs.Days.{daysLoaded};
 ghost use Rattle.span_number.specs.Number.{stateNumber, stateOf, spanNumber};
 ghost use Rattle.draining.specs.Rule.{loadedSpans, partsStop, loadOf, SetRule, DrainedRule};
 
@@ -123,8 +123,8 @@ pub fn drain_rule(
     span_counts: &mut [u8],
     spans: &mut [u64],
     replacing: &mut [u8],
-    ranges: &mut [u16],
     counts: &mut [u16],
+    ranges: &mut [u16],
 ) -> bool
     requires { ⌜ Readable (sheetBits (now sheet)) at ⌝ }
     requires { ⌜ (at < 2 ^ 25) × (rule * 16 + 16 ≤ length (now spans)) × (rule < length (now states)) × (rule < length (now «span_counts»)) × (rule < length (now replacing)) ⌝ }

@@ -1,128 +1,147 @@
--- The steps of the drawing: a rule whose ranges were read is the definition's rule, and drawing it gives the lists of a rule more, or the
--- definition's first rule after which a list is too long. Rests on what is found at a readable rule and on the laws of the lists.
--- Assumes nothing.
-use mathlib.Core.Path.{_≡_, refl, sym, ap, _∙_, subst}
-use mathlib.Core.Bool.{Bool, true, false, cond, true≢false}
+-- The steps of the drawing: a rule whose ranges stand in the tables is the definition's rule, and drawing it gives the lists of a rule more, or
+-- the definition's first rule after which a list is too long. Rests on the laws of the lists.
+use mathlib.Core.Path.{_≡_, refl, sym, ap, ap₂, _∙_, subst}
+use mathlib.Core.Bool.{Bool, true, false, cond}
 use mathlib.Core.List.{List}
-use Prim.Native.Nat.{ℕ, suc, _+_, _*_, _≤_, _<_}
+use Prim.Native.Nat.{ℕ, zero, suc, _+_, _-_, _*_, _≤_, _<_, _/_}
 use native.Mathlib.Omega.{arith}
 use lib.Dec.{eqb}
-use lib.ListN.{length, getD}
+use lib.ListN.{length, getD, take, drop, replicate}
 use borrow.Author.Tests.{lt-ltb, le-ltb}
-use Rattle.laws.specs.Lists.{from, onlyIf, All}
-use Rattle.laws.proofs.Lists.{All-image}
-use Rattle.laws.proofs.Numbers.{All-from}
-use Rattle.definition.specs.Field.{sheetBits}
+use Rattle.laws.specs.Lists.{onlyIf, All}
+use Rattle.laws.proofs.Lists.{All-map}
 use Rattle.definition.specs.Rule.{Rule}
 use Rattle.definition.specs.Sheet.{form1, limits1}
-use Rattle.definition.specs.Point.{dimensions, selector, replaces}
-use Rattle.definition.proofs.Bits.{Bytes, sheet-bits}
-use Rattle.definition.proofs.SheetRead.{rule-faithful}
-use Rattle.definition.proofs.Lawful.{Lawful, rule-lawful}
-use Rattle.sheet.specs.Begin.{noRule, ruleAt}
-use Rattle.sheet.specs.Rules.{rulesAt}
-use Rattle.sheet.proofs.Begins.{rules-many, rules-each}
-use Rattle.canonical_date.specs.declared.days.Days.{Days}
-use Rattle.canonical_date.specs.declared.days.Days.the-variants.{Spans, Stops}
-use Rattle.canonical_date.specs.Rule.{daysStop}
-use Rattle.canonical_date.specs.Found.{Found}
-use Rattle.paving_update.specs.Update as tables
-use Rattle.paving_update.specs.Update.{rangePlaces, countOf, leavesOf, drawn, drawAll}
-use Rattle.paving_update.specs.Boxes.{selectorOf}
-use Rattle.paving_cuts.specs.Rules.{CutBy}
-use Rattle.paving_points.specs.Listed.{Listed}
-use Rattle.paving_points.proofs.Lists.{listed-next, listed-over, listed-end}
-use Rattle.drawing.specs.Drawing.{AllDrawable, Boxes, Scratch, Drew}
+use Rattle.definition.specs.Point.{dimensions, replaces}
+use Rattle.definition.proofs.Lawful as rules
+use Rattle.paving.specs.Grid.{sizeOf, Node}
+use Rattle.paving_update.specs.Update.{Lawful, leavesOf, drawn, drawAll}
+use Rattle.paving_points.proofs.Boxes.{lawful-bounded, cuts-rise}
+use Rattle.paving_points.proofs.Lists.{listed-start, listed-next, listed-over, listed-end}
+use Rattle.tables.specs.Sizes.{listPlaces}
+use Rattle.tables.specs.Ranges.{tableRow, countOf}
+use Rattle.tables.specs.Rules.{ruleAt, DaysHeld}
+use Rattle.tables.specs.Cuts.{Cut, Drawable}
+use Rattle.tables.specs.Lists.{Empty, Listed}
+use Rattle.tables.proofs.Ranges.{row-lent, row-long, row-at}
+use Rattle.drawing.specs.Drawing.{Listing}
 
 -- ## A rule
--- the ranges of a rule whose days pass, and that they are few
-pub ranges-found : (s : List ℕ) (r : Rule) (l c l′ c′ : List ℕ) (v : Days) → Found s r l c l′ c′ v → daysStop r ≡ false
-    → (selectorOf c′ l′ 4 ≡ selector dimensions r) × ((i : ℕ) → i < 4 → getD c′ i 0 * 2 ≤ rangePlaces)
-ranges-found s r l c l′ c′ (Spans n q) f e = (f .selected, f .few)
-ranges-found s r l c l′ c′ Stops f e = absurd (true≢false (sym f ∙ e))
-
-pub tables-lawful : (places : ℕ) (sizes counts rows cuts ranges : List ℕ) → Boxes places sizes rows (length cuts) → Scratch (length ranges) (length counts)
-    → ((i : ℕ) → i < 4 → getD counts i 0 * 2 ≤ rangePlaces) → tables.Lawful sizes counts rows cuts ranges
-tables-lawful places sizes counts rows cuts ranges b s few = record {
-  all-counts = omega (arith, b .four, s .all-counts);
-  all-rows = omega (arith, b .four, b .all-rows);
-  all-ranges = omega (arith, b .four, s .all-ranges);
-  row = λ i l. b .row i (omega (arith, b .four));
-  count = λ i l. few i (omega (arith, b .four));
-}
-
 -- the first dimension is the weekdays, and all of their ranges are drawn
-pub all-weekdays : (counts : List ℕ) (rest : ℕ) → rest ≡ getD counts 3 0 → rest ≤ countOf counts 4
+all-weekdays : (counts : List ℕ) (k rest : ℕ) → rest ≡ getD counts (k * 4 + 3) 0 → rest ≡ countOf (tableRow counts k 4) 4
 unfolding countOf
-all-weekdays counts rest e = omega (arith, e)
+all-weekdays counts k rest e = e ∙ sym (row-at counts k 4 3 (omega arith))
 
-pub drawn-whole : (rule : ℕ) (replacing : Bool) (lists after : List ℕ) (over : Bool) (sizes counts rows cuts ranges : List ℕ) (rest : ℕ) → rest ≡ getD counts 3 0
-    → drawn after over ≡ drawAll rule replacing (drawn lists false) (leavesOf sizes counts rows cuts ranges 4 0 rest)
-    → drawn after over ≡ drawAll rule replacing (drawn lists false) (leavesOf sizes counts rows cuts ranges 4 0 (countOf counts 4))
-unfolding countOf
-drawn-whole rule replacing lists after over sizes counts rows cuts ranges rest e d =
-    d ∙ ap (λ n. drawAll rule replacing (drawn lists false) (leavesOf sizes counts rows cuts ranges 4 0 n)) e
+-- drawing the rows as they are lent is drawing the rows
+module _ (sizes counts rows cuts ranges : List ℕ) (k : ℕ) where
+  abbrev lent-counts : List ℕ
+  lent-counts = take (k * 4 + 4 - k * 4) (drop (k * 4) counts)
 
--- what the scratch and the lists had room for they have room for later
-pub scratch-kept : (ranges counts ranges′ counts′ : ℕ) → ranges′ ≡ ranges → counts′ ≡ counts → Scratch ranges counts → Scratch ranges′ counts′
-scratch-kept ranges counts ranges′ counts′ e f s = record { all-ranges = omega (arith, s .all-ranges); all-counts = omega (arith, s .all-counts) }
+  abbrev lent-ranges : List ℕ
+  lent-ranges = take (k * 256 + 256 - k * 256) (drop (k * 256) ranges)
 
-pub boxes-kept : (places places′ : ℕ) (sizes rows : List ℕ) (cuts : ℕ) → places′ ≡ places → Boxes places sizes rows cuts → Boxes places′ sizes rows cuts
-boxes-kept places places′ sizes rows cuts e b = subst (λ n. Boxes n sizes rows cuts) (sym e) b
+  pub lent-lawful : Lawful sizes (tableRow counts k 4) rows cuts (tableRow ranges k 256) → Lawful sizes lent-counts rows cuts lent-ranges
+  lent-lawful h = subst (λ c. Lawful sizes c rows cuts lent-ranges) (sym (row-lent counts k 4)) (subst (λ r. Lawful sizes (tableRow counts k 4) rows cuts r) (sym (row-lent ranges k 256)) h)
 
--- ## Rule after rule
--- after the last rule
-pub drew-all : (s begins sizes rows cuts lists : List ℕ) (k n : ℕ) → k ≤ n → n ≤ k → Listed sizes rows cuts lists (rulesAt s begins n) k
-    → Drew sizes rows cuts lists (rulesAt s begins n) n n
-drew-all s begins sizes rows cuts lists k n l m h =
-    let rs = rulesAt s begins n in
-    let z : k ≡ n = omega arith in
-    let done = subst (Listed sizes rows cuts lists rs) z h in
-    record {
-      within = omega arith;
-      first = listed-end sizes rows cuts lists rs (subst (Listed sizes rows cuts lists rs) (sym (rules-many s begins n)) done) ∙ ap (λ b. onlyIf b n) (sym (le-ltb n n (omega arith)));
-      listed = λ e. done;
-    }
+  pub lent-weekdays : (rest : ℕ) → rest ≡ getD counts (k * 4 + 3) 0 → rest ≤ countOf lent-counts 4
+  lent-weekdays rest e = subst (λ c. rest ≤ countOf c 4) (sym (row-lent counts k 4)) (omega (arith, all-weekdays counts k rest e))
+
+  pub lent-drawn : (lists after : List ℕ) (replacing over : Bool) (rest : ℕ) → rest ≡ getD counts (k * 4 + 3) 0
+      → drawn after over ≡ drawAll k replacing (drawn lists false) (leavesOf sizes lent-counts rows cuts lent-ranges 4 0 rest)
+      → drawn after over ≡ drawAll k replacing (drawn lists false) (leavesOf sizes (tableRow counts k 4) rows cuts (tableRow ranges k 256) 4 0 (countOf (tableRow counts k 4) 4))
+  lent-drawn lists after replacing over rest e d =
+      d ∙ ap₂ (λ c r. drawAll k replacing (drawn lists false) (leavesOf sizes c rows cuts r 4 0 rest)) (row-lent counts k 4) (row-lent ranges k 256)
+      ∙ ap (λ n. drawAll k replacing (drawn lists false) (leavesOf sizes (tableRow counts k 4) rows cuts (tableRow ranges k 256) 4 0 n)) (all-weekdays counts k rest e)
 
 flag-noted : (b : Bool) (v : ℕ) → v ≡ cond b 1 0 → eqb v 1 ≡ b
 flag-noted true v e = rw e refl
 flag-noted false v e = rw e refl
 
--- rule k, drawn over lists that hold the rules before it
-module _ (sheet begins replacing : List ℕ) (bytes : Bytes sheet) (n : ℕ) (all : AllDrawable (sheetBits sheet) begins replacing n) (sizes rows cuts lists : List ℕ)
-    (boxes : Boxes (length lists) sizes rows (length cuts)) (cut : CutBy rows sizes cuts (rulesAt (sheetBits sheet) begins n) dimensions) (k : ℕ) (here : k < n)
-    (before : Listed sizes rows cuts lists (rulesAt (sheetBits sheet) begins n) k) (counts ranges after : List ℕ) (over : Bool)
-    (loaded : selectorOf counts ranges 4 ≡ selector dimensions (ruleAt (sheetBits sheet) (getD begins k 0)))
-    (drawing : drawn after over ≡ drawAll k (eqb (getD replacing k 0) 1) (drawn lists false) (leavesOf sizes counts rows cuts ranges 4 0 (countOf counts 4))) where
-  abbrev rs : List Rule
-  rs = rulesAt (sheetBits sheet) begins n
+-- ## The start
+zeros : (n k : ℕ) → getD {A = ℕ} (replicate n 0) k 0 ≡ 0
+zeros zero k = refl
+zeros (suc n) zero = refl
+zeros (suc n) (suc k) = zeros n k
 
-  -- rules that are read are lawful
-  lawful : All Lawful rs
-  unfolding rulesAt
-  lawful = All-image Lawful (λ k. ruleAt (sheetBits sheet) (getD begins k 0)) (from 0 n) (All-from _ 0 n (λ k l m.
-      let here = all .each k (omega arith) .readable in
-      rule-lawful form1 limits1 (ruleAt (sheetBits sheet) (getD begins k 0)) ((rule-faithful form1 limits1) .written (sheetBits sheet) (sheet-bits sheet bytes) (getD begins k 0) _ (here .end) (here .read) .1)))
+pub none-drawn : (sizes rows cuts lists : List ℕ) (rs : List Rule) (boxes : ℕ) → Empty lists boxes → Listed sizes rows cuts lists rs 0
+none-drawn sizes rows cuts lists rs boxes empty =
+    subst (λ l. Listed sizes rows cuts l rs 0) (sym (empty .zeros)) (listed-start sizes rows cuts (replicate (length lists) 0) rs (λ node. zeros (length lists) (node * listPlaces)))
 
-  many : k < length rs
-  many = omega (arith, rules-many (sheetBits sheet) begins n)
+-- ## Rule after rule
+module _ (replacing counts ranges rows sizes cuts : List ℕ) (n : ℕ) (rs : List Rule) (drawable : Drawable replacing counts ranges rows sizes cuts n rs) where
+  abbrev cut : Cut rows sizes cuts rs
+  cut = drawable .2
 
-  same : ruleAt (sheetBits sheet) (getD begins k 0) ≡ getD rs k noRule
-  same = sym (rules-each (sheetBits sheet) begins n k here)
+  lawful : All rules.Lawful rs
+  lawful = All-map (λ r f. rules.rule-lawful form1 limits1 r f) rs (drawable .0 .fits)
 
-  flag : eqb (getD replacing k 0) 1 ≡ replaces (getD rs k noRule)
-  flag = flag-noted _ _ (all .noted k here) ∙ ap replaces same
+  -- what the drawing of one rule asks for
+  pub rule-there : (k : ℕ) → k < n → (k < 65536) × (k * 4 + 4 ≤ length counts) × (k * 256 + 256 ≤ length ranges)
+  rule-there k h =
+      let days = drawable .0 in
+      (omega (arith, days .few-rules), omega (arith, days .all-counts), omega (arith, days .all-ranges))
 
-  pub drew-next : over ≡ false → Listed sizes rows cuts after rs (k + 1)
-  drew-next calm =
-      let z : suc k ≡ k + 1 = omega arith in
-      subst (Listed sizes rows cuts after rs) z
-      (listed-next sizes counts rows cuts ranges lists rs k many before (loaded ∙ ap (selector dimensions) same) (boxes .lists) (drawn after over) _ flag _ refl drawing lawful cut calm)
+  pub tables-lawful : (k : ℕ) → k < n → Lawful sizes (tableRow counts k 4) rows cuts (tableRow ranges k 256)
+  tables-lawful k h =
+      let there = rule-there k h in
+      let days = drawable .0 .each k h in
+      let long-counts = row-long counts k 4 (there .1) in
+      let long-ranges = row-long ranges k 256 (there .2) in
+      record {
+        all-counts = omega (arith, cut .four, long-counts);
+        all-rows = omega (arith, cut .four, cut .all-rows);
+        all-ranges = omega (arith, cut .four, long-ranges);
+        row = λ i l. cut .inside i (omega (arith, cut .four));
+        count = λ i l. days .few i (omega (arith, cut .four));
+        rising = λ i l. cuts-rise rows sizes cuts rs dimensions (cut .cut-by) (lawful-bounded rs lawful) i (omega (arith, cut .four));
+      }
 
-  pub drew-over : over ≡ true → Drew sizes rows cuts after rs n k
-  drew-over loud = record {
-    within = omega arith;
-    first = listed-over sizes counts rows cuts ranges lists rs k many before (loaded ∙ ap (selector dimensions) same) (boxes .lists) (drawn after over) _ flag _ refl drawing lawful cut loud
-        ∙ ap (λ b. onlyIf b k) (sym (lt-ltb k n here));
-    listed = λ e. absurd (omega arith);
-  }
+  pub boxes-node : (lists : ℕ) → sizeOf sizes 4 * listPlaces ≤ lists → Node (lists / listPlaces) sizes 4 0
+  boxes-node lists room = record { dims = omega (arith, cut .four); filled = cut .filled; below = omega arith }
+
+  -- after the last rule
+  pub drew-all : (start lists : List ℕ) → Empty start (sizeOf sizes 4) → length lists ≡ length start → (k : ℕ) → k ≤ n → n ≤ k → Listed sizes rows cuts lists rs k
+      → Listing rows sizes cuts lists rs n n
+  drew-all start lists empty same k l m h =
+      let z : k ≡ length rs = omega (arith, drawable .0 .many) in
+      let done = subst (Listed sizes rows cuts lists rs) z h in
+      record {
+        within = omega arith;
+        first = listed-end sizes rows cuts lists rs done ∙ ap (λ b. onlyIf b n) (sym (le-ltb n n (omega arith)));
+        all-boxed = λ e. record {
+          cut = cut;
+          few-rules = omega (arith, drawable .0 .few-rules, drawable .0 .many);
+          few-boxes = empty .few;
+          all-lists = omega (arith, empty .room, same);
+          listed = done;
+        };
+      }
+
+  -- rule k, drawn over lists that hold the rules before it
+  module _ (lists : List ℕ) (room : sizeOf sizes 4 * listPlaces ≤ length lists) (k : ℕ) (here : k < n) (before : Listed sizes rows cuts lists rs k) (after : List ℕ) (over : Bool)
+      (drawing : drawn after over ≡ drawAll k (eqb (getD replacing k 0) 1) (drawn lists false)
+      (leavesOf sizes (tableRow counts k 4) rows cuts (tableRow ranges k 256) 4 0 (countOf (tableRow counts k 4) 4))) where
+    less : k < length rs
+    less = omega (arith, drawable .0 .many)
+
+    days : DaysHeld (tableRow counts k 4) (tableRow ranges k 256) (ruleAt rs k)
+    days = drawable .0 .each k here
+
+    flag : eqb (getD replacing k 0) 1 ≡ replaces (ruleAt rs k)
+    flag = flag-noted _ _ (drawable .1 .noted k less)
+
+    pub drew-next : over ≡ false → Listed sizes rows cuts after rs (k + 1)
+    drew-next calm =
+        let z : suc k ≡ k + 1 = omega arith in
+        subst (Listed sizes rows cuts after rs) z
+        (listed-next sizes (tableRow counts k 4) rows cuts (tableRow ranges k 256) lists rs k less before (days .selected) (boxes-node (length lists) room) (drawn after over) _ flag _ refl
+        drawing lawful (cut .cut-by) calm)
+
+    pub drew-over : over ≡ true → Listing rows sizes cuts after rs n k
+    drew-over loud = record {
+      within = omega arith;
+      first = listed-over sizes (tableRow counts k 4) rows cuts (tableRow ranges k 256) lists rs k less before (days .selected) (boxes-node (length lists) room) (drawn after over) _ flag _ refl
+          drawing lawful (cut .cut-by) loud
+          ∙ ap (λ b. onlyIf b k) (sym (lt-ltb k n here));
+      all-boxed = λ e. absurd (omega arith);
+    }

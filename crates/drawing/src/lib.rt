@@ -1,49 +1,50 @@
-// All rules drawn over the boxes: rule after rule, its ranges are read from the sheet into a small scratch and drawn, up to the first rule
-// after which a list is too long.
+// All rules drawn over the boxes, one after the other, from the tables of their days, up to the first rule after which a list is too long.
+use paving::wide;
 ghost use mathlib.Core.Path.{_≡_};
 ghost use mathlib.Core.Bool.{false};
-ghost use Prim.Native.Nat.{_≤_};
+ghost use mathlib.Core.List.{List};
+ghost use Prim.Native.Nat.{_+_, _*_, _≤_, _<_, _/_};
 ghost use lib.ListN.{length};
-ghost use Rattle.definition.specs.Field.{sheetBits};
-ghost use Rattle.definition.specs.Point.{dimensions, selector};
-ghost use Rattle.sheet.specs.Begin.{ruleAt};
-ghost use Rattle.sheet.specs.Rules.{rulesAt};
-ghost use Rattle.paving_update.specs.Update.{drawn, drawAll, leavesOf, countOf};
-ghost use Rattle.paving_update.specs.Boxes.{selectorOf};
-ghost use Rattle.paving_cuts.specs.Rules.{CutBy};
-ghost use Rattle.paving_points.specs.Listed.{Listed};
-ghost use Rattle.drawing.specs.Drawing.{Drawable, AllDrawable, Boxes, Scratch, Drew};
+ghost use Rattle.definition.specs.Rule.{Rule};
+ghost use Rattle.paving.specs.Grid.{sizeOf, Node};
+ghost use Rattle.paving_update.specs.Update.{Lawful, drawn, drawAll, leavesOf};
+ghost use Rattle.tables.specs.Sizes.{listPlaces};
+ghost use Rattle.tables.specs.Ranges.{tableRow, countOf};
+ghost use Rattle.tables.specs.Cuts.{Drawable};
+ghost use Rattle.tables.specs.Lists.{Empty};
+ghost use Rattle.drawing.specs.Drawing.{Listing};
 
-// The rule that begins at a bit, drawn over all boxes under a number: whether a list is too long then. Its ranges stay in the scratch.
+// The rule of a number drawn over all boxes: whether a list is too long then.
 fn draw_rule(
-    sheet: &[u8],
-    at: usize,
     lists: &mut [u16],
-    sizes: &[u16],
     rows: &[u16],
+    sizes: &[u16],
     cuts: &[u16],
-    ranges: &mut [u16],
-    counts: &mut [u16],
-    rule: u16,
+    range_counts: &[u16],
+    ranges: &[u16],
+    rule: usize,
     replaces: bool,
 ) -> bool
-    requires { ⌜ Drawable (sheetBits (now sheet)) at ⌝ }
-    requires { ⌜ Boxes (length (now lists)) (now sizes) (now rows) (length (now cuts)) ⌝ }
-    requires { ⌜ Scratch (length (now ranges)) (length (now counts)) ⌝ }
-    ensures { λ r. ⌜ (selectorOf (now (counts .exit)) (now (ranges .exit)) 4 ≡ selector dimensions (ruleAt (sheetBits (now (sheet .entry))) at))
-        × (drawn (now (lists .exit)) r ≡ drawAll rule replaces (drawn (now (lists .entry)) false)
-        (leavesOf (now (sizes .entry)) (now (counts .exit)) (now (rows .entry)) (now (cuts .entry)) (now (ranges .exit)) 4 0 (countOf (now (counts .exit)) 4))) ⌝ }
+    requires { ⌜ (rule < 65536) × (rule * 4 + 4 ≤ length (now «range_counts»)) × (rule * 256 + 256 ≤ length (now ranges)) ⌝ }
+    requires { ⌜ Lawful (now sizes) (tableRow (now «range_counts») rule 4) (now rows) (now cuts) (tableRow (now ranges) rule 256) ⌝ }
+    requires { ⌜ (4 ≤ length (now sizes)) × Node (length (now lists) / listPlaces) (now sizes) 4 0 ⌝ }
+    ensures { λ r. ⌜ drawn (now (lists .exit)) r ≡ drawAll rule replaces (drawn (now (lists .entry)) false)
+        (leavesOf (now (sizes .entry)) (tableRow (now («range_counts» .entry)) rule 4) (now (rows .entry)) (now (cuts .entry)) (tableRow (now (ranges .entry)) rule 256) 4 0
+        (countOf (tableRow (now («range_counts» .entry)) rule 4) 4)) ⌝ }
 {
-    canonical_date::days::rule_ranges(sheet, at, ranges, counts);
-    let weekdays = paving::wide(counts[3]);
+    let from = rule * 4;
+    let to = from + 4;
+    let first = rule * 256;
+    let end = first + 256;
+    let weekdays = wide(range_counts[from + 3]);
     paving_update::update(
         lists,
         sizes,
-        counts,
+        &range_counts[from..to],
         rows,
         cuts,
-        ranges,
-        rule,
+        &ranges[first..end],
+        rule as u16,
         replaces,
         false,
         4,
@@ -52,54 +53,37 @@ fn draw_rule(
     )
 }
 
-// The rules from one on, drawn in order: the first after which a list is too long, or how many there are.
+// All rules drawn over boxes whose lists are empty: the first rule after which a list is too long, or how many rules there are.
 pub fn draw_rules(
-    sheet: &[u8],
-    begins: &[usize],
     lists: &mut [u16],
-    sizes: &[u16],
     rows: &[u16],
+    sizes: &[u16],
     cuts: &[u16],
     replacing: &[u8],
-    ranges: &mut [u16],
-    counts: &mut [u16],
-    rule: usize,
+    range_counts: &[u16],
+    ranges: &[u16],
     rules: usize,
 ) -> usize
-    requires { ⌜ AllDrawable (sheetBits (now sheet)) (now begins) (now replacing) rules ⌝ }
-    requires { ⌜ Boxes (length (now lists)) (now sizes) (now rows) (length (now cuts)) × CutBy (now rows) (now sizes) (now cuts) (rulesAt (sheetBits (now sheet)) (now begins) rules) dimensions ⌝ }
-    requires { ⌜ Scratch (length (now ranges)) (length (now counts)) ⌝ }
-    requires { ⌜ (rule ≤ rules) × Listed (now sizes) (now rows) (now cuts) (now lists) (rulesAt (sheetBits (now sheet)) (now begins) rules) rule ⌝ }
-    ensures { λ r. ⌜ Drew (now (sizes .entry)) (now (rows .entry)) (now (cuts .entry)) (now (lists .exit)) (rulesAt (sheetBits (now (sheet .entry))) (now (begins .entry)) rules) rules r ⌝ }
+    requires { ⌜ ((rs : List Rule) × Drawable (now replacing) (now «range_counts») (now ranges) (now rows) (now sizes) (now cuts) rules rs) ⌝ }
+    requires { ⌜ Empty (now lists) (sizeOf (now sizes) 4) ⌝ }
+    ensures { λ r. ⌜ ((rs : List Rule) → Drawable (now (replacing .entry)) (now («range_counts» .entry)) (now (ranges .entry)) (now (rows .entry)) (now (sizes .entry)) (now (cuts .entry)) rules rs
+        → Listing (now (rows .entry)) (now (sizes .entry)) (now (cuts .entry)) (now (lists .exit)) rs rules r) ⌝ }
 {
-    if rule < rules {
+    let mut rule: usize = 0;
+    while rule < rules {
         if draw_rule(
-            sheet,
-            begins[rule],
             lists,
-            sizes,
             rows,
+            sizes,
             cuts,
+            range_counts,
             ranges,
-            counts,
-            rule as u16,
+            rule,
             replacing[rule] == 1,
         ) {
             return rule;
         }
-        return draw_rules(
-            sheet,
-            begins,
-            lists,
-            sizes,
-            rows,
-            cuts,
-            replacing,
-            ranges,
-            counts,
-            rule + 1,
-            rules,
-        );
+        rule += 1;
     }
     rules
 }

@@ -19,8 +19,9 @@ use Rattle.sheet_writer.proofs.Frame.{rules-bits}
 use Rattle.sheet_writer.proofs.Left.{between-length}
 use Rattle.day_writer.specs.Rules.{rulesBits}
 use Rattle.page_writer.proofs.Reading as reading
-use Rattle.phases.specs.Phases.{Paged, Leaving}
-use Rattle.emission.specs.Emission.{pagedRules, rowOf, emission}
+use Rattle.tables.specs.Pages.{Paged, pagedRules}
+use Rattle.sheet.specs.Parts.{Leaving}
+use Rattle.emission.specs.Emission.{resultBits, emission}
 use Rattle.emission.proofs.Sheet.{row-length}
 
 packed-length : (ws : List ℕ) → length (packed ws) ≡ bytesFor (length ws)
@@ -52,7 +53,7 @@ module _ {sheet states counts spans lists text : List ℕ} {pages start end drai
   -- so many rules of so many bits
   module _ {many size : ℕ} (counted : length page ≡ many) (sized : length (rulesBits page) ≡ size) where
     abbrev row : List ℕ
-    row = rowOf (many + leftRules) page (between sheet start end)
+    row = resultBits (many + leftRules) page (between sheet start end)
 
     abbrev bytes : ℕ
     bytes = bytesFor (16 + size + (end - start))
@@ -68,7 +69,7 @@ module _ {sheet states counts spans lists text : List ℕ} {pages start end drai
 
     -- the definition's sheet
     encoded : result ≡ packed row
-    unfolding encode rowOf
+    unfolding encode resultBits
     encoded =
         let all : length (folded (drained rs) ++ left rs) ≡ many + leftRules = omega (arith, length-append (folded (drained rs)) (left rs), emitted-many, leaving .left-many) in
         let rest = reading.rules-bits (folded (drained rs)) (left rs) ∙ ap₂ _++_ (ap rulesBits (sym (paged .rules))) (sym (leaving .stands)) in

@@ -16,21 +16,21 @@ use Rattle.item_writer.proofs.Chain.{wrote-then, wrote-as, room-first, room-res
 use Rattle.sheet_writer.specs.Frame.{padding}
 use Rattle.sheet_writer.proofs.Frame.{framed}
 use Rattle.day_writer.specs.Rules.{rulesBits}
-use Rattle.emission.specs.Emission.{rowOf}
+use Rattle.emission.specs.Emission.{resultBits}
 
-pub row-length : (count : ℕ) (rs : List Rule) (others : List ℕ) → length (rowOf count rs others) ≡ 16 + length (rulesBits rs) + length others
-unfolding rowOf
+pub row-length : (count : ℕ) (rs : List Rule) (others : List ℕ) → length (resultBits count rs others) ≡ 16 + length (rulesBits rs) + length others
+unfolding resultBits
 row-length count rs others =
     omega (arith, length-append (bits 16 count) (rulesBits rs ++ others), length-append (rulesBits rs) others, length-bits 16 count)
 
 -- ## The whole
-module _ (count : ℕ) (rs : List Rule) (others out : List ℕ) (inside : length (rowOf count rs others) ≤ 8 * length out)
-    (low : length (rowOf count rs others) < 2 ^ 60) where
+module _ (count : ℕ) (rs : List Rule) (others out : List ℕ) (inside : length (resultBits count rs others) ≤ 8 * length out)
+    (low : length (resultBits count rs others) < 2 ^ 60) where
   pub count-room : 2 ≤ length out
   count-room = omega (arith, row-length count rs others, inside)
 
   room : Room (length out) 0 (bits 16 count ++ (rulesBits rs ++ others))
-  unfolding rowOf
+  unfolding resultBits
   room = record { inside = omega (arith, inside); low = omega (arith, low) }
 
   module _ {mid : List ℕ} {first : ℕ} (counted : Wrote out 0 (bits 16 count) mid first) where
@@ -47,8 +47,8 @@ module _ (count : ℕ) (rs : List Rule) (others out : List ℕ) (inside : length
           (r .inside, omega (arith, low, row-length count rs others, place-at))
 
       pub sheet-written : {new : List ℕ} {next n : ℕ} → length others ≡ n → Wrote laid place (others ++ padding (place + n)) new next → ((j : ℕ) → getD out j 0 < 256) → ((j : ℕ) → getD new j 0 < 256)
-          → new ≡ buffer (packed (rowOf count rs others)) out
-      unfolding rowOf
+          → new ≡ buffer (packed (resultBits count rs others)) out
+      unfolding resultBits
       sheet-written {new} {next} {n} e ended known known′ =
           let row = bits 16 count ++ (rulesBits rs ++ others) in
           let pad = padding (place + n) in

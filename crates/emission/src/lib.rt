@@ -1,5 +1,7 @@
 // The result written: all is measured, refused where the buffer has no room (7), and else written: the rule count, the rules of the pages,
 // the rules left as their bits stand in the sheet, zero bits to the byte's end.
+use answers::Folded;
+use answers::fold_refused;
 use day_writer::Measure;
 ghost use mathlib.Core.Path.{_≡_};
 ghost use mathlib.Core.List.{List};
@@ -13,18 +15,17 @@ ghost use Rattle.definition.specs.Fold.{numbers, buffer};
 ghost use Rattle.item_writer.specs.Written.{Room, Wrote};
 ghost use Rattle.sheet_writer.specs.Frame.{between};
 ghost use Rattle.day_writer.specs.Rules.{rulesBits};
-ghost use Rattle.page_writer.specs.Pages.{Pages};
-ghost use Rattle.phases.specs.Phases.{dayRoom, Paged, Leaving};
-ghost use Rattle.emission.specs.Emission.{numbersOf, pagedRules, rowOf, emission};
+ghost use Rattle.tables.specs.Pages.{Pages, Paged, pagedRules};
+ghost use Rattle.tables.specs.Sizes.{dayRoom};
+ghost use Rattle.sheet.specs.Parts.{Leaving};
+ghost use Rattle.emission.specs.Emission.{resultBits, emission};
+ghost use Rattle.answers.specs.Numbers.{foldNumbers};
 
-// What the fold answers.
-pub struct Folded {
-    pub code: u64,
-    pub drained: u64,
-    pub emitted: u64,
-    pub left: u64,
-    pub bytes: u64,
-    pub place: u64,
+// The rules left, where they stand in the sheet: from a bit up to another, and how many they are.
+pub struct Left {
+    pub start: usize,
+    pub end: usize,
+    pub rules: usize,
 }
 
 // How many rules so many pages are, and how many bits these take.
@@ -33,14 +34,14 @@ fn measure(
     span_counts: &[u8],
     spans: &[u64],
     lists: &[u16],
-    text: &[u16],
-    pages: usize,
+    pages: &[u16],
+    count: usize,
 ) -> Measure
-    requires { ⌜ Pages (now states) (now «span_counts») (now spans) (now lists) (now text) dayRoom pages 0 ⌝ }
-    requires { ⌜ pages ≤ limits1 .boxes ⌝ }
-    ensures { λ r. ⌜ (length (pagedRules (now (states .entry)) (now («span_counts» .entry)) (now (spans .entry)) (now (lists .entry)) (now (text .entry)) pages) ≡ r .rules)
-        × (length (rulesBits (pagedRules (now (states .entry)) (now («span_counts» .entry)) (now (spans .entry)) (now (lists .entry)) (now (text .entry)) pages)) ≡ r .bits)
-        × (r .bits ≤ 2 ^ 29 * pages) ⌝ }
+    requires { ⌜ Pages (now states) (now «span_counts») (now spans) (now lists) (now pages) dayRoom count 0 ⌝ }
+    requires { ⌜ count ≤ limits1 .boxes ⌝ }
+    ensures { λ r. ⌜ (length (pagedRules (now (states .entry)) (now («span_counts» .entry)) (now (spans .entry)) (now (lists .entry)) (now (pages .entry)) count) ≡ r .rules)
+        × (length (rulesBits (pagedRules (now (states .entry)) (now («span_counts» .entry)) (now (spans .entry)) (now (lists .entry)) (now (pages .entry)) count)) ≡ r .bits)
+        × (r .bits ≤ 2 ^ 29 * count) ⌝ }
 {
     let mut words = scratch::words();
     let mut stated = scratch::states();
@@ -59,9 +60,9 @@ fn measure(
         span_counts,
         spans,
         lists,
-        text,
-        0,
         pages,
+        0,
+        count,
     )
 }
 
@@ -73,12 +74,12 @@ fn write_pages(
     span_counts: &[u8],
     spans: &[u64],
     lists: &[u16],
-    text: &[u16],
-    pages: usize,
+    pages: &[u16],
+    count: usize,
 ) -> usize
-    requires { ⌜ Pages (now states) (now «span_counts») (now spans) (now lists) (now text) dayRoom pages 0 ⌝ }
-    requires { ⌜ Room (length (now out)) place (rulesBits (pagedRules (now states) (now «span_counts») (now spans) (now lists) (now text) pages)) ⌝ }
-    ensures { λ r. ⌜ Wrote (now (out .entry)) place (rulesBits (pagedRules (now (states .entry)) (now («span_counts» .entry)) (now (spans .entry)) (now (lists .entry)) (now (text .entry)) pages)) (now (out .exit)) r ⌝ }
+    requires { ⌜ Pages (now states) (now «span_counts») (now spans) (now lists) (now pages) dayRoom count 0 ⌝ }
+    requires { ⌜ Room (length (now out)) place (rulesBits (pagedRules (now states) (now «span_counts») (now spans) (now lists) (now pages) count)) ⌝ }
+    ensures { λ r. ⌜ Wrote (now (out .entry)) place (rulesBits (pagedRules (now (states .entry)) (now («span_counts» .entry)) (now (spans .entry)) (now (lists .entry)) (now (pages .entry)) count)) (now (out .exit)) r ⌝ }
 {
     let mut words = scratch::words();
     let mut stated = scratch::states();
@@ -99,9 +100,9 @@ fn write_pages(
         span_counts,
         spans,
         lists,
-        text,
-        0,
         pages,
+        0,
+        count,
     )
 }
 
@@ -115,57 +116,49 @@ fn write_sheet(
     span_counts: &[u8],
     spans: &[u64],
     lists: &[u16],
-    text: &[u16],
-    pages: usize,
+    pages: &[u16],
+    count: usize,
     rules: usize,
 )
-    requires { ⌜ Pages (now states) (now «span_counts») (now spans) (now lists) (now text) dayRoom pages 0 ⌝ }
+    requires { ⌜ Pages (now states) (now «span_counts») (now spans) (now lists) (now pages) dayRoom count 0 ⌝ }
     requires { ⌜ (start ≤ end) × (end ≤ 8 * length (now sheet)) × (end < 2 ^ 32) ⌝ }
     requires { ⌜ rules < 2 ^ form1 .ruleCount ⌝ }
-    requires { ⌜ (length (rowOf rules (pagedRules (now states) (now «span_counts») (now spans) (now lists) (now text) pages) (between (now sheet) start end)) ≤ 8 * length (now out))
-        × (length (rowOf rules (pagedRules (now states) (now «span_counts») (now spans) (now lists) (now text) pages) (between (now sheet) start end)) < 2 ^ 60) ⌝ }
+    requires { ⌜ (length (resultBits rules (pagedRules (now states) (now «span_counts») (now spans) (now lists) (now pages) count) (between (now sheet) start end)) ≤ 8 * length (now out))
+        × (length (resultBits rules (pagedRules (now states) (now «span_counts») (now spans) (now lists) (now pages) count) (between (now sheet) start end)) < 2 ^ 60) ⌝ }
     ensures { λ _. ⌜ now (out .exit)
-        ≡ buffer (packed (rowOf rules (pagedRules (now (states .entry)) (now («span_counts» .entry)) (now (spans .entry)) (now (lists .entry)) (now (text .entry)) pages) (between (now (sheet .entry)) start end)))
+        ≡ buffer (packed (resultBits rules (pagedRules (now (states .entry)) (now («span_counts» .entry)) (now (spans .entry)) (now (lists .entry)) (now (pages .entry)) count) (between (now (sheet .entry)) start end)))
         (now (out .entry)) ⌝ }
 {
     let first = sheet_writer::put_count(out, rules as u64);
-    let place = write_pages(out, first, states, span_counts, spans, lists, text, pages);
+    let place = write_pages(out, first, states, span_counts, spans, lists, pages, count);
     sheet_writer::put_left(sheet, start, end, out, place);
 }
 
-// The result of a fold whose drained rules stand folded on pages: written to the front of the buffer, or refused with nothing written.
+// The result of a fold whose drained rules stand folded on so many pages: written to the front of the buffer, or refused with nothing written.
 pub fn emit(
     sheet: &[u8],
-    start: usize,
-    end: usize,
+    left: Left,
     out: &mut [u8],
     states: &[u32],
     span_counts: &[u8],
     spans: &[u64],
     lists: &[u16],
-    text: &[u16],
-    pages: usize,
-    drained_rules: usize,
-    left_rules: usize,
+    pages: &[u16],
+    count: usize,
 ) -> Folded
-    requires { ⌜ ((rs : List Rule) × Paged (now states) (now «span_counts») (now spans) (now lists) (now text) pages (drained rs)
-        × Leaving (now sheet) rs start end «drained_rules» «left_rules») ⌝ }
+    requires { ⌜ ((rs : List Rule) × Paged (now states) (now «span_counts») (now spans) (now lists) (now pages) count (drained rs)
+        × Leaving (now sheet) rs (left .start) (left .end) (length (now states)) (left .rules)) ⌝ }
     ensures { λ r. ⌜ ((rs : List Rule)
-        → Paged (now (states .entry)) (now («span_counts» .entry)) (now (spans .entry)) (now (lists .entry)) (now (text .entry)) pages (drained rs)
-        → Leaving (now (sheet .entry)) rs start end «drained_rules» «left_rules»
-        → (numbersOf r ≡ numbers (emission (length (now (out .entry))) rs)) × (now (out .exit) ≡ buffer (emission (length (now (out .entry))) rs .result) (now (out .entry)))) ⌝ }
+        → Paged (now (states .entry)) (now («span_counts» .entry)) (now (spans .entry)) (now (lists .entry)) (now (pages .entry)) count (drained rs)
+        → Leaving (now (sheet .entry)) rs (left .start) (left .end) (length (now (states .entry))) (left .rules)
+        → (foldNumbers r ≡ numbers (emission (length (now (out .entry))) rs)) × (now (out .exit) ≡ buffer (emission (length (now (out .entry))) rs .result) (now (out .entry)))) ⌝ }
 {
-    let measured = measure(states, span_counts, spans, lists, text, pages);
+    let measured = measure(states, span_counts, spans, lists, pages, count);
+    let start = left.start;
+    let end = left.end;
     let bytes = (16 + measured.bits + (end - start) + 7) / 8;
     if out.len() < bytes {
-        return Folded {
-            code: 7,
-            drained: 0,
-            emitted: 0,
-            left: 0,
-            bytes: 0,
-            place: bytes as u64,
-        };
+        return fold_refused(7, bytes as u64);
     }
     write_sheet(
         sheet,
@@ -176,15 +169,15 @@ pub fn emit(
         span_counts,
         spans,
         lists,
-        text,
         pages,
-        measured.rules + left_rules,
+        count,
+        measured.rules + left.rules,
     );
     Folded {
         code: 0,
-        drained: drained_rules as u64,
+        drained: states.len() as u64,
         emitted: measured.rules as u64,
-        left: left_rules as u64,
+        left: left.rules as u64,
         bytes: bytes as u64,
         place: 0,
     }

@@ -46,7 +46,8 @@ module _ (s : List ℕ) (o : Bytes s) where
 
   pub bytes-below : (first count most : ℕ) → count ≤ most → first + count ≤ length s → fieldAt (sheetBits s) (8 * first) (8 * count) < 2 ^ (8 * most)
   bytes-below first count most few h =
-      lt-of-lt-of-le (field-below (sheetBits s) (sheet-bits s o) (8 * first) (8 * count) (omega (arith, length-sheetBits s))) (pow-mono {i = 8 * count} {j = 8 * most} (omega arith))
+      lt-of-lt-of-le (field-below (sheetBits s) (sheet-bits s o) (8 * first) (8 * count) (omega (arith, length-sheetBits s)))
+      (pow-mono {i = 8 * count} {j = 8 * most} (omega arith))
 
   -- one byte more
   pub bytes-more : (first index : ℕ) → first ≤ index → index < length s

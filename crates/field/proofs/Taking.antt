@@ -11,6 +11,7 @@ use borrow.Author.Tests.{le-leb, lt-leb, ltb-true}
 use Rattle.laws.proofs.Flags.{split-and}
 use Rattle.definition.specs.Field.{sheetBits, fieldAt, Read, got, refused, pastEnd, readField, field, plain}
 use Rattle.definition.proofs.Bits.{Bytes, sheet-bits, length-sheetBits}
+use Rattle.definition.proofs.Reading.{field-end}
 use Rattle.definition.proofs.Faithful.{clash, field-faithful}
 use Rattle.field.specs.declared.Taken.{Taken}
 use Rattle.field.specs.declared.Taken.the-variants.{Value, Refused}
@@ -22,6 +23,11 @@ took t v n e k = sym e ∙ ap asRead k
 
 pub stopped : {r : Read ℕ} (t : Taken) (c p : ℕ) → asRead t ≡ r → t ≡ Refused c p → r ≡ refused c p
 stopped t c p e k = sym e ∙ ap asRead k
+
+-- the bit behind a field that was taken
+pub took-end : (c : ℕ) (ok : ℕ → Bool) (w : ℕ) (s : List ℕ) (p : ℕ) {t : Taken} {v n : ℕ} → asRead t ≡ (field c ok w) .read s p → t ≡ Value v n
+    → n ≡ p + w
+took-end c ok w s p {t} {v} {n} e k = field-end c ok w s p v n (took t v n e k)
 
 -- ## A field of any value
 module _ (sheet : List ℕ) (at w : ℕ) where
@@ -59,7 +65,7 @@ module _ (c : ℕ) (ok : ℕ → Bool) (w : ℕ) (s : List ℕ) (p : ℕ) where
       go false l = rw (l, readField) (rw (l, readField) at e)
       go true l = clash d q (fieldAt s p w) (p + w) (sym (rw (l, readField) at e))
 
-  -- the three ways out of a function that takes a field and tests it
+  -- one lemma for each of the three returns of a function that takes a field and tests it
   module _ (t : Taken) (e : asRead t ≡ (plain w) .read s p) where
     pub test-passed : (v n : ℕ) → t ≡ Value v n → ok v ≡ true → got v n ≡ (field c ok w) .read s p
     test-passed v n q k = sym (tested-got v n (took t v n e q) true k)

@@ -1,3 +1,4 @@
+pub mod Carrying
 pub mod Ready
 pub mod Numbered
 pub mod Paging

@@ -29,22 +29,23 @@ use Rattle.paving.specs.Grid.{sizeOf, axes, grid, inClass}
 use Rattle.paving.specs.Sweep.{classesFrom, groupsFrom}
 use Rattle.paving.proofs.Points.{grid-values}
 use Rattle.paving.proofs.Sweeping.{empty-unmatched}
-use Rattle.paving_update.specs.Update.{cutOf}
-use Rattle.paving_update.specs.Boxes.{listOf, Within, boxOf}
+use Rattle.tables.specs.Cuts.{cutOf}
+use Rattle.tables.specs.Lists.{listOf, Within, boxOf, Boxed}
 use Rattle.paving_update.proofs.Meaning.{box-in}
 use Rattle.paving_cuts.proofs.ByRules.{boxes-counted}
-use Rattle.paving_points.specs.Listed.{ruleAt}
+use Rattle.tables.specs.Rules.{ruleAt, RuleTimes}
 use Rattle.paving_points.specs.Paged.{pageOf}
 use Rattle.paving_points.proofs.Boxes.{lawful-bounded}
 use Rattle.paving_points.proofs.Lists.{listed-end}
 use Rattle.paving_points.proofs.Groups.{pages-popped}
-use Rattle.paving_map.specs.Boxes.{boxWords, Mapped}
+use Rattle.paving_map.specs.Boxes.{Mapped}
+use Rattle.tables.specs.Days.{boxWords}
 use Rattle.paving_map.proofs.Numbering.{number-low}
 use Rattle.paving_map.proofs.InUse.{InUse, none-used, numberDay, number-day-none, same-day-number, numbers-classed, cell-day, cells-used}
 use Rattle.paving_pages.specs.Sorts.{groupRules}
 use Rattle.paving_pages.proofs.Rules.{rules-paged}
-use Rattle.phases.specs.Phases.{Entries, Boxed, dayRoom}
-use Rattle.phases.proofs.Entries.{entries-lawful, day-listed}
+use Rattle.tables.specs.Sizes.{dayRoom}
+use Rattle.tables.proofs.Times.{entries-lawful, day-listed}
 use Rattle.page_text.specs.DayReady.{DayReady}
 use Rattle.folding.proofs.Ready.{box-ready, boxed-carried}
 
@@ -83,7 +84,7 @@ pages-brief : (rs : List Rule) → firstTooLong 32 rs ≡ none → length (folde
 unfolding folded
 pages-brief rs calm = flatMap-length rulesOf 33 (pages rs) (group-rules rs 32 calm)
 
-module _ (states counts spans rows sizes cuts lists cells classes : List ℕ) (rs : List Rule) (tables : Entries states counts spans rs) (boxed : Boxed rows sizes cuts lists rs)
+module _ (states counts spans rows sizes cuts lists cells classes : List ℕ) (rs : List Rule) (tables : RuleTimes states counts spans rs) (boxed : Boxed rows sizes cuts lists rs)
     (mapped : Mapped (boxWords states counts spans lists) cells classes (sizeOf sizes 4)) (exact : length cells ≡ sizeOf sizes 4) where
   abbrev found : List (Group ℕ ℕ)
   found = groupsFrom cells classes sizes 5 1 4

@@ -13,18 +13,21 @@ use Rattle.grid.proofs.Part.{Part}
 use Rattle.definition.specs.Rule.{Rule}
 use Rattle.paving.specs.Grid.{sizeOf, axes}
 use Rattle.paving.specs.Sweep.{groupsFrom}
-use Rattle.paving_map.specs.Boxes.{boxWords, Mapped}
+use Rattle.paving_map.specs.Boxes.{Mapped}
+use Rattle.tables.specs.Days.{boxWords}
 use Rattle.paving_pages.specs.Pages.{groupsNumbers}
 use Rattle.paving_pages.proofs.Enough.{pages-few}
-use Rattle.phases.specs.Phases.{Entries, Boxed, dayRoom, Paged}
-use Rattle.page_text.specs.Counted.{Counted}
+use Rattle.tables.specs.Rules.{RuleTimes}
+use Rattle.tables.specs.Lists.{Boxed}
+use Rattle.tables.specs.Sizes.{dayRoom}
+use Rattle.tables.specs.Pages.{Paged, Counted}
 use Rattle.page_text.proofs.Reading.{text-counted}
 use Rattle.page_text.proofs.Rules.{text-rules}
 use Rattle.page_text.proofs.Ready.{text-ready}
-use Rattle.phases.proofs.Entries.{entries-lawful}
+use Rattle.tables.proofs.Times.{entries-lawful}
 use Rattle.folding.proofs.Numbered.{folded-found, found-few, found-brief, found-parts, found-ready}
 
-module _ (states counts spans rows sizes cuts lists cells classes : List ℕ) (rs : List Rule) (tables : Entries states counts spans rs) (boxed : Boxed rows sizes cuts lists rs)
+module _ (states counts spans rows sizes cuts lists cells classes : List ℕ) (rs : List Rule) (tables : RuleTimes states counts spans rs) (boxed : Boxed rows sizes cuts lists rs)
     (boxes : ℕ) (all : boxes ≡ sizeOf sizes 4) (numbered : Mapped (boxWords states counts spans lists) cells classes boxes) (each : length cells ≡ boxes) (text₀ text : List ℕ)
     (roomy : 13 * boxes ≤ length text₀) (laid : text ≡ sets text₀ 0 (groupsNumbers rows cuts sizes 4 (groupsFrom cells classes sizes 5 1 4)))
     (stop : ℕ) (ends : stop ≡ length (groupsNumbers rows cuts sizes 4 (groupsFrom cells classes sizes 5 1 4))) where
@@ -54,7 +57,7 @@ module _ (states counts spans rows sizes cuts lists cells classes : List ℕ) (r
   pub pages-folded : (n : ℕ) → ((m : ℕ) → Counted text m 0 stop → n ≡ m) → Paged states counts spans lists text n rs
   pages-folded n counted = subst (λ m. Paged states counts spans lists text m rs) (sym (counted (length found) ended)) (record {
     few = found-few states counts spans rows sizes cuts lists cells classes rs tables boxed mapped exact;
-    pages = text-ready rows sizes cuts rs (boxed .cut) (entries-lawful states counts spans rs tables) (boxed .few-boxes)
+    ready = text-ready rows sizes cuts rs (boxed .cut) (entries-lawful states counts spans rs tables) (boxed .few-boxes)
         states counts spans lists text₀ text dayRoom found laid inside parts
         (found-ready states counts spans rows sizes cuts lists cells classes rs tables boxed mapped exact);
     brief = found-brief states counts spans rows sizes cuts lists cells classes rs tables boxed mapped exact;

@@ -12,32 +12,30 @@ use lib.ListN.{length, getD, List·getD-eq-default}
 use borrow.Author.Tests.{ltb-true, ltb-false}
 use Rattle.laws.specs.Lists.{All}
 use Rattle.laws.proofs.Lists.{All-at, every-all}
-use Rattle.definition.specs.Rule.{Rule}
+use Rattle.definition.specs.Rule.{Rule, noRule}
 use Rattle.definition.specs.Sheet.{form1, limits1, span}
 use Rattle.definition.specs.Point.{dimensions}
 use Rattle.definition.specs.Day.{Entry}
 use Rattle.definition.proofs.Lawful.{items-fit}
-use Rattle.sheet.specs.Begin.{noRule}
 use Rattle.span_number.specs.Number.{stateAt, NumberedState, spanAt}
 use Rattle.span_number.proofs.Carried.{state-numbered}
 use Rattle.words.specs.Words.{part}
 use Rattle.day_words.specs.Day.{unflat}
 use Rattle.day_words.proofs.Room.{day-room}
-use Rattle.rule_writer.specs.Rows.{FitsSpan}
-use Rattle.day_writer.specs.Rules.{Carried}
+use Rattle.tables.specs.Days.{FitsSpan, Carried, boxWords, Ready}
 use Rattle.paving.specs.Grid.{sizeOf, widthOf, Room}
-use Rattle.paving_update.specs.Boxes.{listOf}
-use Rattle.paving_update.proofs.Drawing.{list-length}
+use Rattle.tables.specs.Lists.{listOf, Boxed}
+use Rattle.tables.proofs.Lists.{list-length}
 use Rattle.paving_points.proofs.Boxes.{lawful-bounded}
-use Rattle.paving_map.specs.Boxes.{boxWords, Ready}
 use Rattle.paving_pages.specs.Pages.{CutRows}
 use Rattle.paving_pages.proofs.Rules.{cut-rows}
-use Rattle.page_writer.proofs.Carrying.{box-carried}
-use Rattle.phases.specs.Phases.{Entries, Boxed, dayRoom}
-use Rattle.phases.proofs.Entries.{entry-back, entries-lawful}
+use Rattle.folding.proofs.Carrying.{box-carried}
+use Rattle.tables.specs.Rules.{RuleTimes}
+use Rattle.tables.specs.Sizes.{dayRoom}
+use Rattle.tables.proofs.Times.{entry-back, entries-lawful}
 
 -- ## Tables
-module _ (states counts spans : List ℕ) (rs : List Rule) (tables : Entries states counts spans rs) where
+module _ (states counts spans : List ℕ) (rs : List Rule) (tables : RuleTimes states counts spans rs) where
   -- past the last rule there are no spans
   counts-past : (r : ℕ) → length rs ≤ r → getD counts r 0 ≡ 0
   counts-past r l = List·getD-eq-default counts 0 (omega (arith, tables .all-counts))

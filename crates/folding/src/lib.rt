@@ -8,8 +8,12 @@ ghost use Prim.Native.Nat.{_+_, _*_, _≤_, _<_};
 ghost use lib.ListN.{length, getD};
 ghost use Rattle.definition.specs.Rule.{Rule};
 ghost use Rattle.paving.specs.Grid.{sizeOf};
-ghost use Rattle.paving_map.specs.Boxes.{boxWords, AllReady, Mapped};
-ghost use Rattle.phases.specs.Phases.{Entries, Boxed, Paged, dayRoom};
+ghost use Rattle.paving_map.specs.Boxes.{AllReady, Mapped};
+ghost use Rattle.tables.specs.Days.{boxWords};
+ghost use Rattle.tables.specs.Rules.{RuleTimes};
+ghost use Rattle.tables.specs.Lists.{Boxed};
+ghost use Rattle.tables.specs.Pages.{Paged};
+ghost use Rattle.tables.specs.Sizes.{dayRoom};
 
 // Numbers the day of each of so many boxes, and notes the class of each number.
 fn number_days(
@@ -76,15 +80,15 @@ fn fold_in(
     cells: &mut [u16],
     classes: &mut [u8],
     marks: &mut [u8],
-    text: &mut [u16],
+    pages: &mut [u16],
 ) -> usize
-    requires { ⌜ ((rs : List Rule) × Entries (now states) (now «span_counts») (now spans) rs × Boxed (now rows) (now sizes) (now cuts) (now lists) rs) ⌝ }
+    requires { ⌜ ((rs : List Rule) × RuleTimes (now states) (now «span_counts») (now spans) rs × Boxed (now rows) (now sizes) (now cuts) (now lists) rs) ⌝ }
     requires { ⌜ (boxes ≡ sizeOf (now sizes) 4) × (length (now cells) ≡ boxes) ⌝ }
-    requires { ⌜ (boxes < length (now classes)) × (getD (now classes) 0 0 ≡ 0) × (boxes + 3 ≤ length (now marks)) × (13 * boxes ≤ length (now text)) ⌝ }
+    requires { ⌜ (boxes < length (now classes)) × (getD (now classes) 0 0 ≡ 0) × (boxes + 3 ≤ length (now marks)) × (13 * boxes ≤ length (now pages)) ⌝ }
     requires { ⌜ (boxes ≤ length (now known)) × (boxes ≤ length (now hints)) × (boxes ≤ length (now prints)) ⌝ }
-    ensures { λ r. ⌜ ((rs : List Rule) → Entries (now (states .entry)) (now («span_counts» .entry)) (now (spans .entry)) rs
+    ensures { λ r. ⌜ ((rs : List Rule) → RuleTimes (now (states .entry)) (now («span_counts» .entry)) (now (spans .entry)) rs
         → Boxed (now (rows .entry)) (now (sizes .entry)) (now (cuts .entry)) (now (lists .entry)) rs
-        → Paged (now (states .entry)) (now («span_counts» .entry)) (now (spans .entry)) (now (lists .entry)) (now (text .exit)) r rs) ⌝ }
+        → Paged (now (states .entry)) (now («span_counts» .entry)) (now (spans .entry)) (now (lists .entry)) (now (pages .exit)) r rs) ⌝ }
 {
     number_days(
         states,
@@ -98,8 +102,8 @@ fn fold_in(
         cells,
         classes,
     );
-    let stop = paving_pages::pop_pages(cells, classes, sizes, marks, rows, cuts, text);
-    page_text::count_pages(text, stop)
+    let stop = paving_pages::pop_pages(cells, classes, sizes, marks, rows, cuts, pages);
+    page_text::count_pages(pages, stop)
 }
 
 // Few boxes, in small buffers.
@@ -112,14 +116,14 @@ fn fold_few(
     sizes: &[u16],
     cuts: &[u16],
     boxes: usize,
-    text: &mut [u16],
+    pages: &mut [u16],
 ) -> usize
-    requires { ⌜ ((rs : List Rule) × Entries (now states) (now «span_counts») (now spans) rs × Boxed (now rows) (now sizes) (now cuts) (now lists) rs) ⌝ }
-    requires { ⌜ (boxes ≡ sizeOf (now sizes) 4) × (13 * boxes ≤ length (now text)) ⌝ }
+    requires { ⌜ ((rs : List Rule) × RuleTimes (now states) (now «span_counts») (now spans) rs × Boxed (now rows) (now sizes) (now cuts) (now lists) rs) ⌝ }
+    requires { ⌜ (boxes ≡ sizeOf (now sizes) 4) × (13 * boxes ≤ length (now pages)) ⌝ }
     requires { ⌜ boxes ≤ 16 ⌝ }
-    ensures { λ r. ⌜ ((rs : List Rule) → Entries (now (states .entry)) (now («span_counts» .entry)) (now (spans .entry)) rs
+    ensures { λ r. ⌜ ((rs : List Rule) → RuleTimes (now (states .entry)) (now («span_counts» .entry)) (now (spans .entry)) rs
         → Boxed (now (rows .entry)) (now (sizes .entry)) (now (cuts .entry)) (now (lists .entry)) rs
-        → Paged (now (states .entry)) (now («span_counts» .entry)) (now (spans .entry)) (now (lists .entry)) (now (text .exit)) r rs) ⌝ }
+        → Paged (now (states .entry)) (now («span_counts» .entry)) (now (spans .entry)) (now (lists .entry)) (now (pages .exit)) r rs) ⌝ }
 {
     let mut known = few::few_box_numbers();
     let mut hints = few::few_box_prints();
@@ -142,7 +146,7 @@ fn fold_few(
         &mut cells[..boxes],
         &mut classes,
         &mut marks,
-        text,
+        pages,
     )
 }
 
@@ -156,13 +160,13 @@ fn fold_many(
     sizes: &[u16],
     cuts: &[u16],
     boxes: usize,
-    text: &mut [u16],
+    pages: &mut [u16],
 ) -> usize
-    requires { ⌜ ((rs : List Rule) × Entries (now states) (now «span_counts») (now spans) rs × Boxed (now rows) (now sizes) (now cuts) (now lists) rs) ⌝ }
-    requires { ⌜ (boxes ≡ sizeOf (now sizes) 4) × (13 * boxes ≤ length (now text)) ⌝ }
-    ensures { λ r. ⌜ ((rs : List Rule) → Entries (now (states .entry)) (now («span_counts» .entry)) (now (spans .entry)) rs
+    requires { ⌜ ((rs : List Rule) × RuleTimes (now states) (now «span_counts») (now spans) rs × Boxed (now rows) (now sizes) (now cuts) (now lists) rs) ⌝ }
+    requires { ⌜ (boxes ≡ sizeOf (now sizes) 4) × (13 * boxes ≤ length (now pages)) ⌝ }
+    ensures { λ r. ⌜ ((rs : List Rule) → RuleTimes (now (states .entry)) (now («span_counts» .entry)) (now (spans .entry)) rs
         → Boxed (now (rows .entry)) (now (sizes .entry)) (now (cuts .entry)) (now (lists .entry)) rs
-        → Paged (now (states .entry)) (now («span_counts» .entry)) (now (spans .entry)) (now (lists .entry)) (now (text .exit)) r rs) ⌝ }
+        → Paged (now (states .entry)) (now («span_counts» .entry)) (now (spans .entry)) (now (lists .entry)) (now (pages .exit)) r rs) ⌝ }
 {
     let mut known = scratch::box_numbers();
     let mut hints = scratch::box_prints();
@@ -185,11 +189,11 @@ fn fold_many(
         &mut cells[..boxes],
         &mut classes,
         &mut marks,
-        text,
+        pages,
     )
 }
 
-// From boxes with lists to pages of the folded rules in a text; answers how many pages there are.
+// From boxes with lists to pages of the folded rules in a buffer; answers how many pages there are.
 pub fn fold_pages(
     states: &[u32],
     span_counts: &[u8],
@@ -198,15 +202,15 @@ pub fn fold_pages(
     rows: &[u16],
     sizes: &[u16],
     cuts: &[u16],
-    boxes: usize,
-    text: &mut [u16],
+    pages: &mut [u16],
 ) -> usize
-    requires { ⌜ ((rs : List Rule) × Entries (now states) (now «span_counts») (now spans) rs × Boxed (now rows) (now sizes) (now cuts) (now lists) rs) ⌝ }
-    requires { ⌜ (boxes ≡ sizeOf (now sizes) 4) × (13 * boxes ≤ length (now text)) ⌝ }
-    ensures { λ r. ⌜ ((rs : List Rule) → Entries (now (states .entry)) (now («span_counts» .entry)) (now (spans .entry)) rs
+    requires { ⌜ ((rs : List Rule) × RuleTimes (now states) (now «span_counts») (now spans) rs × Boxed (now rows) (now sizes) (now cuts) (now lists) rs) ⌝ }
+    requires { ⌜ 13 * sizeOf (now sizes) 4 ≤ length (now pages) ⌝ }
+    ensures { λ r. ⌜ ((rs : List Rule) → RuleTimes (now (states .entry)) (now («span_counts» .entry)) (now (spans .entry)) rs
         → Boxed (now (rows .entry)) (now (sizes .entry)) (now (cuts .entry)) (now (lists .entry)) rs
-        → Paged (now (states .entry)) (now («span_counts» .entry)) (now (spans .entry)) (now (lists .entry)) (now (text .exit)) r rs) ⌝ }
+        → Paged (now (states .entry)) (now («span_counts» .entry)) (now (spans .entry)) (now (lists .entry)) (now (pages .exit)) r rs) ⌝ }
 {
+    let boxes = paving::place::size_of(sizes, 4);
     if boxes <= 16 {
         fold_few(
             states,
@@ -217,7 +221,7 @@ pub fn fold_pages(
             sizes,
             cuts,
             boxes,
-            text,
+            pages,
         )
     } else {
         fold_many(
@@ -229,7 +233,7 @@ pub fn fold_pages(
             sizes,
             cuts,
             boxes,
-            text,
+            pages,
         )
     }
 }

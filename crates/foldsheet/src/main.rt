@@ -1,6 +1,6 @@
 // foldsheet: folds the sheet on standard input and prints the six numbers under their names, then the result in upper-case hex, or `-` on a
 // refusal. A sheet has at most 65,536 bytes, else `too long` is printed.
-use emission::Folded;
+use answers::Folded;
 use libc::STDIN_FILENO;
 use libc::STDOUT_FILENO;
 

@@ -82,28 +82,33 @@ module _ (bs : List Range) (o : Proper bs) (Rs : List (List Range)) (w : Within 
   module _ {W : Type 0} {eq : W → W → Bool} (exact : Exact eq) (empty : W) (oks : List (W → Bool)) (un : All (λ ok. ok empty ≡ false) oks)
       (f : Map ℕ W) (h : ByMarks Rs f) where
     -- the groups of boxes, seen as points, are the groups of points
-    groups-points : map (image (λ v. v) (blocks bs)) (groups eq sameRange empty oks (boxes bs Rs) (λ is. f (starts is))) ≡ groups eq eqb empty oks (map coordinates bs) f
+    groups-points : map (image (λ v. v) (blocks bs)) (groups eq sameRange empty oks (boxes bs Rs) (λ is. f (starts is)))
+        ≡ groups eq eqb empty oks (map coordinates bs) f
     groups-points =
         groups-image (λ v. v) (λ v. Unit {0}) eq eq (λ u v pu pv. refl) sameRange eqb empty empty refl tt (blocks bs) (blocks-fill bs) (boxes bs Rs)
         (boxes-apart bs o Rs w) exact (exact-pair exact-eqb exact-eqb) oks oks (tests oks un) (λ is. f (starts is)) f (λ p. tt) (constant bs o Rs w f f h)
         ∙ ap (λ Ds. groups eq eqb empty oks Ds f) (boxes-all bs o Rs w)
       where
         tests : (os : List (W → Bool)) → All (λ ok. ok empty ≡ false) os
-            → Tests (λ v. v) (λ v. Unit {0}) eq eq (λ u v pu pv. refl) sameRange eqb empty empty refl tt (blocks bs) (blocks-fill bs) (boxes bs Rs) (boxes-apart bs o Rs w) os os
+            → Tests (λ v. v) (λ v. Unit {0}) eq eq (λ u v pu pv. refl) sameRange eqb empty empty refl tt (blocks bs) (blocks-fill bs) (boxes bs Rs)
+            (boxes-apart bs o Rs w) os os
         tests [] u = tt
         tests (ok ∷ os) u = (λ v p. refl, u .0, tests os (u .1))
 
-    part-runs : (cs : List Range) → Proper cs → (Qs : List (List Range)) → Within cs Qs → (S : Set Range) → Part (boxes cs Qs) S → map runs (fines (blocks cs) S) ≡ map joined S
+    part-runs : (cs : List Range) → Proper cs → (Qs : List (List Range)) → Within cs Qs → (S : Set Range) → Part (boxes cs Qs) S
+        → map runs (fines (blocks cs) S) ≡ map joined S
     unfolding boxes
     part-runs [] p Qs v [] k = refl
     part-runs [] p Qs v (E ∷ S) k = absurd k
     part-runs (c ∷ cs) p [] v S k = absurd v
     part-runs (c ∷ cs) p (Q ∷ Qs) v [] k = absurd k
     part-runs (c ∷ cs) p (Q ∷ Qs) v (E ∷ S) k =
-        ap₂ _∷_ (runs-joined (c .0) E (rw (k .0 .1) (rising-keep (k .0 .0) (c .0) (intervals c Q) (intervals-rise c (p .0) Q (v .0))))) (part-runs cs (p .1) Qs (v .1) S (k .1))
+        ap₂ _∷_ (runs-joined (c .0) E (rw (k .0 .1) (rising-keep (k .0 .0) (c .0) (intervals c Q) (intervals-rise c (p .0) Q (v .0)))))
+        (part-runs cs (p .1) Qs (v .1) S (k .1))
 
     -- THE LAW, with sets as maximal runs
-    pub groups-boxes : map asRuns (groups eq eqb empty oks (map coordinates bs) f) ≡ map asJoined (groups eq sameRange empty oks (boxes bs Rs) (λ is. f (starts is)))
+    pub groups-boxes : map asRuns (groups eq eqb empty oks (map coordinates bs) f)
+        ≡ map asJoined (groups eq sameRange empty oks (boxes bs Rs) (λ is. f (starts is)))
     groups-boxes =
         ap (map asRuns) (sym groups-points) ∙ each (groups eq sameRange empty oks (boxes bs Rs) (λ is. f (starts is)))
         (groups-part eq sameRange empty (boxes bs Rs) oks (λ is. f (starts is)))

@@ -26,7 +26,8 @@ module _ {A W : Type 0} {eq : W → W → Bool} (exact : Exact eq) {same : A →
       one : (ok : W → Bool) → ok empty ≡ false → (f : Map A W)
           → OnSome (λ g. 1 + tally (full exact exact-same empty) Ds (clear same empty (g .1) f) ≤ tally (full exact exact-same empty) Ds f) (pop eq ok Ds f)
       one ok z f = OnSome-map (λ g h. omega arith) (pop eq ok Ds f)
-          (pop-less exact exact-same empty ok (full exact exact-same empty) (matched-full exact exact-same empty ok z) (empty-not-full exact exact-same empty) Ds f)
+          (pop-less exact exact-same empty ok (full exact exact-same empty) (matched-full exact exact-same empty ok z)
+          (empty-not-full exact exact-same empty) Ds f)
 
 -- ## Maximal runs are at most every other interval
 -- how the first of the ranges begins, where there is one
@@ -34,7 +35,8 @@ abbrev Begins : ℕ → List Range → Type 0
 Begins c [] = ⊥
 Begins c (i ∷ D) = i .0 ≡ c
 
-glue-more : (i : Range) (rs : List Range) → length (glue i rs) ≤ suc (length rs)
+-- a range before others, joined to them where they meet
+pub glue-more : (i : Range) (rs : List Range) → length (glue i rs) ≤ suc (length rs)
 unfolding glue
 glue-more i [] = omega arith
 glue-more i (j ∷ rs) = go (eqb (i .1) (j .0)) refl
@@ -72,7 +74,8 @@ half t c (d ∷ cs) = go (t (c, d)) refl (half t d cs)
     D : List Range
     D = between (d ∷ cs)
 
-    go : (b : Bool) → t (c, d) ≡ b → (2 * length (joined (keep t D)) ≤ suc (length D)) × (Begins d (joined (keep t D)) ⊎ (2 * length (joined (keep t D)) ≤ length D))
+    go : (b : Bool) → t (c, d) ≡ b
+        → (2 * length (joined (keep t D)) ≤ suc (length D)) × (Begins d (joined (keep t D)) ⊎ (2 * length (joined (keep t D)) ≤ length D))
         → (2 * length (joined (keep t ((c, d) ∷ D))) ≤ suc (suc (length D)))
         × (Begins c (joined (keep t ((c, d) ∷ D))) ⊎ (2 * length (joined (keep t ((c, d) ∷ D))) ≤ suc (length D)))
     go false e ih = rw (e, keep) (omega (arith, ih .0), inr (ih .0))
@@ -122,5 +125,6 @@ boxes-wide (b ∷ bs) [] = (omega arith, tt)
 boxes-wide (b ∷ bs) (R ∷ Rs) =
     let later = boxes-wide bs Rs in
     let one : 1 ≤ length (between (cuts b R)) = omega (arith, length-between (cuts b R), cuts-count b R) in
-    let wide : length (between (cuts b R)) ≤ length (between (cuts b R)) * size (boxes bs Rs) = omega (arith, mul-le-mul-left (length (between (cuts b R))) (later .0)) in
+    let wide : length (between (cuts b R)) ≤ length (between (cuts b R)) * size (boxes bs Rs) =
+    omega (arith, mul-le-mul-left (length (between (cuts b R))) (later .0)) in
     (omega (arith, wide, one), (wide, All-map (λ D l. omega (arith, l, mul-le-mul-right (size (boxes bs Rs)) one)) (boxes bs Rs) (later .1)))

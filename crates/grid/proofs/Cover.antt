@@ -133,7 +133,8 @@ module _ {A W : Type 0} {eq : W → W → Bool} (exact : Exact eq) {same : A →
   sweep-separate (suc n) ok z f hs s a = go (pop eq ok Ds f) a (λ f′. sweep-separate n ok z f′ hs s)
     where
       go : (o : Option (Group A W)) → ((p : List A) → takeOut eq same empty f (λ f′. sweepFor eq same empty n ok Ds f′) o .1 p ≡ empty → Avoid p hs)
-          → ((f′ : Map A W) → ((p : List A) → sweepFor eq same empty n ok Ds f′ .1 p ≡ empty → Avoid p hs) → Separate (sweepFor eq same empty n ok Ds f′ .0 ++ hs))
+          → ((f′ : Map A W) → ((p : List A) → sweepFor eq same empty n ok Ds f′ .1 p ≡ empty → Avoid p hs)
+          → Separate (sweepFor eq same empty n ok Ds f′ .0 ++ hs))
           → Separate (takeOut eq same empty f (λ f′. sweepFor eq same empty n ok Ds f′) o .0 ++ hs)
       go none b ih = s
       go (some g) b ih = (

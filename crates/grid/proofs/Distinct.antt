@@ -71,10 +71,12 @@ module _ {A W : Type 0} {eq : W → W → Bool} (exact : Exact eq) {same : A →
           E : List A
           E = keep (λ x. agree eq (g .0) (g .1) (at f x)) D
 
-          gone : (x : A) → Mem x D → eq empty (g .0) ≡ false → g .1 ≡ [] → (b : Bool) → eq (f (x ∷ [])) (g .0) ≡ b → eq (clear same empty (E ∷ g .1) f (x ∷ [])) (g .0) ≡ false
+          gone : (x : A) → Mem x D → eq empty (g .0) ≡ false → g .1 ≡ [] → (b : Bool) → eq (f (x ∷ [])) (g .0) ≡ b
+              → eq (clear same empty (E ∷ g .1) f (x ∷ [])) (g .0) ≡ false
           gone x m ne s true e =
               let i : inside same (E ∷ g .1) (x ∷ []) ≡ true =
-              both-and (anyOf (same x) E) (inside same (g .1) []) (Mem-any exact-same x E (Mem-keep (λ y. agree eq (g .0) (g .1) (at f y)) x D m (rw s e))) (rw s)
+              both-and (anyOf (same x) E) (inside same (g .1) [])
+              (Mem-any exact-same x E (Mem-keep (λ y. agree eq (g .0) (g .1) (at f y)) x D m (rw s e))) (rw s)
               in
               ap (λ v. eq v (g .0)) (clear-value same empty (E ∷ g .1) f (x ∷ []) ∙ ap (λ b. cond b empty (f (x ∷ []))) i) ∙ ne
           gone x m ne s false e = ap (λ v. eq v (g .0)) (clear-value same empty (E ∷ g .1) f (x ∷ [])) ∙ pick (inside same (E ∷ g .1) (x ∷ []))
@@ -92,7 +94,8 @@ module _ {A W : Type 0} {eq : W → W → Bool} (exact : Exact eq) {same : A →
     where
       go : (o : Option (Group A W)) → OnSome (λ g. eq (g .0) v ≡ false) o
           → ((f′ : Map A W) → Each (λ u. eq u v ≡ false) f′
-          → All (λ u. eq u v ≡ false) (values (sweepFor eq same empty n ok (D ∷ []) f′ .0)) × Each (λ u. eq u v ≡ false) (sweepFor eq same empty n ok (D ∷ []) f′ .1))
+          → All (λ u. eq u v ≡ false) (values (sweepFor eq same empty n ok (D ∷ []) f′ .0)) ×
+          Each (λ u. eq u v ≡ false) (sweepFor eq same empty n ok (D ∷ []) f′ .1))
           → All (λ u. eq u v ≡ false) (values (takeOut eq same empty f (λ f′. sweepFor eq same empty n ok (D ∷ []) f′) o .0))
           × Each (λ u. eq u v ≡ false) (takeOut eq same empty f (λ f′. sweepFor eq same empty n ok (D ∷ []) f′) o .1)
       go none k ih = (tt, h)
@@ -116,7 +119,8 @@ module _ {A W : Type 0} {eq : W → W → Bool} (exact : Exact eq) {same : A →
   sweep-distinct (suc n) ok z oks f later = go (pop eq ok (D ∷ []) f) (popped-gone ok z f) (λ f′. sweep-distinct n ok z oks f′ later)
     where
       go : (o : Option (Group A W)) → OnSome (λ g. (eq empty (g .0) ≡ false) × Each (λ v. eq v (g .0) ≡ false) (clear same empty (g .1) f)) o
-          → ((f′ : Map A W) → Distinct eq (values (sweepFor eq same empty n ok (D ∷ []) f′ .0 ++ groups eq same empty oks (D ∷ []) (sweepFor eq same empty n ok (D ∷ []) f′ .1))))
+          → ((f′ : Map A W) → Distinct eq
+          (values (sweepFor eq same empty n ok (D ∷ []) f′ .0 ++ groups eq same empty oks (D ∷ []) (sweepFor eq same empty n ok (D ∷ []) f′ .1))))
           → Distinct eq (values (takeOut eq same empty f (λ f′. sweepFor eq same empty n ok (D ∷ []) f′) o .0
           ++ groups eq same empty oks (D ∷ []) (takeOut eq same empty f (λ f′. sweepFor eq same empty n ok (D ∷ []) f′) o .1)))
       go none k ih = later f
@@ -124,7 +128,8 @@ module _ {A W : Type 0} {eq : W → W → Bool} (exact : Exact eq) {same : A →
           let f′ = clear same empty (g .1) f in
           let r = sweep-lacks (g .0) (k .0) n ok f′ (k .1) in (
             subst (All (λ u. eq u (g .0) ≡ false)) (sym (map-append (λ q. q .0) (sweepFor eq same empty n ok (D ∷ []) f′ .0) _))
-                (All-append _ (values (sweepFor eq same empty n ok (D ∷ []) f′ .0)) _ (r .0) (groups-lack (g .0) (k .0) oks (sweepFor eq same empty n ok (D ∷ []) f′ .1) (r .1))),
+                (All-append _ (values (sweepFor eq same empty n ok (D ∷ []) f′ .0)) _ (r .0)
+                (groups-lack (g .0) (k .0) oks (sweepFor eq same empty n ok (D ∷ []) f′ .1) (r .1))),
             ih f′,
           )
 
@@ -139,7 +144,9 @@ module _ {A W : Type 0} {eq : W → W → Bool} (exact : Exact eq) {same : A →
       → All (λ g. P (g .0)) (groups eq same empty oks (D ∷ []) f)
   groups-values P oks z f h =
       groups-each eq same empty (D ∷ []) (λ ok. ok empty ≡ false) (λ g. P (g .0)) (Each (λ v. (v ≡ empty) ⊎ P v))
-      (λ ok un f′ q. popped ok un (pop eq ok (D ∷ []) f′) (pop-each (λ v. (v ≡ empty) ⊎ P v) ok f′ q) (OnSome-map (λ g k. k .1) (pop eq ok (D ∷ []) f′) (pop-agree exact ok (D ∷ []) f′)))
+      (λ ok un f′ q.
+      popped ok un (pop eq ok (D ∷ []) f′) (pop-each (λ v. (v ≡ empty) ⊎ P v) ok f′ q)
+      (OnSome-map (λ g k. k .1) (pop eq ok (D ∷ []) f′) (pop-agree exact ok (D ∷ []) f′)))
       (λ S f′. clear-each (λ v. (v ≡ empty) ⊎ P v) (inl refl) S f′) oks z f h
     where
       popped : (ok : W → Bool) → ok empty ≡ false → (o : Option (Group A W)) → OnSome (λ g. (g .0 ≡ empty) ⊎ P (g .0)) o

@@ -228,7 +228,8 @@ module _ {A B W X : Type 0} (r : W → X) (P : W → Type 0) (eqW : W → W → 
               (takeOut eqX sameB emptyX g (λ g′. sweepFor eqX sameB emptyX n okX (fines es Ds) g′) (Option·map (image r es) o))
           go none p ih = (refl, h, w)
           go (some q) p ih =
-              let k = ih (clear sameA emptyW (q .1) f) (clear sameB emptyX (fines es (q .1)) g) (clear-values (q .1) f w) (clear-image es Ds (q .1) f g p d h) in
+              let k = ih (clear sameA emptyW (q .1) f) (clear sameB emptyX (fines es (q .1)) g) (clear-values (q .1) f w)
+              (clear-image es Ds (q .1) f g p d h) in
               (ap (image r es q ∷_) (k .0), k .1, k .2)
 
       -- the tests of the classes, two by two: they say the same of a value in use, and nothing matches the empty value

@@ -19,7 +19,9 @@ interval cut x = block (cut x, cut (suc x))
 module _ (cut : ℕ → ℕ) (n : ℕ) (rises : (x : ℕ) → x < n → cut x < cut (suc x)) where
   mono : (x d : ℕ) → x + d ≤ n → cut x ≤ cut (x + d)
   mono x zero h = let e : cut x ≡ cut (x + 0) = ap cut (let q : x ≡ x + 0 = omega arith in q) in omega arith
-  mono x (suc d) h = let e : cut (suc (x + d)) ≡ cut (x + suc d) = ap cut (let q : suc (x + d) ≡ x + suc d = omega arith in q) in omega (arith, mono x d (omega arith), rises (x + d) (omega arith), e)
+  mono x (suc d) h =
+      let e : cut (suc (x + d)) ≡ cut (x + suc d) = ap cut (let q : suc (x + d) ≡ x + suc d = omega arith in q) in
+      omega (arith, mono x d (omega arith), rises (x + d) (omega arith), e)
 
   below : (x y : ℕ) → x ≤ y → y ≤ n → cut x ≤ cut y
   below x y h k = let e : cut (x + (y - x)) ≡ cut y = ap cut (let q : x + (y - x) ≡ y = omega arith in q) in omega (arith, mono x (y - x) (omega arith), e)
@@ -33,7 +35,8 @@ module _ (cut : ℕ → ℕ) (n : ℕ) (rises : (x : ℕ) → x < n → cut x < 
     where
       apart : (x y b : ℕ) → x < n → y < n → cut x ≤ b → b < cut (suc x) → (x ≡ y → ⊥) → (t : Bool) → ltb x y ≡ t → false ≡ anyOf (eqb b) (interval cut y)
       apart x y b k m lo hi ne true t = sym (block-low (cut y, cut (suc y)) (rises y m) b (omega (arith, below (suc x) y (ltb-true x y t) (omega arith))))
-      apart x y b k m lo hi ne false t = sym (block-high (cut y, cut (suc y)) (rises y m) b (omega (arith, below (suc y) x (omega (arith, ltb-false x y t)) (omega arith))))
+      apart x y b k m lo hi ne false t =
+          sym (block-high (cut y, cut (suc y)) (rises y m) b (omega (arith, below (suc y) x (omega (arith, ltb-false x y t)) (omega arith))))
 
       same : (x y b : ℕ) → x < n → y < n → cut x ≤ b → b < cut (suc x) → (t : Bool) → eqb x y ≡ t → t ≡ anyOf (eqb b) (interval cut y)
       same x y b k m lo hi true e =
@@ -45,7 +48,9 @@ module _ (cut : ℕ → ℕ) (n : ℕ) (rises : (x : ℕ) → x < n → cut x < 
   -- and have all coordinates from the first cut up to the last
   pub interval-all : (s d : ℕ) → s + d ≤ n → flatMap (interval cut) (from s d) ≡ from (cut s) (cut (s + d) - cut s)
   unfolding flatMap from
-  interval-all s zero h = let e : 0 ≡ cut (s + 0) - cut s = (let q : cut (s + 0) ≡ cut s = ap cut (let w : s + 0 ≡ s = omega arith in w) in omega arith) in ap (from (cut s)) e
+  interval-all s zero h =
+      let e : 0 ≡ cut (s + 0) - cut s = (let q : cut (s + 0) ≡ cut s = ap cut (let w : s + 0 ≡ s = omega arith in w) in omega arith) in
+      ap (from (cut s)) e
   interval-all s (suc d) h =
       let q : suc s + d ≡ s + suc d = omega arith in
       let up = rises s (omega arith) in

@@ -76,7 +76,8 @@ module _ {A W : Type 0} {eq : W → W → Bool} (exact : Exact eq) {same : A →
 
   module _ (Ds : Set A) where
     module _ (weight : Group A W → ℕ)
-        (lowers : (ok : W → Bool) → ok empty ≡ false → (f : Map A W) → OnSome (λ g. weight g + tally full Ds (clear same empty (g .1) f) ≤ tally full Ds f) (pop eq ok Ds f)) where
+        (lowers : (ok : W → Bool) → ok empty ≡ false → (f : Map A W) → OnSome
+        (λ g. weight g + tally full Ds (clear same empty (g .1) f) ≤ tally full Ds f) (pop eq ok Ds f)) where
       sweep-weight : (n : ℕ) (ok : W → Bool) → ok empty ≡ false → (f : Map A W)
           → sum weight (sweepFor eq same empty n ok Ds f .0) + tally full Ds (sweepFor eq same empty n ok Ds f .1) ≤ tally full Ds f
       unfolding sweepFor takeOut sum
@@ -105,10 +106,12 @@ module _ {A W : Type 0} {eq : W → W → Bool} (exact : Exact eq) {same : A →
       groups-weight oks z f = omega (arith, groups-tally oks z f, tally-size full Ds f)
 
     -- THE GROUPS' POINTS ARE NO MORE THAN ALL
-    pub groups-size : (oks : List (W → Bool)) → All (λ ok. ok empty ≡ false) oks → (f : Map A W) → sum (λ g. size (g .1)) (groups eq same empty oks Ds f) ≤ size Ds
+    pub groups-size : (oks : List (W → Bool)) → All (λ ok. ok empty ≡ false) oks → (f : Map A W)
+        → sum (λ g. size (g .1)) (groups eq same empty oks Ds f) ≤ size Ds
     groups-size = groups-weight (λ g. size (g .1)) taken
       where
-        taken : (ok : W → Bool) → ok empty ≡ false → (f : Map A W) → OnSome (λ g. size (g .1) + tally full Ds (clear same empty (g .1) f) ≤ tally full Ds f) (pop eq ok Ds f)
+        taken : (ok : W → Bool) → ok empty ≡ false → (f : Map A W)
+            → OnSome (λ g. size (g .1) + tally full Ds (clear same empty (g .1) f) ≤ tally full Ds f) (pop eq ok Ds f)
         taken ok z f = go (pop eq ok Ds f) (pop-part eq ok Ds f) (pop-agree exact ok Ds f)
           where
             go : (o : Option (Group A W)) → OnSome (λ g. Part Ds (g .1)) o → OnSome (λ g. (agree eq (g .0) (g .1) f ≡ true) × (ok (g .0) ≡ true)) o

@@ -1,6 +1,5 @@
 -- What a check answers of a sheet: its rules are read, or it is refused as the definition refuses it; and so its line. Rests on the law of
 -- beginnings.
--- Assumes nothing.
 use mathlib.Core.Path.{_≡_, refl, sym, ap, ap₂, _∙_, subst}
 use mathlib.Core.List.{List}
 use Prim.Native.Nat.{ℕ, _≤_}
@@ -16,7 +15,7 @@ use Rattle.sheet.specs.declared.check.Checked.{Checked}
 use Rattle.sheet.specs.declared.check.Checked.the-variants.{Rules, Refused}
 use Rattle.sheet.specs.Rules.{checked, begun, rulesAt, AllBegin, asChecked}
 use Rattle.sheet.proofs.Begins.{begun-length, rules-few, checked-rules, all-begin, rules-there}
-use Rattle.normalize.specs.Prepared.{Readings}
+use Rattle.normalize.specs.Folds.{Readings}
 
 module _ (sheet : List ℕ) (r : Checked) (answer : asChecked r ≡ checked sheet) where
   pub rules-read : (begins before : List ℕ) → begins ≡ begun sheet before → 64 ≤ length before → (n q : ℕ) → r ≡ Rules n q → Readings sheet begins n q
@@ -28,7 +27,8 @@ module _ (sheet : List ℕ) (r : Checked) (answer : asChecked r ≡ checked shee
   unfolding checked
   sheet-refused c p e = go (decode form1 limits1 sheet) refl (sym answer ∙ ap asChecked e)
     where
-      go : (w : Read (List Rule)) → decode form1 limits1 sheet ≡ w → andThen (λ rs q. got (length rs) q) w ≡ refused c p → decode form1 limits1 sheet ≡ refused c p
+      go : (w : Read (List Rule)) → decode form1 limits1 sheet ≡ w → andThen (λ rs q. got (length rs) q) w ≡ refused c p
+          → decode form1 limits1 sheet ≡ refused c p
       go (refused k j) h g = let a : k ≡ c = cc in let b : j ≡ p = cc in h ∙ ap (λ z. refused z j) a ∙ ap (refused c) b
       go (got rs q) h g = let z : _≡_ {A = ℕ} 0 1 = cc in absurd (omega arith)
 
@@ -40,7 +40,8 @@ module _ (sheet : List ℕ) (r : Checked) (answer : asChecked r ≡ checked shee
     pub line-begins : AllBegin (sheetBits sheet) begins n × (n ≤ 64) × (n ≤ length begins)
     line-begins =
         let few = rules-few sheet (read .0) q b (read .1) in (
-          subst (λ l. AllBegin (sheetBits sheet) l n) (sym noted) (subst (AllBegin (sheetBits sheet) (begun sheet before)) (read .2) (all-begin sheet b (read .0) q (read .1) before room)),
+          subst (λ l. AllBegin (sheetBits sheet) l n) (sym noted)
+              (subst (AllBegin (sheetBits sheet) (begun sheet before)) (read .2) (all-begin sheet b (read .0) q (read .1) before room)),
           omega (arith, few, read .2),
           omega (arith, few, read .2, room, ap length noted, begun-length sheet before),
         )

@@ -1,6 +1,6 @@
 // The entries for C and Rust: an answer's numbers go, in document 01's order, into a lent slice of 64-bit numbers. A slice too short for
-// them is answered no, and nothing is written anywhere; a longer one keeps its later numbers.
-use sheet::back::Written;
+// them is writeNumbers no, and nothing is written anywhere; a longer one keeps its later numbers.
+use answers::Written;
 ghost use mathlib.Core.Path.{_≡_};
 ghost use Prim.Native.Nat.{_≤_};
 ghost use lib.Dec.{leb};
@@ -9,7 +9,7 @@ ghost use Rattle.definition.specs.Sheet.{form1, limits1};
 ghost use Rattle.definition.specs.Fold.{buffer, numbers, writtenNumbers, fold, writeBack};
 ghost use Rattle.definition.specs.Show.{showLine};
 ghost use Rattle.definition.specs.Lookup as state;
-ghost use Rattle.sheet.specs.Back.{answered};
+ghost use Rattle.answers.specs.Numbers.{writeNumbers};
 ghost use Rattle.hours.specs.Export.{put};
 
 // An answer at the front of the lent numbers.
@@ -27,7 +27,7 @@ fn put_answer(answer: &[u64], lent: &mut [u64])
 // What an entry that writes a sheet or a line answers.
 fn put_written(written: Written, lent: &mut [u64])
     requires { ⌜ 3 ≤ length (now lent) ⌝ }
-    ensures { λ _. ⌜ now (lent .exit) ≡ buffer (answered written) (now (lent .entry)) ⌝ }
+    ensures { λ _. ⌜ now (lent .exit) ≡ buffer (writeNumbers written) (now (lent .entry)) ⌝ }
 {
     let answer = [
         written.code as u64,

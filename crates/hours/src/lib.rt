@@ -2,37 +2,37 @@
 // byte string, date and buffer gets an answer. Rests on the check of sheets, on the phases of the fold and on the line of rules.
 pub mod export;
 
-use emission::Folded;
-use sheet::back::Written;
+use answers::Answer;
+use answers::Folded;
+use answers::Written;
+use answers::fold_refused;
+use answers::lookup_refused;
 use sheet::check::Checked;
-use state_at::answer::Answer;
 ghost use mathlib.Core.Path.{_≡_};
 ghost use lib.ListN.{length};
 ghost use Rattle.definition.specs.Sheet.{form1, limits1};
 ghost use Rattle.definition.specs.Fold.{buffer, numbers, writtenNumbers, fold, writeBack};
 ghost use Rattle.definition.specs.Show.{showLine};
 ghost use Rattle.definition.specs.Lookup.{lookup};
-ghost use Rattle.sheet.specs.Back.{answered};
-ghost use Rattle.emission.specs.Emission.{numbersOf};
-ghost use Rattle.state_at.specs.Found as found;
+ghost use Rattle.answers.specs.Numbers.{foldNumbers, lookedUp, writeNumbers};
 
 // "The fold answers code, drained, emitted (folded rules only), left (rules copied), bytes written, place." The result stands at the front of
 // `out`; a refused fold changes no byte.
 pub fn fold(sheet: &[u8], out: &mut [u8]) -> Folded
-    ensures { λ r. ⌜ (numbersOf r ≡ numbers (fold form1 limits1 (length (now (out .entry))) (now (sheet .entry))))
+    ensures { λ r. ⌜ (foldNumbers r ≡ numbers (fold form1 limits1 (length (now (out .entry))) (now (sheet .entry))))
         × (now (out .exit) ≡ buffer ((fold form1 limits1 (length (now (out .entry))) (now (sheet .entry))) .result) (now (out .entry))) ⌝ }
 {
     let mut begins = [0usize; 64];
     let checked = sheet::check::check(sheet, &mut begins);
     match checked {
         Checked::Rules(count, end) => normalize::fold_rules(sheet, &begins, count, end, out),
-        Checked::Refused(code, place) => normalize::refused(code as u64, place as u64),
+        Checked::Refused(code, place) => fold_refused(code as u64, place as u64),
     }
 }
 
 // "Takes a sheet, a year, month, day and minute (0 to 1439)": "answers code, kind, comment and the table's place; refused, kind and comment are 0".
 pub fn lookup(sheet: &[u8], year: u64, month: u64, day: u64, minute: u64) -> Answer
-    ensures { λ r. ⌜ found.answered r ≡ lookup form1 limits1 (now (sheet .entry)) year month day minute ⌝ }
+    ensures { λ r. ⌜ lookedUp r ≡ lookup form1 limits1 (now (sheet .entry)) year month day minute ⌝ }
 {
     let mut begins = [0usize; 64];
     let checked = sheet::check::check(sheet, &mut begins);
@@ -46,13 +46,13 @@ pub fn lookup(sheet: &[u8], year: u64, month: u64, day: u64, minute: u64) -> Ans
             day,
             minute,
         ),
-        Checked::Refused(code, place) => lookup::refused(code as u64, place as u64),
+        Checked::Refused(code, place) => lookup_refused(code as u64, place as u64),
     }
 }
 
 // "Writing back refuses by 1 to 4 and 7 only": code, bytes written and place.
 pub fn write_back(sheet: &[u8], out: &mut [u8]) -> Written
-    ensures { λ r. ⌜ (answered r ≡ writtenNumbers (writeBack form1 limits1 (length (now (out .entry))) (now (sheet .entry))))
+    ensures { λ r. ⌜ (writeNumbers r ≡ writtenNumbers (writeBack form1 limits1 (length (now (out .entry))) (now (sheet .entry))))
         × (now (out .exit) ≡ buffer ((writeBack form1 limits1 (length (now (out .entry))) (now (sheet .entry))) .result) (now (out .entry))) ⌝ }
 {
     sheet::back::write_back(sheet, out)
@@ -61,7 +61,7 @@ pub fn write_back(sheet: &[u8], out: &mut [u8]) -> Written
 // 02, M-100: "a writer from an accepted sheet to text": code, bytes written and place. The line stands at the front of `out`; a refused one
 // changes no byte.
 pub fn line(sheet: &[u8], out: &mut [u8]) -> Written
-    ensures { λ r. ⌜ (answered r ≡ writtenNumbers (showLine form1 limits1 (length (now (out .entry))) (now (sheet .entry))))
+    ensures { λ r. ⌜ (writeNumbers r ≡ writtenNumbers (showLine form1 limits1 (length (now (out .entry))) (now (sheet .entry))))
         × (now (out .exit) ≡ buffer ((showLine form1 limits1 (length (now (out .entry))) (now (sheet .entry))) .result) (now (out .entry))) ⌝ }
 {
     let mut begins = [0usize; 64];

@@ -1,3 +1,3 @@
-pub mod Ways
+pub mod Returns
 pub mod Bodies
 pub mod Spans

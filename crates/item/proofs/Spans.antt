@@ -1,8 +1,8 @@
--- The ways out of the readers of repeats and of spans. Rests on the laws of readings.
+-- One lemma for each return of the readers of repeats and of spans. Rests on the laws of readings.
 -- Assumes nothing.
 use mathlib.Core.Path.{_≡_, sym, ap, _∙_}
 use mathlib.Core.List.{List}
-use mathlib.Core.Option.{Option, none, some}
+use mathlib.Core.Option.{Option, none}
 use mathlib.Core.Bool.{true, false}
 use Prim.Native.Nat.{ℕ, suc, _+_}
 use native.Mathlib.Omega.{arith}
@@ -50,5 +50,6 @@ module _ (t : ℕ) (s : List ℕ) (q : ℕ) where
 pub span-stops : (t : Taken) (r : SpanRead) (whole : Read Rule.Span) {c p : ℕ} → r ≡ spanRefused t → t ≡ Refused c p → whole ≡ refused c p → asSpan r ≡ whole
 span-stops t r whole e k h = ap asSpan (e ∙ ap spanRefused k) ∙ sym h
 
-pub span-stops-time : (t : TimeRead) (r : SpanRead) (whole : Read Rule.Span) {c p : ℕ} → r ≡ spanRefusedTime t → t ≡ timeRead.Refused c p → whole ≡ refused c p → asSpan r ≡ whole
+pub span-stops-time : (t : TimeRead) (r : SpanRead) (whole : Read Rule.Span) {c p : ℕ} → r ≡ spanRefusedTime t → t ≡ timeRead.Refused c p
+    → whole ≡ refused c p → asSpan r ≡ whole
 span-stops-time t r whole e k h = ap asSpan (e ∙ ap spanRefusedTime k) ∙ sym h

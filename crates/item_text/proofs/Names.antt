@@ -29,8 +29,12 @@ name-found : (row : List ℕ) (names : List String) (r : Range) (width : ℕ) �
     → (v : ℕ) → (named names r) .fits v ≡ true → (r .0 ≤ v) × (v < r .1) × (take width (drop ((v - r .0) * width) row) ≡ (named names r) .write v)
 unfolding named
 name-found row names r width t v f =
-    let b = holds-in v r f in
-    (b .0, b .1, (exact-list exact-eqb) .equal _ _ (every-below (λ k. sameList eqb (take width (drop (k * width) row)) (getD (map ascii names) k [])) (r .1 - r .0) t (v - r .0) (omega (arith, b))))
+    let b = holds-in v r f in (
+      b .0,
+      b .1,
+      (exact-list exact-eqb) .equal _ _
+          (every-below (λ k. sameList eqb (take width (drop (k * width) row)) (getD (map ascii names) k [])) (r .1 - r .0) t (v - r .0) (omega (arith, b))),
+    )
 
 -- so many bytes of the row from there on
 name-long : (row : List ℕ) (start width : ℕ) (name : List ℕ) → start + width ≤ length row → take width (drop start row) ≡ name → length name ≡ width
@@ -43,11 +47,15 @@ abbrev pub weekdayRow : List ℕ
 weekdayRow = ascii "MoTuWeThFrSaSu"
 
 -- a month's name at its place in the row, and how long it is; and a weekday's
-pub month-found : (v : ℕ) → monthName .fits v ≡ true → (1 ≤ v) × (v < 13) × (take 3 (drop ((v - 1) * 3) monthRow) ≡ monthName .write v) × (length (monthName .write v) ≡ 3)
+pub month-found : (v : ℕ) → monthName .fits v ≡ true
+    → (1 ≤ v) × (v < 13) × (take 3 (drop ((v - 1) * 3) monthRow) ≡ monthName .write v) × (length (monthName .write v) ≡ 3)
 unfolding from every sameList ascii
-month-found v f = let k = name-found monthRow monthNames monthBounds 3 refl v f in (k .0, k .1, k .2, name-long monthRow ((v - 1) * 3) 3 _ (omega (arith, k .0, k .1)) (k .2))
+month-found v f =
+    let k = name-found monthRow monthNames monthBounds 3 refl v f in
+    (k .0, k .1, k .2, name-long monthRow ((v - 1) * 3) 3 _ (omega (arith, k .0, k .1)) (k .2))
 
-pub weekday-found : (v : ℕ) → weekdayName .fits v ≡ true → (v < 7) × (take 2 (drop (v * 2) weekdayRow) ≡ weekdayName .write v) × (length (weekdayName .write v) ≡ 2)
+pub weekday-found : (v : ℕ) → weekdayName .fits v ≡ true
+    → (v < 7) × (take 2 (drop (v * 2) weekdayRow) ≡ weekdayName .write v) × (length (weekdayName .write v) ≡ 2)
 unfolding from every sameList ascii
 weekday-found v f =
     let k = name-found weekdayRow weekdayNames weekdayBounds 2 refl v f in

@@ -12,7 +12,7 @@ use Rattle.grid.specs.Cut.{holds}
 use Rattle.definition.specs.Rule.{weekBounds, yearBounds, operatorOf, State}
 use Rattle.definition.specs.Text.{Text, ascii, digits, decimal, word, padded, plain, _then_, of, unless, only}
 use Rattle.definition.specs.Line.{single, item, clock, spanText, stateText, before}
-use Rattle.text.proofs.Putting.{length-digits}
+use Rattle.definition.proofs.Lengths.{length-digits}
 use Rattle.item_text.specs.Day.{monthName, weekdayName, endText, itemText, behind}
 use Rattle.item_text.specs.Time.{plainSpan}
 use Rattle.item_text.specs.State.{stateOf, kindPart, commentPart}
@@ -30,11 +30,13 @@ module _ (sort v : ℕ) where
   unfolding endText
   months-end a b = rw (a, b) (refl, refl)
 
-  pub weeks-end : eqb sort 0 ≡ false → eqb sort 1 ≡ false → eqb sort 2 ≡ true → ((endText sort) .write v ≡ digits 2 v) × ((endText sort) .fits v ≡ holds v weekBounds)
+  pub weeks-end : eqb sort 0 ≡ false → eqb sort 1 ≡ false → eqb sort 2 ≡ true
+      → ((endText sort) .write v ≡ digits 2 v) × ((endText sort) .fits v ≡ holds v weekBounds)
   unfolding endText padded
   weeks-end a b c = rw (a, b, c) (refl, refl)
 
-  pub weekdays-end : eqb sort 0 ≡ false → eqb sort 1 ≡ false → eqb sort 2 ≡ false → ((endText sort) .write v ≡ weekdayName .write v) × ((endText sort) .fits v ≡ weekdayName .fits v)
+  pub weekdays-end : eqb sort 0 ≡ false → eqb sort 1 ≡ false → eqb sort 2 ≡ false
+      → ((endText sort) .write v ≡ weekdayName .write v) × ((endText sort) .fits v ≡ weekdayName .fits v)
   unfolding endText
   weekdays-end a b c = rw (a, b, c) (refl, refl)
 
@@ -75,7 +77,13 @@ unfolding clock only of _then_ padded word ascii
 clock-text m l = rw (le-leb m 2880 l) refl
 
 pub clock-long : (m : ℕ) → m ≤ 2880 → length (clock .write m) ≡ 5
-clock-long m l = omega (arith, ap length (clock-text m l), length-append (digits 2 (m / 60)) (58 ∷ digits 2 (m % 60)), length-digits 2 (m / 60), length-digits 2 (m % 60))
+clock-long m l = omega (
+  arith,
+  ap length (clock-text m l),
+  length-append (digits 2 (m / 60)) (58 ∷ digits 2 (m % 60)),
+  length-digits 2 (m / 60),
+  length-digits 2 (m % 60),
+)
 
 module _ (a b : ℕ) (o : Bool) where
   pub span-open : o ≡ true → plainSpan a b o ≡ clock .write a ++ ((45 ∷ []) ++ (clock .write b ++ (43 ∷ [])))
@@ -91,7 +99,14 @@ module _ (a b : ℕ) (o : Bool) where
   span-long h k = go o refl
     where
       go : (p : Bool) → o ≡ p → length (plainSpan a b o) ≡ 11 + cond p 1 0
-      go true e = omega (arith, ap length (span-open e), length-append (clock .write a) (45 ∷ (clock .write b ++ (43 ∷ []))), length-append (clock .write b) (43 ∷ []), clock-long a h, clock-long b k)
+      go true e = omega (
+        arith,
+        ap length (span-open e),
+        length-append (clock .write a) (45 ∷ (clock .write b ++ (43 ∷ []))),
+        length-append (clock .write b) (43 ∷ []),
+        clock-long a h,
+        clock-long b k,
+      )
       go false e = omega (arith, ap length (span-shut e), length-append (clock .write a) (45 ∷ clock .write b), clock-long a h, clock-long b k)
 
 -- ## Kind and comment

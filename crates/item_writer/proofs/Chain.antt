@@ -19,7 +19,8 @@ module _ {old xs mid : List ℕ} {at place : ℕ} (first : Wrote old at xs mid p
   pub wrote-then : {ys out : List ℕ} {next : ℕ} → Wrote mid place ys out next → Wrote old at (xs ++ ys) out next
   wrote-then {ys} {out} {next} second = record {
     behind = omega (arith, first .behind, second .behind, length-append xs ys);
-    stored = second .stored ∙ ap (λ s. sets s place ys) (first .stored) ∙ ap (λ j. sets (sets (sheetBits old) at xs) j ys) (first .behind) ∙ sym (sets-append (sheetBits old) at xs ys);
+    stored = second .stored ∙ ap (λ s. sets s place ys) (first .stored) ∙ ap (λ j. sets (sets (sheetBits old) at xs) j ys) (first .behind)
+        ∙ sym (sets-append (sheetBits old) at xs ys);
   }
 
   -- behind what was written there is room for the rest

@@ -42,7 +42,8 @@ module _ (n : ℕ) (late : 262144 ≤ n) where
   unfolding timeAt time timeOf tagged via _then_ field
   variable-low h =
       let k : (ltb ((n - 262144) / 65536) (2 ^ 2) && true) && (ltb (bySize (n % 65536)) (2 ^ 16) && true) ≡ true = rw (le-ltb n 262144 late) at h in
-      ltb-true ((n - 262144) / 65536) (2 ^ 2) (split-and (ltb ((n - 262144) / 65536) (2 ^ 2)) true (split-and (ltb ((n - 262144) / 65536) (2 ^ 2) && true) _ k .0) .0)
+      ltb-true ((n - 262144) / 65536) (2 ^ 2)
+      (split-and (ltb ((n - 262144) / 65536) (2 ^ 2)) true (split-and (ltb ((n - 262144) / 65536) (2 ^ 2) && true) _ k .0) .0)
 
 -- ## Repeats
 pub no-repeats : (n : ℕ) → n ≡ 0 → repeatsLayout .write (repeatsAt n) ≡ bits 1 0
@@ -62,13 +63,18 @@ module _ (n : ℕ) (some : n ≡ 0 → ⊥) where
 
 -- ## Spans
 module _ (n s e : ℕ) (starts : s ≡ n / 8589934592) (ends : e ≡ n / 16384 % 524288) where
-  pub span-bits : span .write (spanAt n) ≡ time .write (timeAt s) ++ (time .write (timeAt e) ++ (bits 1 (n / 8192 % 2) ++ repeatsLayout .write (repeatsAt (n % 8192))))
+  pub span-bits : span .write (spanAt n)
+      ≡ time .write (timeAt s) ++ (time .write (timeAt e) ++ (bits 1 (n / 8192 % 2) ++ repeatsLayout .write (repeatsAt (n % 8192))))
   unfolding spanAt span via _then_ field
   span-bits = rw (starts, ends, flag-number (n / 8192))
 
-  pub span-parts : span .fits (spanAt n) ≡ true → (time .fits (timeAt s) ≡ true) × (time .fits (timeAt e) ≡ true) × (repeatsLayout .fits (repeatsAt (n % 8192)) ≡ true)
+  pub span-parts : span .fits (spanAt n) ≡ true
+      → (time .fits (timeAt s) ≡ true) × (time .fits (timeAt e) ≡ true) × (repeatsLayout .fits (repeatsAt (n % 8192)) ≡ true)
   unfolding spanAt span via _then_ field
   span-parts h =
       let first = split-and (time .fits (timeAt (n / 8589934592))) _ h in
-      let second = split-and (time .fits (timeAt (n / 16384 % 524288))) _ (first .1) in
-      (rw starts (first .0), rw ends (second .0), split-and ((plain 1) .fits (flagBit (eqb (n / 8192 % 2) 1))) (repeatsLayout .fits (repeatsAt (n % 8192))) (second .1) .1)
+      let second = split-and (time .fits (timeAt (n / 16384 % 524288))) _ (first .1) in (
+        rw starts (first .0),
+        rw ends (second .0),
+        split-and ((plain 1) .fits (flagBit (eqb (n / 8192 % 2) 1))) (repeatsLayout .fits (repeatsAt (n % 8192))) (second .1) .1,
+      )

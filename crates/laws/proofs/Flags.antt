@@ -1,7 +1,8 @@
 -- Laws of flags (`Bool`).
 -- Assumes nothing.
 use mathlib.Core.Path.{_≡_, refl, sym}
-use mathlib.Core.Bool.{Bool, true, false, _&&_, _||_, true≢false, false≢true}
+use mathlib.Core.Bool.{Bool, true, false, _&&_, _||_, cond, true≢false, false≢true}
+use lib.Dec.{eqb}
 
 pub and-assoc : (a b c : Bool) → a && b && c ≡ a && (b && c)
 and-assoc true b c = refl
@@ -10,6 +11,14 @@ and-assoc false b c = refl
 pub or-assoc : (a b c : Bool) → a || b || c ≡ a || (b || c)
 or-assoc true b c = refl
 or-assoc false b c = refl
+
+pub and-true : (a : Bool) → a && true ≡ a
+and-true true = refl
+and-true false = refl
+
+pub and-false : (a : Bool) → a && false ≡ false
+and-false true = refl
+and-false false = refl
 
 pub split-and : (a b : Bool) → a && b ≡ true → (a ≡ true) × (b ≡ true)
 split-and true b h = (refl, h)
@@ -40,3 +49,8 @@ same-flag false false f g = refl
 pub not-true : (a : Bool) → (a ≡ true → ⊥) → a ≡ false
 not-true true h = absurd (h refl)
 not-true false h = refl
+
+-- a flag is read back from its bit
+pub bit-flag : (a : Bool) → eqb (cond a 1 0) 1 ≡ a
+bit-flag true = refl
+bit-flag false = refl

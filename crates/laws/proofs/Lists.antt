@@ -7,7 +7,7 @@ use mathlib.Core.Option.{Option, none, some}
 use mathlib.Core.Bool.{Bool, true, false, _&&_, _||_, true≢false, false≢true}
 use Prim.Native.Nat.{ℕ, zero, suc, _+_, _*_, _≤_, _<_}
 use native.Mathlib.Omega.{arith}
-use lib.ListN.{length, getD}
+use lib.ListN.{length, getD, take}
 use Rattle.laws.specs.Lists.{firstOf, every, anyOf, keep, sum, All, Mem, OnSome, OnNone}
 use Rattle.laws.specs.Tests.{Exact}
 use Rattle.laws.proofs.Flags.{and-assoc, or-assoc, split-and, both-and}
@@ -39,6 +39,11 @@ All-read P d h (x ∷ xs) k (suc i) = All-read P d h xs (k .1) i
 pub All-append : {A : Type 0} (P : A → Type 0) (xs ys : List A) → All P xs → All P ys → All P (xs ++ ys)
 All-append P [] ys h k = k
 All-append P (x ∷ xs) ys h k = (h .0, All-append P xs ys (h .1) k)
+
+pub All-take : {A : Type 0} (P : A → Type 0) (n : ℕ) (xs : List A) → All P xs → All P (take n xs)
+All-take P zero xs h = tt
+All-take P (suc n) [] h = tt
+All-take P (suc n) (x ∷ xs) h = (h .0, All-take P n xs (h .1))
 
 pub All-keep : {A : Type 0} (P : A → Type 0) (t : A → Bool) (D : List A) → All P D → All P (keep t D)
 unfolding keep

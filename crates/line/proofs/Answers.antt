@@ -22,7 +22,8 @@ lines-measured s begins n l m (To q) h = (h .0, omega (arith, h .1 .ends))
 lines-measured s begins n l m (Wordless k) h = h .0
 
 -- where every rule has words, the line is at the front of the buffer
-pub lines-written : (s begins : List ℕ) (n : ℕ) (l m : List ℕ) (r : Lined) → Lines s begins n l r m → firstWordless (rulesAt s begins n) ≡ none → length (lineOf (rulesAt s begins n)) ≤ length l
+pub lines-written : (s begins : List ℕ) (n : ℕ) (l m : List ℕ) (r : Lined) → Lines s begins n l r m → firstWordless (rulesAt s begins n) ≡ none
+    → length (lineOf (rulesAt s begins n)) ≤ length l
     → m ≡ buffer (lineOf (rulesAt s begins n)) l
 lines-written s begins n l m (To q) h e room = h .1 .stored ∙ written-front (lineOf (rulesAt s begins n)) l room
 lines-written s begins n l m (Wordless k) h e room = absurd (Option·some-ne-none k (sym (h .0) ∙ e))
@@ -45,4 +46,5 @@ module _ (rs : List Rule) (r : Lined) (measured : Measured rs r) (room : ℕ) wh
   unfolding showRules line
   shown-fine q e l =
       let k = shown-to q e in
-      rw (k .0, showRules) (written-fine room (lineOf rs) (omega (arith, k .1)) ∙ ap (λ n. record { code = 0; bytes = n; place = 0; result = lineOf rs }) (sym (k .1)))
+      rw (k .0, showRules)
+      (written-fine room (lineOf rs) (omega (arith, k .1)) ∙ ap (λ n. record { code = 0; bytes = n; place = 0; result = lineOf rs }) (sym (k .1)))

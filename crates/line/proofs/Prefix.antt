@@ -52,7 +52,8 @@ index-more t (x ∷ xs) r e = go (t x) refl (index-more t xs r)
     go true h ih = absurd (Option·some-ne-none 0 (rw (h, firstIndex) at e))
     go false h ih = rw (h, firstIndex) (ap (Option·map suc) (ih (later-none (firstIndex t xs) (rw (h, firstIndex) at e))) ∙ next (t r))
 
-pub wordless-more : (xs : List Rule) (r : Rule) → firstWordless xs ≡ none → firstWordless (xs ++ (r ∷ [])) ≡ cond (lacksWords (isNone xs) r) (some (length xs)) none
+pub wordless-more : (xs : List Rule) (r : Rule) → firstWordless xs ≡ none
+    → firstWordless (xs ++ (r ∷ [])) ≡ cond (lacksWords (isNone xs) r) (some (length xs)) none
 unfolding firstWordless lacksWords firstIndex
 wordless-more [] r e = go (isNormal (r .operator)) (wordless r)
   where
@@ -72,7 +73,8 @@ unfolding firstIndex
 index-stays t [] ys k e = absurd (Option·some-ne-none k (sym e))
 index-stays t (x ∷ xs) ys k e = go (t x) refl (firstIndex t xs) refl (index-stays t xs ys)
   where
-    go : (b : Bool) → t x ≡ b → (o : Option ℕ) → firstIndex t xs ≡ o → ((j : ℕ) → firstIndex t xs ≡ some j → firstIndex t (xs ++ ys) ≡ some j) → firstIndex t (x ∷ (xs ++ ys)) ≡ some k
+    go : (b : Bool) → t x ≡ b → (o : Option ℕ) → firstIndex t xs ≡ o → ((j : ℕ) → firstIndex t xs ≡ some j → firstIndex t (xs ++ ys) ≡ some j)
+        → firstIndex t (x ∷ (xs ++ ys)) ≡ some k
     go true h o g ih = rw (h, firstIndex) (rw (h, firstIndex) at e)
     go false h none g ih = absurd (Option·some-ne-none k (sym (rw (h, firstIndex, g) at e)))
     go false h (some j) g ih = rw (h, firstIndex) (ap (Option·map suc) (ih j g) ∙ rw (h, firstIndex, g) at e)
@@ -92,14 +94,16 @@ module _ (s begins : List ℕ) where
   unfolding rulesAt from
   rules-next n =
       let z : n + 1 ≡ suc n = omega arith in
-      sym (map-append (λ k. ruleAt s (getD begins k 0)) (from 0 n) (n ∷ [])) ∙ ap (map (λ k. ruleAt s (getD begins k 0))) (from-append 0 n 1 n (omega arith) ∙ ap (from 0) z)
+      sym (map-append (λ k. ruleAt s (getD begins k 0)) (from 0 n) (n ∷ [])) ∙ ap (map (λ k. ruleAt s (getD begins k 0)))
+      (from-append 0 n 1 n (omega arith) ∙ ap (from 0) z)
 
   -- so many rules, and those behind them
   pub rules-rest : (n k : ℕ) → k ≤ n → rulesAt s begins k ++ map (λ j. ruleAt s (getD begins j 0)) (from k (n - k)) ≡ rulesAt s begins n
   unfolding rulesAt
   rules-rest n k l =
       let z : k + (n - k) ≡ n = omega arith in
-      sym (map-append (λ j. ruleAt s (getD begins j 0)) (from 0 k) (from k (n - k))) ∙ ap (map (λ j. ruleAt s (getD begins j 0))) (from-append 0 k (n - k) k (omega arith) ∙ ap (from 0) z)
+      sym (map-append (λ j. ruleAt s (getD begins j 0)) (from 0 k) (from k (n - k))) ∙ ap (map (λ j. ruleAt s (getD begins j 0)))
+      (from-append 0 k (n - k) k (omega arith) ∙ ap (from 0) z)
 
   pub rules-none : (n : ℕ) → isNone (rulesAt s begins n) ≡ eqb n 0
   unfolding rulesAt from

@@ -50,7 +50,8 @@ shown-short first r h = omega (arith, length-append (startText first (r .operato
     start true = omega arith
     start false = before-short (r .operator)
 
-pub next-short : (sheet : List ℕ) → Bytes sheet → (p : ℕ) → Readable (sheetBits sheet) p → (first : Bool) → length (shownText first (ruleAt (sheetBits sheet) p)) ≤ 2048
+pub next-short : (sheet : List ℕ) → Bytes sheet → (p : ℕ) → Readable (sheetBits sheet) p → (first : Bool)
+    → length (shownText first (ruleAt (sheetBits sheet) p)) ≤ 2048
 next-short sheet bytes p readable first =
     shown-short first _ (rule-text-short (ruleAt (sheetBits sheet) p) (carried (rule-faithful form1 limits1) sheet bytes p _ (readable .end) (readable .read)))
 
@@ -61,7 +62,8 @@ module _ {s begins l : List ℕ} {i to : ℕ} {m : List ℕ} (walked : Walked s 
   -- the line of one rule more, and the first of one rule more that has no words
   line-next : lineOf (rulesAt s begins i) ++ shownText (eqb i 0) next ≡ lineOf (rulesAt s begins (suc i))
   line-next =
-      ap (λ b. lineOf (rulesAt s begins i) ++ shownText b next) (sym (rules-none s begins i)) ∙ sym (line-more (rulesAt s begins i) next) ∙ ap lineOf (rules-next s begins i)
+      ap (λ b. lineOf (rulesAt s begins i) ++ shownText b next) (sym (rules-none s begins i)) ∙ sym (line-more (rulesAt s begins i) next)
+      ∙ ap lineOf (rules-next s begins i)
 
   wordless-next : firstWordless (rulesAt s begins (suc i)) ≡ cond (lacksWords (eqb i 0) next) (some i) none
   wordless-next =

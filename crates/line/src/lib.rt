@@ -1,13 +1,13 @@
 // The line of a checked sheet: its rules as text, one behind the other, measured before anything is written.
+use answers::Written;
 use rule_text::rule::show_rule;
-use sheet::back::Written;
 ghost use mathlib.Core.Path.{_≡_};
 ghost use Prim.Native.Nat.{_≤_};
 ghost use lib.ListN.{length};
 ghost use Rattle.definition.specs.Field.{sheetBits};
 ghost use Rattle.definition.specs.Fold.{buffer, writtenNumbers};
 ghost use Rattle.definition.specs.Show.{showRules};
-ghost use Rattle.sheet.specs.Back.{answered};
+ghost use Rattle.answers.specs.Numbers.{writeNumbers};
 ghost use Rattle.sheet.specs.Rules.{rulesAt, AllBegin};
 ghost use Rattle.line.specs.Lined.{Lines, Measured};
 
@@ -47,7 +47,7 @@ fn measure(sheet: &[u8], begins: &[usize], count: usize) -> Lined
 // "Refusals: 10 .. after 3, before 7": code, bytes written and place; the line stands at the front of `out`.
 pub fn line_of(sheet: &[u8], begins: &[usize], count: usize, out: &mut [u8]) -> Written
     requires { ⌜ AllBegin (sheetBits (now sheet)) (now begins) count × (count ≤ 64) × (count ≤ length (now begins)) ⌝ }
-    ensures { λ r. ⌜ (answered r ≡ writtenNumbers (showRules (length (now (out .entry))) (rulesAt (sheetBits (now (sheet .entry))) (now (begins .entry)) count)))
+    ensures { λ r. ⌜ (writeNumbers r ≡ writtenNumbers (showRules (length (now (out .entry))) (rulesAt (sheetBits (now (sheet .entry))) (now (begins .entry)) count)))
         × (now (out .exit) ≡ buffer ((showRules (length (now (out .entry))) (rulesAt (sheetBits (now (sheet .entry))) (now (begins .entry)) count)) .result) (now (out .entry))) ⌝ }
 {
     let measured = measure(sheet, begins, count);

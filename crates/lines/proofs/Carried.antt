@@ -88,7 +88,9 @@ module _ (form : Form) (limits : Limits) (r : Rule) (f : (rule form limits) .fit
   counts-carried =
       let items = counted (form .itemCount) (limits .items) in
       let spans = counted (form .itemCount) (limits .spans) in
-      let sorts = items .fits (length (r .years)) ∷ items .fits (length (r .monthdays)) ∷ items .fits (length (r .weeks)) ∷ items .fits (length (r .weekdays)) ∷ [] in
+      let sorts =
+      items .fits (length (r .years)) ∷ items .fits (length (r .monthdays)) ∷ items .fits (length (r .weeks)) ∷ items .fits (length (r .weekdays)) ∷
+      [] in
       let k = each-passes (sorts ++ spans .fits (length (r .spans)) ∷ []) (head-carried .1) in
       record {
         years-few = few _ _ (k .0);

@@ -31,7 +31,8 @@ unless-fits true f h = refl
 unless-fits false f h = h refl
 
 -- ## Items
-item-fits : (T : Text ℕ) (steps : Range) (e : Item) → T .fits (e .0) ≡ true → T .fits (e .1 .0) ≡ true → holds (e .1 .1) steps ≡ true → (item T steps) .fits e ≡ true
+item-fits : (T : Text ℕ) (steps : Range) (e : Item) → T .fits (e .0) ≡ true → T .fits (e .1 .0) ≡ true → holds (e .1 .1) steps ≡ true
+    → (item T steps) .fits e ≡ true
 unfolding item _then_ of unless word plain
 item-fits T steps e h k l =
     both-and (T .fits (e .0)) _ h (unless-fits (single e) _ (λ p. both-and (T .fits (e .1 .0)) _ k (unless-fits (eqb (e .1 .1) 1) _ (λ q. l))))
@@ -61,7 +62,8 @@ weekday-fits (holiday k o) f h = absurd (true≢false h)
 clock-fits : (m : ℕ) → m ≤ 2880 → clock .fits m ≡ true
 unfolding clock only of _then_ padded word
 clock-fits m l =
-    both-and _ _ (le-leb m 2880 l) (both-and _ _ (in-holds (m / 60) (0, 49) (omega arith) (omega arith)) (in-holds (m % 60) (0, 60) (omega arith) (omega arith)))
+    both-and _ _ (le-leb m 2880 l)
+    (both-and _ _ (in-holds (m / 60) (0, 49) (omega arith) (omega arith)) (in-holds (m % 60) (0, 60) (omega arith) (omega arith)))
 
 span-fits : (s : Span) → span .fits s ≡ true → not (isPlain s) ≡ false → spanText .fits s ≡ true
 unfolding spanText only of _then_ unless word
@@ -89,18 +91,23 @@ module _ (form : Form) (limits : Limits) where
       let a = split-or (anyOf monthdayStops (r .monthdays)) _ w in
       let b = split-or (anyOf weekdayStops (r .weekdays)) _ (a .1) in
       let d = split-or (anyOf (λ s. not (isPlain s)) (r .spans)) (isNone (r .spans)) (b .1) in
-      both-and _ _ (part-fits _ (r .years) (λ e. both-and _ _ (ap not e) (all-every _ (r .years) (every-all _ (yearRange .fits) year-fits (r .years) (i .years-fit)))))
+      both-and _ _
+      (part-fits _ (r .years)
+      (λ e. both-and _ _ (ap not e) (all-every _ (r .years) (every-all _ (yearRange .fits) year-fits (r .years) (i .years-fit)))))
       (both-and _ _ (part-fits _ (r .monthdays) (λ e. both-and _ _ (ap not e) (items-fitting month-fits (r .monthdays) (i .monthdays-fit) (a .0))))
-      (both-and _ _ (part-fits _ (r .weeks) (λ e. both-and _ _ (ap not e) (all-every _ (r .weeks) (every-all _ (weekRange .fits) week-fits (r .weeks) (i .weeks-fit)))))
+      (both-and _ _ (part-fits _ (r .weeks)
+      (λ e. both-and _ _ (ap not e) (all-every _ (r .weeks) (every-all _ (weekRange .fits) week-fits (r .weeks) (i .weeks-fit)))))
       (both-and _ _ (part-fits _ (r .weekdays) (λ e. both-and _ _ (ap not e) (items-fitting weekday-fits (r .weekdays) (i .weekdays-fit) (b .0))))
       (both-and _ _ (both-and _ _ (ap not (d .1)) (items-fitting span-fits (r .spans) (i .spans-fit) (d .0))) (state-fits (r .state) c)))))
     where
       -- items that a sheet carries, of which none is refused
-      items-fitting : {A : Type 0} {t u v : A → Bool} → ((x : A) → u x ≡ true → t x ≡ false → v x ≡ true) → (xs : List A) → every u xs ≡ true → anyOf t xs ≡ false → every v xs ≡ true
+      items-fitting : {A : Type 0} {t u v : A → Bool} → ((x : A) → u x ≡ true → t x ≡ false → v x ≡ true) → (xs : List A) → every u xs ≡ true
+          → anyOf t xs ≡ false → every v xs ≡ true
       items-fitting {t = t} {u = u} {v = v} h xs k l = all-every v xs (All-map₂ h xs (every-all _ u (λ x e. e) xs k) (none-passes t xs l))
 
   -- THE LAW
-  pub line-fits : (rs : List Rule) → (rules form limits) .fits rs ≡ true → All (λ r. r .state .comment < 2 ^ 24) rs → firstWordless rs ≡ none → line .fits rs ≡ true
+  pub line-fits : (rs : List Rule) → (rules form limits) .fits rs ≡ true → All (λ r. r .state .comment < 2 ^ 24) rs → firstWordless rs ≡ none
+      → line .fits rs ≡ true
   unfolding line firstWordless
   line-fits rs f c w = go (firstNormal rs) refl
     where

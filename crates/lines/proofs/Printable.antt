@@ -65,7 +65,9 @@ plain-prints r = record { prints = λ v f. decimal-prints (suc v) v }
 named-prints : (names : List String) → every (λ s. every printable (ascii s)) names ≡ true → (r : Range) → Prints (named names r)
 unfolding named
 named-prints names h r = record {
-  prints = λ v f. All-read (All Printable) [] tt (map ascii names) (All-image _ ascii names (every-all _ (λ s. every printable (ascii s)) (λ s. known (ascii s)) names h)) (v - r .0);
+  prints = λ v f.
+      All-read (All Printable) [] tt (map ascii names)
+      (All-image _ ascii names (every-all _ (λ s. every printable (ascii s)) (λ s. known (ascii s)) names h)) (v - r .0);
 }
 
 module _ {A : Type 0} {T : Text A} (h : Prints T) where
@@ -103,7 +105,8 @@ module _ {A : Type 0} {T : Text A} (h : Prints T) where
       go [] f = tt
       go (x ∷ xs) f =
           let k = every-all _ (T .fits) (h .prints) (x ∷ xs) f in
-          All-append Printable (T .write x) _ (k .0) (flatMap-all Printable _ xs (All-map (λ y. All-append Printable (ascii between) (T .write y) (known (ascii between) b)) xs (k .1)))
+          All-append Printable (T .write x) _ (k .0)
+          (flatMap-all Printable _ xs (All-map (λ y. All-append Printable (ascii between) (T .write y) (known (ascii between) b)) xs (k .1)))
 
 -- ## The line
 item-prints : {end : Text ℕ} → Prints end → (steps : Range) → Prints (item end steps)
@@ -113,11 +116,15 @@ item-prints h steps = then-prints (of-prints h _) (unless-prints (then-prints (w
 
 clock-prints : Prints clock
 unfolding clock ascii every
-clock-prints = only-prints (then-prints (of-prints (padded-prints 2 (0, 49) (omega arith)) _) (then-prints (word-prints ":" refl) (of-prints (padded-prints 2 (0, 60) (omega arith)) _))) _
+clock-prints = only-prints
+    (then-prints (of-prints (padded-prints 2 (0, 49) (omega arith)) _)
+    (then-prints (word-prints ":" refl) (of-prints (padded-prints 2 (0, 60) (omega arith)) _))) _
 
 span-prints : Prints spanText
 unfolding spanText ascii every
-span-prints = only-prints (then-prints (of-prints clock-prints _) (then-prints (word-prints "-" refl) (then-prints (of-prints clock-prints _) (unless-prints (word-prints "+" refl) _)))) _
+span-prints = only-prints
+    (then-prints (of-prints clock-prints _)
+    (then-prints (word-prints "-" refl) (then-prints (of-prints clock-prints _) (unless-prints (word-prints "+" refl) _)))) _
 
 kind-prints : Prints kindText
 unfolding ascii every
@@ -141,8 +148,11 @@ rule-prints : Prints ruleText
 unfolding ruleText yearText weekText monthText weekdayText ascii every
 rule-prints = then-prints (of-prints (part-prints (several-prints (of-prints (item-prints (padded-prints 4 yearBounds (omega arith)) yearSteps) _) "," refl)) _)
     (then-prints (of-prints (part-prints (several-prints (only-prints (of-prints (item-prints (named-prints monthNames refl monthBounds) _) _) _) "," refl)) _)
-    (then-prints (of-prints (part-prints (then-prints (word-prints "week " refl) (several-prints (of-prints (item-prints (padded-prints 2 weekBounds (omega arith)) weekSteps) _) "," refl))) _)
-    (then-prints (of-prints (part-prints (several-prints (only-prints (of-prints (item-prints (named-prints weekdayNames refl weekdayBounds) _) _) _) "," refl)) _)
+    (then-prints (of-prints (part-prints
+    (then-prints (word-prints "week " refl)
+    (several-prints (of-prints (item-prints (padded-prints 2 weekBounds (omega arith)) weekSteps) _) "," refl))) _)
+    (then-prints (of-prints (part-prints
+    (several-prints (only-prints (of-prints (item-prints (named-prints weekdayNames refl weekdayBounds) _) _) _) "," refl)) _)
     (then-prints (of-prints (several-prints span-prints "," refl) _) (of-prints state-prints _)))))
 
 before-prints : (o : Operator) → All Printable (before o)

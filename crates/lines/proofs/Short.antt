@@ -1,7 +1,7 @@
 -- HOW LONG A TEXT IS: a rule that a sheet carries takes no more than 1,024 bytes of a line, also where it has no words. Rests on what a sheet's rule
 -- keeps to, and on numbers having few digits.
 -- Assumes nothing.
-use mathlib.Core.Path.{_≡_, refl, ap}
+use mathlib.Core.Path.{_≡_, refl}
 use mathlib.Core.List.{List, [], _∷_, _++_, map, flatMap}
 use mathlib.Core.Bool.{Bool, true, false, cond}
 use Prim.Native.Nat.{ℕ, zero, suc, _+_, _*_, _-_, _/_, _%_, _^_, _≤_, _<_}
@@ -18,24 +18,21 @@ use Rattle.grid.proofs.Cut.{holds-in}
 use Rattle.definition.specs.Rule.{Operator, Normal, Additional, Fallback, Kind, Open, Closed, Unknown, State, Span, YearRange, MonthdayRange, months, monthsOf, dated, WeekRange, WeekDayRange, fixedDays, holiday, Rule, monthBounds, weekdayBounds, yearBounds, weekBounds}
 use Rattle.definition.specs.Sheet.{form1, limits1, yearRange, weekRange, rule}
 use Rattle.definition.specs.Day.{minuteOf}
-use Rattle.definition.specs.Text.{Text, ascii, digits, decimalIn, word, padded, plain, named, _then_, of, unless, only, several}
+use Rattle.definition.specs.Text.{Text, ascii, decimalIn, word, padded, plain, named, _then_, of, unless, only, several}
 use Rattle.definition.specs.Line.{Item, item, monthItem, weekdayItem, monthNames, weekdayNames, yearSteps, weekSteps, yearText, weekText, monthText, weekdayText, clock, spanText, kindWord, kindText, stateText, part, ruleText, before}
 use Rattle.definition.proofs.Lawful.{ItemsFit, items-fit}
+use Rattle.definition.proofs.Lengths.{length-digits}
 use Rattle.lines.proofs.Carried.{year-step, week-step, comment-carried, counts-carried}
 
 -- ## Numbers
-digits-long : (w v : ℕ) → length (digits w v) ≡ w
-unfolding digits
-digits-long zero v = refl
-digits-long (suc w) v = ap suc (digits-long w (v % 10 ^ w))
-
 -- a number below a power of ten has no more digits than its exponent
 pub decimal-short : (n k v : ℕ) → v < 10 ^ suc k → length (decimalIn n v) ≤ suc k
 unfolding decimalIn
 decimal-short zero k v l = omega arith
 decimal-short (suc n) k v l = go (ltb v 10) refl k l (decimal-short n)
   where
-    go : (b : Bool) → ltb v 10 ≡ b → (j : ℕ) → v < 10 ^ suc j → ((i w : ℕ) → w < 10 ^ suc i → length (decimalIn n w) ≤ suc i) → length (decimalIn (suc n) v) ≤ suc j
+    go : (b : Bool) → ltb v 10 ≡ b → (j : ℕ) → v < 10 ^ suc j → ((i w : ℕ) → w < 10 ^ suc i → length (decimalIn n w) ≤ suc i)
+        → length (decimalIn (suc n) v) ≤ suc j
     go true e j m ih = rw (e, decimalIn) (omega arith)
     go false e zero m ih = absurd (omega (arith, ltb-false v 10 e))
     go false e (suc j) m ih = rw (e, decimalIn) (omega (arith, length-append (decimalIn n (v / 10)) ((48 + v % 10) ∷ []), ih j (v / 10) (omega arith)))
@@ -66,19 +63,22 @@ unfolding word
 word-short s x = omega arith
 
 -- a word between each two, and behind the last in the count
-several-short : {A : Type 0} (between : String) (T : Text A) (n : ℕ) (xs : List A) → All (AtMost n T) xs → AtMost (length xs * (length (ascii between) + n)) (several between T) xs
+several-short : {A : Type 0} (between : String) (T : Text A) (n : ℕ) (xs : List A) → All (AtMost n T) xs
+    → AtMost (length xs * (length (ascii between) + n)) (several between T) xs
 unfolding several
 several-short between T n [] h = omega arith
 several-short between T n (x ∷ xs) h = omega (
   arith,
   length-append (T .write x) (flatMap (λ y. ascii between ++ T .write y) xs),
   h .0,
-  flatMap-length (λ y. ascii between ++ T .write y) (length (ascii between) + n) xs (All-map (λ y k. omega (arith, length-append (ascii between) (T .write y), k)) xs (h .1)),
+  flatMap-length (λ y. ascii between ++ T .write y) (length (ascii between) + n) xs
+      (All-map (λ y k. omega (arith, length-append (ascii between) (T .write y), k)) xs (h .1)),
 )
 
 -- ## Day items and spans
 -- two ends of at most n bytes, `-`, `/` and a step of at most k digits and one
-item-short : (end : Text ℕ) (n k : ℕ) → ((v : ℕ) → AtMost n end v) → (steps : Range) (e : Item) → e .1 .1 < 10 ^ suc k → AtMost (n + (1 + (n + (1 + suc k)))) (item end steps) e
+item-short : (end : Text ℕ) (n k : ℕ) → ((v : ℕ) → AtMost n end v) → (steps : Range) (e : Item) → e .1 .1 < 10 ^ suc k
+    → AtMost (n + (1 + (n + (1 + suc k)))) (item end steps) e
 unfolding item of word plain ascii
 item-short end n k h steps e l =
     then-short _ e (h (e .0)) _ (unless-short _ e (then-short _ e (word-short "-" e) _ (then-short _ e (h (e .1 .0)) _
@@ -86,7 +86,7 @@ item-short end n k h steps e l =
 
 padded-short : (w : ℕ) (r : Range) (v : ℕ) → AtMost w (padded w r) v
 unfolding padded
-padded-short w r v = omega (arith, digits-long w v)
+padded-short w r v = omega (arith, length-digits w v)
 
 named-short : (n : ℕ) (names : List String) → All (λ name. length (ascii name) ≤ n) names → (r : Range) (v : ℕ) → AtMost n (named names r) v
 unfolding named
@@ -94,15 +94,18 @@ named-short n names h r v = All-read (λ name. length name ≤ n) [] (omega arit
 
 year-short : (y : YearRange) → yearRange .fits y ≡ true → AtMost 15 yearText y
 unfolding yearText of
-year-short y f = item-short (padded 4 yearBounds) 4 4 (padded-short 4 yearBounds) yearSteps (y .start, (y .end, y .step)) (omega (arith, holds-in (y .step) yearSteps (year-step y f)))
+year-short y f = item-short (padded 4 yearBounds) 4 4 (padded-short 4 yearBounds) yearSteps (y .start, (y .end, y .step))
+    (omega (arith, holds-in (y .step) yearSteps (year-step y f)))
 
 week-short : (w : WeekRange) → weekRange .fits w ≡ true → AtMost 9 weekText w
 unfolding weekText of
-week-short w f = item-short (padded 2 weekBounds) 2 2 (padded-short 2 weekBounds) weekSteps (w .start, (w .end, w .step)) (omega (arith, holds-in (w .step) weekSteps (week-step w f)))
+week-short w f = item-short (padded 2 weekBounds) 2 2 (padded-short 2 weekBounds) weekSteps (w .start, (w .end, w .step))
+    (omega (arith, holds-in (w .step) weekSteps (week-step w f)))
 
 month-short : (m : MonthdayRange) → AtMost 9 monthText m
 unfolding monthText of ascii
-month-short m = only-short _ m (item-short (named monthNames monthBounds) 3 0 (named-short 3 monthNames (search arith) monthBounds) (1, 2) (monthItem m) (one m)) _
+month-short m = only-short _ m
+    (item-short (named monthNames monthBounds) 3 0 (named-short 3 monthNames (search arith) monthBounds) (1, 2) (monthItem m) (one m)) _
   where
     one : (m : MonthdayRange) → monthItem m .1 .1 < 10
     one (months a b) = omega arith
@@ -111,7 +114,8 @@ month-short m = only-short _ m (item-short (named monthNames monthBounds) 3 0 (n
 
 weekday-short : (d : WeekDayRange) → AtMost 7 weekdayText d
 unfolding weekdayText of ascii
-weekday-short d = only-short _ d (item-short (named weekdayNames weekdayBounds) 2 0 (named-short 2 weekdayNames (search arith) weekdayBounds) (1, 2) (weekdayItem d) (one d)) _
+weekday-short d = only-short _ d
+    (item-short (named weekdayNames weekdayBounds) 2 0 (named-short 2 weekdayNames (search arith) weekdayBounds) (1, 2) (weekdayItem d) (one d)) _
   where
     one : (d : WeekDayRange) → weekdayItem d .1 .1 < 10
     one (fixedDays a b offset fromStart fromEnd) = omega arith
@@ -153,9 +157,11 @@ rule-text-short r f = omega (arith, counts-carried form1 limits1 r f, whole)
     i : ItemsFit form1 limits1 r
     i = items-fit form1 limits1 r f
 
-    whole : AtMost (length (r .years) * 16 + 1 + (length (r .monthdays) * 10 + 1 + (5 + length (r .weeks) * 10 + 1 + (length (r .weekdays) * 8 + 1 + (length (r .spans) * 13 + 19))))) ruleText r
+    whole : AtMost (length (r .years) * 16 + 1 +
+        (length (r .monthdays) * 10 + 1 + (5 + length (r .weeks) * 10 + 1 + (length (r .weekdays) * 8 + 1 + (length (r .spans) * 13 + 19))))) ruleText r
     whole =
-        then-short _ r (part-short _ (r .years) (several-short "," yearText 15 (r .years) (every-all _ (yearRange .fits) year-short (r .years) (i .years-fit)))) _
+        then-short _ r
+        (part-short _ (r .years) (several-short "," yearText 15 (r .years) (every-all _ (yearRange .fits) year-short (r .years) (i .years-fit)))) _
         (then-short _ r (part-short _ (r .monthdays) (several-short "," monthText 9 (r .monthdays) (All-each _ month-short (r .monthdays)))) _
         (then-short _ r (part-short _ (r .weeks) (then-short _ (r .weeks) (word-short "week " (r .weeks)) _
         (several-short "," weekText 9 (r .weeks) (every-all _ (weekRange .fits) week-short (r .weeks) (i .weeks-fit))))) _

@@ -13,8 +13,8 @@ use Rattle.laws.specs.Tests.{sameList}
 use Rattle.laws.proofs.Tests.{exact-eqb, exact-list}
 use Rattle.words.specs.Words.{part}
 use Rattle.words.proofs.Sets.{part-step, part-none}
-use Rattle.paving_update.specs.Update.{listPlaces}
-use Rattle.paving_update.specs.Boxes.{listOf}
+use Rattle.tables.specs.Sizes.{listPlaces}
+use Rattle.tables.specs.Lists.{listOf}
 
 -- ## The comparison, so many numbers passed
 module _ (s : List ℕ) where

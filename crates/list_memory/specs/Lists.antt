@@ -4,8 +4,8 @@ use mathlib.Core.Path.{_≡_}
 use mathlib.Core.List.{List}
 use Prim.Native.Nat.{ℕ, _+_, _*_, _≤_, _<_}
 use lib.ListN.{length, getD}
-use Rattle.paving_update.specs.Update.{listPlaces, listLimit}
-use Rattle.paving_update.specs.Boxes.{listOf}
+use Rattle.tables.specs.Sizes.{listPlaces, listLimit}
+use Rattle.tables.specs.Lists.{listOf}
 use Rattle.memory.specs.declared.Found.{Found}
 use Rattle.memory.specs.declared.Found.the-variants.{At, Nothing}
 

@@ -7,7 +7,7 @@ ghost use lib.Dec.{eqb};
 ghost use lib.ListN.{length, getD};
 ghost use Rattle.laws.specs.Tests.{sameList};
 ghost use Rattle.words.specs.Words.{part};
-ghost use Rattle.paving_update.specs.Update.{listPlaces};
+ghost use Rattle.tables.specs.Sizes.{listPlaces};
 ghost use Rattle.list_memory.specs.Lists.{Listed, SameList};
 
 const LIST_PLACES: usize = 33;

@@ -1,12 +1,12 @@
 -- THE LOOKUP BY CASES: what the definition answers where the sheet is refused, there is no such date or minute, and else for the date's point.
 -- Rests on the definition alone.
--- Assumes nothing.
 use mathlib.Core.Path.{_≡_, refl, ap, _∙_}
 use mathlib.Core.Bool.{Bool, true, false, _&&_}
 use mathlib.Core.List.{List}
 use Prim.Native.Nat.{ℕ, _≤_, _<_}
 use lib.Dec.{ltb}
 use borrow.Author.Tests.{lt-ltb, le-ltb}
+use Rattle.laws.proofs.Flags.{and-false}
 use Rattle.definition.specs.Field.{got, refused, noDate}
 use Rattle.definition.specs.Rule.{Rule, midnight24}
 use Rattle.definition.specs.Sheet.{form1, limits1, decode}
@@ -33,11 +33,7 @@ module _ (sheet : List ℕ) (y mo d m : ℕ) where
     look-no-date h = no-date false (ap (λ b. b && ltb m midnight24) h) refl
 
     pub look-no-minute : midnight24 ≤ m → lookup form1 limits1 sheet y mo d m ≡ refusal noDate 0
-    look-no-minute h = no-date (isDate y mo d && false) (ap (λ b. isDate y mo d && b) (le-ltb m midnight24 h)) (never (isDate y mo d))
-      where
-        never : (b : Bool) → b && false ≡ false
-        never true = refl
-        never false = refl
+    look-no-minute h = no-date (isDate y mo d && false) (ap (λ b. isDate y mo d && b) (le-ltb m midnight24 h)) (and-false (isDate y mo d))
 
     -- the date's point
     pub look-dated : isDate y mo d ≡ true → m < midnight24 → lookup form1 limits1 sheet y mo d m ≡ lookAt rs (pointOf y mo d) m

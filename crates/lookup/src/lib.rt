@@ -1,69 +1,58 @@
 // State lookup in a checked sheet: "kind and comment of the last covering span in that point's list, else Closed and 0". Refusals: 8, 5, 6, 9.
+use answers::Answer;
+use answers::lookup_refused;
 use calendar::Dated;
-use state_at::answer::Answer;
+use drawing::draw_rules;
+use prepare::prepare;
+use state_at::Moment;
 use state_at::answer::numbers_of;
 ghost use mathlib.Core.Path.{_≡_};
-ghost use mathlib.Core.List.{[], _∷_};
+ghost use mathlib.Core.List.{List};
+ghost use Rattle.definition.specs.Rule.{Rule};
 ghost use Rattle.definition.specs.Sheet.{form1, limits1};
 ghost use Rattle.definition.specs.Point.{allBounds};
-ghost use Rattle.definition.specs.Lookup.{refusal, lookup};
-ghost use Rattle.state_at.specs.Boxes.{InBounds};
-ghost use Rattle.state_at.specs.Found.{answered};
-ghost use Rattle.cutting.specs.Cutting.{RulesRead};
-ghost use Rattle.lookup.specs.Looks.{DrawableRules, LooksAt};
+ghost use Rattle.definition.specs.Lookup.{lookup};
+ghost use Rattle.answers.specs.Numbers.{lookedUp};
+ghost use Rattle.prepare.specs.Prepared.{RulesRead, EachReading};
+ghost use Rattle.state_at.specs.Boxes.{InBounds, momentPoint};
+ghost use Rattle.lookup.specs.Looks.{lookAt, Lookable};
 
-// "refused, kind and comment are 0".
-pub fn refused(code: u64, place: u64) -> Answer
-    ensures { λ r. ⌜ answered r ≡ refusal code place ⌝ }
-{
-    Answer {
-        code,
-        kind: 0,
-        comment: 0,
-        place,
-    }
-}
-
-// A list for each box (6), none of the rules left (9), and the state at the point.
+// A list for each box (6), none of the rules left (9), and the state at the moment.
 fn look_boxes(
-    sheet: &[u8],
-    begins: &[usize],
-    count: usize,
     states: &[u32],
     span_counts: &[u8],
     spans: &[u64],
     replacing: &[u8],
+    range_counts: &[u16],
+    ranges: &[u16],
     rows: &[u16],
     sizes: &[u16],
     cuts: &[u16],
-    rules: usize,
-    weekday: u8,
-    week: u8,
-    month: u8,
-    year: u16,
-    minute: u16,
+    rules_left: usize,
+    moment: Moment,
 ) -> Answer
-    requires { ⌜ DrawableRules (now sheet) (now begins) (now states) (now «span_counts») (now spans) (now replacing) (now rows) (now sizes) (now cuts) count rules ⌝ }
-    requires { ⌜ InBounds allBounds (weekday ∷ week ∷ month ∷ year ∷ []) ⌝ }
-    ensures { λ r. ⌜ LooksAt (now (sheet .entry)) (weekday ∷ week ∷ month ∷ year ∷ []) minute (answered r) ⌝ }
+    requires { ⌜ ((rs : List Rule) × Lookable (now states) (now «span_counts») (now spans) (now replacing) (now «range_counts») (now ranges) (now rows) (now sizes) (now cuts) «rules_left» rs) ⌝ }
+    requires { ⌜ InBounds allBounds (momentPoint moment) ⌝ }
+    ensures { λ r. ⌜ ((rs : List Rule) → Lookable (now (states .entry)) (now («span_counts» .entry)) (now (spans .entry)) (now (replacing .entry)) (now («range_counts» .entry)) (now (ranges .entry))
+        (now (rows .entry)) (now (sizes .entry)) (now (cuts .entry)) «rules_left» rs → lookedUp r ≡ lookAt rs (momentPoint moment) (moment .minute)) ⌝ }
 {
     let mut lists = [0u16; 33792];
-    let listed = normalize::boxes::list_boxes(
-        sheet,
-        begins,
-        count,
-        replacing,
+    let rules = states.len();
+    let listed = draw_rules(
+        &mut lists,
         rows,
         sizes,
         cuts,
-        &mut lists,
+        replacing,
+        range_counts,
+        ranges,
         rules,
     );
     if listed < rules {
-        return refused(6, listed as u64);
+        return lookup_refused(6, listed as u64);
     }
-    if rules < count {
-        return refused(9, 0);
+    if rules_left > 0 {
+        return lookup_refused(9, 0);
     }
     numbers_of(state_at::look(
         states,
@@ -73,37 +62,26 @@ fn look_boxes(
         rows,
         sizes,
         cuts,
-        weekday,
-        week,
-        month,
-        year,
-        minute,
+        moment,
     ))
 }
 
-// The rules drained and the dimensions cut (5), for a point and a minute.
-fn look_point(
-    sheet: &[u8],
-    begins: &[usize],
-    count: usize,
-    weekday: u8,
-    week: u8,
-    month: u8,
-    year: u16,
-    minute: u16,
-) -> Answer
+// The rules drained and the dimensions cut (5), for a moment.
+fn look_moment(sheet: &[u8], begins: &[usize], count: usize, moment: Moment) -> Answer
     requires { ⌜ RulesRead (now sheet) (now begins) count ⌝ }
-    requires { ⌜ InBounds allBounds (weekday ∷ week ∷ month ∷ year ∷ []) ⌝ }
-    ensures { λ r. ⌜ LooksAt (now (sheet .entry)) (weekday ∷ week ∷ month ∷ year ∷ []) minute (answered r) ⌝ }
+    requires { ⌜ InBounds allBounds (momentPoint moment) ⌝ }
+    ensures { λ r. ⌜ EachReading (now (sheet .entry)) (now (begins .entry)) count (λ rs. lookedUp r ≡ lookAt rs (momentPoint moment) (moment .minute)) ⌝ }
 {
     let mut states = [0u32; 64];
     let mut span_counts = [0u8; 64];
     let mut spans = [0u64; 1024];
     let mut replacing = [0u8; 64];
-    let mut cuts = [0u16; 16392];
-    let mut sizes = [0u16; 4];
+    let mut range_counts = [0u16; 256];
+    let mut ranges = [0u16; 16384];
     let mut rows = [0u16; 4];
-    let drained = cutting::cut_drained(
+    let mut sizes = [0u16; 4];
+    let mut cuts = [0u16; 16392];
+    let drained = prepare(
         sheet,
         begins,
         count,
@@ -111,32 +89,29 @@ fn look_point(
         &mut span_counts,
         &mut spans,
         &mut replacing,
-        &mut cuts,
-        &mut sizes,
+        &mut range_counts,
+        &mut ranges,
         &mut rows,
+        &mut sizes,
+        &mut cuts,
     );
     if drained.boxes > 1024 {
-        return refused(5, drained.boxes);
+        return lookup_refused(5, drained.boxes);
     }
     let rules = drained.rules;
     let places = rules * 16;
     look_boxes(
-        sheet,
-        begins,
-        count,
         &states[..rules],
         &span_counts[..rules],
         &spans[..places],
         &replacing,
+        &range_counts,
+        &ranges,
         &rows,
         &sizes,
         &cuts,
-        rules,
-        weekday,
-        week,
-        month,
-        year,
-        minute,
+        count - rules,
+        moment,
     )
 }
 
@@ -151,10 +126,10 @@ pub fn look_rules(
     minute: u64,
 ) -> Answer
     requires { ⌜ RulesRead (now sheet) (now begins) count ⌝ }
-    ensures { λ r. ⌜ answered r ≡ lookup form1 limits1 (now (sheet .entry)) year month day minute ⌝ }
+    ensures { λ r. ⌜ lookedUp r ≡ lookup form1 limits1 (now (sheet .entry)) year month day minute ⌝ }
 {
     if minute >= 1440 {
-        return refused(8, 0);
+        return lookup_refused(8, 0);
     }
     let dated = calendar::point_of(year, month, day);
     match dated {
@@ -163,16 +138,16 @@ pub fn look_rules(
             week,
             month,
             year,
-        } => look_point(
-            sheet,
-            begins,
-            count,
-            weekday,
-            week,
-            month,
-            year,
-            minute as u16,
-        ),
-        Dated::NoDate => refused(8, 0),
+        } => {
+            let moment = Moment {
+                weekday,
+                week,
+                month,
+                year,
+                minute: minute as u16,
+            };
+            look_moment(sheet, begins, count, moment)
+        }
+        Dated::NoDate => lookup_refused(8, 0),
     }
 }

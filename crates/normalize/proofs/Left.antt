@@ -1,5 +1,4 @@
 -- THE RULES LEFT, where they stand: behind the drained rules, up to the end of all. Rests on the law of beginnings.
--- Assumes nothing.
 use mathlib.Core.Path.{_≡_, refl, sym, ap, ap₂, _∙_, subst}
 use mathlib.Core.Bool.{Bool, true, false, cond}
 use mathlib.Core.List.{List, [], _∷_, _++_, flatMap}
@@ -11,29 +10,19 @@ use lib.Seq.{take-append-seam}
 use borrow.Author.Tests.{ltb-true, ltb-false}
 use Rattle.laws.proofs.Lists.{every-all}
 use Rattle.laws.proofs.Spread.{flatMap-length}
-use Rattle.definition.specs.Field.{Layout, bits, bytesFor, packed, sheetBits}
+use Rattle.definition.specs.Field.{bits, bytesFor, packed, sheetBits}
 use Rattle.definition.specs.Rule.{Rule}
 use Rattle.definition.specs.Sheet.{form1, limits1, rule, rules, encode}
-use Rattle.definition.specs.Stop.{stops, drained, left}
+use Rattle.definition.specs.Stop.{drained, left}
 use Rattle.definition.proofs.Bits.{Bytes, length-bits, length-bytes}
 use Rattle.definition.proofs.Faithful.{Stand}
+use Rattle.definition.proofs.Drained.{left-behind}
 use Rattle.definition.proofs.Lawful.{rules-each}
 use Rattle.definition.proofs.Lengths.{rule-short}
 use Rattle.definition.proofs.SheetRead.{rule-faithful, encode-decoded}
 use Rattle.sheet.proofs.Begins.{Begins, rules-begin, rules-few}
 use Rattle.sheet_writer.proofs.Frame.{rules-bits}
-use Rattle.phases.specs.Phases.{SheetRead, Leaving}
-
--- drained and left are all rules
-pub left-behind : (rs : List Rule) → (drop (length (drained rs)) rs ≡ left rs) × (length (drained rs) + length (left rs) ≡ length rs)
-unfolding drained left
-left-behind [] = (refl, refl)
-left-behind (r ∷ rs) = go (stops r) refl (left-behind rs)
-  where
-    go : (b : Bool) → stops r ≡ b → (drop (length (drained rs)) rs ≡ left rs) × (length (drained rs) + length (left rs) ≡ length rs)
-        → (drop (length (drained (r ∷ rs))) (r ∷ rs) ≡ left (r ∷ rs)) × (length (drained (r ∷ rs)) + length (left (r ∷ rs)) ≡ length (r ∷ rs))
-    go true e ih = rw (e, drained, left) (refl, omega arith)
-    go false e ih = rw (e, drained, left) (ih .0, omega (arith, ih .1))
+use Rattle.sheet.specs.Parts.{SheetRead, Leaving}
 
 empty : (qs : List Rule) → length qs ≤ 0 → qs ≡ []
 empty [] h = refl
@@ -47,8 +36,7 @@ rule-few r f =
     omega (arith, rule-short (ws ++ []) 0 r (0 + length ws) e .1)
 
 module _ (sheet : List ℕ) (bytes : Bytes sheet) (begins : List ℕ) (rs : List Rule) (end : ℕ) (r : SheetRead sheet begins rs end) where
-  -- how many rules
-  pub rules-limited : length rs ≤ limits1 .rules
+  rules-limited : length rs ≤ limits1 .rules
   rules-limited = rules-few sheet rs end bytes (r .read)
 
   first-left : length (drained rs) < length rs → Begins (sheetBits sheet) end rs (length (drained rs)) (getD begins (length (drained rs)) 0)
@@ -86,10 +74,10 @@ module _ (sheet : List ℕ) (bytes : Bytes sheet) (begins : List ℕ) (rs : List
         left-few = omega (arith, rules-limited);
       }
 
-  pub rules-leaving : (start : ℕ) → start ≡ cond (ltb (length (drained rs)) (length rs)) (getD begins (length (drained rs)) 0) end
+  drained-leaving : (start : ℕ) → start ≡ cond (ltb (length (drained rs)) (length rs)) (getD begins (length (drained rs)) 0) end
       → Leaving sheet rs start end (length (drained rs)) (length rs - length (drained rs))
   unfolding flatMap
-  rules-leaving start e = go (ltb (length (drained rs)) (length rs)) refl
+  drained-leaving start e = go (ltb (length (drained rs)) (length rs)) refl
     where
       go : (b : Bool) → ltb (length (drained rs)) (length rs) ≡ b → Leaving sheet rs start end (length (drained rs)) (length rs - length (drained rs))
       go true l =
@@ -103,3 +91,12 @@ module _ (sheet : List ℕ) (bytes : Bytes sheet) (begins : List ℕ) (rs : List
           let none : left rs ≡ [] = empty (left rs) (omega (arith, ltb-false (length (drained rs)) (length rs) l, left-behind rs .1)) in
           leaving-at start (subst (λ qs. Stand (flatMap ((rule form1 limits1) .write) qs) (sheetBits sheet) start end) (sym none)
           (record { ends = omega (arith, at); stands = ap (λ p. drop p (sheetBits sheet)) at }))
+
+  -- told by how many rules were drained, of how many
+  pub rules-leaving : (n many : ℕ) → n ≡ length (drained rs) → many ≡ length rs → (start stop rules k : ℕ) → start ≡ cond (ltb n many) (getD begins n 0) end → stop ≡ end
+      → rules ≡ many - n → k ≡ n → Leaving sheet rs start stop k rules
+  rules-leaving n many en em start stop rules k es ee er ek =
+      subst (λ a. Leaving sheet rs start a k rules) (sym ee)
+      (subst (λ a. Leaving sheet rs start end a rules) (sym (ek ∙ en))
+      (subst (Leaving sheet rs start end (length (drained rs))) (sym (er ∙ ap₂ _-_ em en))
+      (drained-leaving start (es ∙ ap₂ (λ a b. cond (ltb a b) (getD begins a 0) end) en em))))

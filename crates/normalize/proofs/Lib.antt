@@ -1,5 +1,2 @@
-pub mod Cases
 pub mod Left
-pub mod Listing
-pub mod Prepared
 pub mod Answers

@@ -1,14 +1,30 @@
--- What a fold's answer and buffer are: those of the definition.
--- Assumes nothing.
+-- What a fold asks for, stage after stage, and what its answer and buffer are: those of the definition.
 use mathlib.Core.Path.{_≡_}
 use mathlib.Core.List.{List}
 use Prim.Native.Nat.{ℕ}
 use lib.ListN.{length}
-use Rattle.definition.specs.Sheet.{form1, limits1}
+use Rattle.definition.specs.Field.{got}
+use Rattle.definition.specs.Rule.{Rule}
+use Rattle.definition.specs.Sheet.{form1, limits1, decode}
+use Rattle.definition.specs.Stop.{drained}
 use Rattle.definition.specs.Fold.{numbers, buffer, fold}
-use Rattle.emission.specs.declared.Folded.{Folded}
-use Rattle.emission.specs.Emission.{numbersOf}
+use Rattle.answers.specs.declared.Folded.{Folded}
+use Rattle.answers.specs.Numbers.{foldNumbers}
+use Rattle.sheet.specs.Parts.{SheetRead, Leaving}
+use Rattle.prepare.specs.Prepared.{ToDraw}
+use Rattle.emission.specs.declared.Left.{Left}
+
+-- the rules of a sheet, so many, up to a bit
+abbrev pub Readings : List ℕ → List ℕ → ℕ → ℕ → Type 0
+Readings sheet begins many end = (rs : List Rule) × (SheetRead sheet begins rs end × (many ≡ length rs))
+
+-- A SHEET'S RULES, the drained ones in tables and their cuts in rows, with no more boxes than the limit; and where the rules left stand
+pub record Foldable (sheet : List ℕ) (left : Left) (states counts spans replacing rangeCounts ranges rows sizes cuts : List ℕ) (rs : List Rule) : Type 0 where
+  pub end : ℕ
+  pub read : decode form1 limits1 sheet ≡ got rs end
+  pub leaving : Leaving sheet rs (left .start) (left .end) (length states) (left .rules)
+  pub to-draw : ToDraw states counts spans replacing rangeCounts ranges rows sizes cuts (drained rs)
 
 -- the six numbers, and the buffer `out` afterwards
 abbrev pub Folds : List ℕ → List ℕ → Folded → List ℕ → Type 0
-Folds sheet out r after = (numbersOf r ≡ numbers (fold form1 limits1 (length out) sheet)) × (after ≡ buffer ((fold form1 limits1 (length out) sheet) .result) out)
+Folds sheet out r after = (foldNumbers r ≡ numbers (fold form1 limits1 (length out) sheet)) × (after ≡ buffer ((fold form1 limits1 (length out) sheet) .result) out)

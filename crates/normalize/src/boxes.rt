@@ -1,43 +1,193 @@
-// The lists of all boxes: the last phase that the fold and the lookup have in common.
-ghost use mathlib.Core.Path.{_≡_};
+// From tables and cut dimensions to the result: a list for each box (6), pages of the folded rules, and these written before the rules that
+// are left (7). The functions take the sheet, the buffer and each table of the stages before as a slice of its own, fourteen parameters at
+// most, since the language lends no struct of slices.
+use answers::Folded;
+use answers::fold_refused;
+use drawing::draw_rules;
+use emission::Left;
+use emission::emit;
+use folding::fold_pages;
+ghost use mathlib.Core.List.{List};
+ghost use Prim.Native.Nat.{_*_, _≤_};
 ghost use lib.ListN.{length};
-ghost use Rattle.definition.specs.Stop.{drained};
+ghost use Rattle.definition.specs.Rule.{Rule};
 ghost use Rattle.paving.specs.Grid.{sizeOf};
-ghost use Rattle.phases.specs.Phases.{Cut};
-ghost use Rattle.cutting.specs.Cutting.{RulesRead, EachReading};
-ghost use Rattle.normalize.specs.Prepared.{Replacing, Empty, Listing};
+ghost use Rattle.tables.specs.Lists.{Empty};
+ghost use Rattle.normalize.specs.Folds.{Foldable, Folds};
 
-// All drained rules drawn over boxes whose lists are empty: the first rule after which a list is too long, or how many rules there are.
-pub fn list_boxes(
+// A list for each box and the pages, in the buffers that are lent: 6, or the result written.
+fn fold_boxes_in(
     sheet: &[u8],
-    begins: &[usize],
-    count: usize,
+    left: Left,
+    out: &mut [u8],
+    states: &[u32],
+    span_counts: &[u8],
+    spans: &[u64],
     replacing: &[u8],
+    range_counts: &[u16],
+    ranges: &[u16],
     rows: &[u16],
     sizes: &[u16],
     cuts: &[u16],
     lists: &mut [u16],
-    rules: usize,
-) -> usize
-    requires { ⌜ RulesRead (now sheet) (now begins) count ⌝ }
-    requires { ⌜ EachReading (now sheet) (now begins) count (λ rs. (rules ≡ length (drained rs)) × Replacing (now replacing) (drained rs) × Cut (now rows) (now sizes) (now cuts) (drained rs)) ⌝ }
-    requires { ⌜ Empty (now lists) (sizeOf (now sizes) 4) ⌝ }
-    ensures { λ r. ⌜ EachReading (now (sheet .entry)) (now (begins .entry)) count
-        (λ rs. Listing (now (rows .entry)) (now (sizes .entry)) (now (cuts .entry)) (now (lists .exit)) (drained rs) rules r) ⌝ }
+    pages: &mut [u16],
+) -> Folded
+    requires { ⌜ ((rs : List Rule) × Foldable (now sheet) left (now states) (now «span_counts») (now spans) (now replacing) (now «range_counts») (now ranges) (now rows) (now sizes) (now cuts) rs) ⌝ }
+    requires { ⌜ Empty (now lists) (sizeOf (now sizes) 4) × (13 * sizeOf (now sizes) 4 ≤ length (now pages)) ⌝ }
+    ensures { λ r. ⌜ Folds (now (sheet .entry)) (now (out .entry)) r (now (out .exit)) ⌝ }
 {
-    let mut ranges = [0u16; 256];
-    let mut counts = [0u16; 4];
-    drawing::draw_rules(
-        sheet,
-        begins,
+    let rules = states.len();
+    let listed = draw_rules(
         lists,
-        sizes,
         rows,
+        sizes,
         cuts,
         replacing,
-        &mut ranges,
-        &mut counts,
-        0,
+        range_counts,
+        ranges,
         rules,
+    );
+    if listed < rules {
+        return fold_refused(6, listed as u64);
+    }
+    let count = fold_pages(states, span_counts, spans, lists, rows, sizes, cuts, pages);
+    emit(
+        sheet,
+        left,
+        out,
+        states,
+        span_counts,
+        spans,
+        lists,
+        pages,
+        count,
     )
+}
+
+// Few boxes, in small buffers: clearing large ones would take most of the time.
+fn fold_few_boxes(
+    sheet: &[u8],
+    left: Left,
+    out: &mut [u8],
+    states: &[u32],
+    span_counts: &[u8],
+    spans: &[u64],
+    replacing: &[u8],
+    range_counts: &[u16],
+    ranges: &[u16],
+    rows: &[u16],
+    sizes: &[u16],
+    cuts: &[u16],
+) -> Folded
+    requires { ⌜ ((rs : List Rule) × Foldable (now sheet) left (now states) (now «span_counts») (now spans) (now replacing) (now «range_counts») (now ranges) (now rows) (now sizes) (now cuts) rs) ⌝ }
+    requires { ⌜ sizeOf (now sizes) 4 ≤ 16 ⌝ }
+    ensures { λ r. ⌜ Folds (now (sheet .entry)) (now (out .entry)) r (now (out .exit)) ⌝ }
+{
+    let mut lists = [0u16; 528];
+    let mut pages = [0u16; 208];
+    fold_boxes_in(
+        sheet,
+        left,
+        out,
+        states,
+        span_counts,
+        spans,
+        replacing,
+        range_counts,
+        ranges,
+        rows,
+        sizes,
+        cuts,
+        &mut lists,
+        &mut pages,
+    )
+}
+
+// As many boxes as the limit allows.
+fn fold_many_boxes(
+    sheet: &[u8],
+    left: Left,
+    out: &mut [u8],
+    states: &[u32],
+    span_counts: &[u8],
+    spans: &[u64],
+    replacing: &[u8],
+    range_counts: &[u16],
+    ranges: &[u16],
+    rows: &[u16],
+    sizes: &[u16],
+    cuts: &[u16],
+) -> Folded
+    requires { ⌜ ((rs : List Rule) × Foldable (now sheet) left (now states) (now «span_counts») (now spans) (now replacing) (now «range_counts») (now ranges) (now rows) (now sizes) (now cuts) rs) ⌝ }
+    ensures { λ r. ⌜ Folds (now (sheet .entry)) (now (out .entry)) r (now (out .exit)) ⌝ }
+{
+    let mut lists = [0u16; 33792];
+    let mut pages = [0u16; 13312];
+    fold_boxes_in(
+        sheet,
+        left,
+        out,
+        states,
+        span_counts,
+        spans,
+        replacing,
+        range_counts,
+        ranges,
+        rows,
+        sizes,
+        cuts,
+        &mut lists,
+        &mut pages,
+    )
+}
+
+// The fold of the boxes, in buffers for so many.
+pub fn fold_boxes(
+    sheet: &[u8],
+    left: Left,
+    out: &mut [u8],
+    states: &[u32],
+    span_counts: &[u8],
+    spans: &[u64],
+    replacing: &[u8],
+    range_counts: &[u16],
+    ranges: &[u16],
+    rows: &[u16],
+    sizes: &[u16],
+    cuts: &[u16],
+) -> Folded
+    requires { ⌜ ((rs : List Rule) × Foldable (now sheet) left (now states) (now «span_counts») (now spans) (now replacing) (now «range_counts») (now ranges) (now rows) (now sizes) (now cuts) rs) ⌝ }
+    ensures { λ r. ⌜ Folds (now (sheet .entry)) (now (out .entry)) r (now (out .exit)) ⌝ }
+{
+    if paving::place::size_of(sizes, 4) <= 16 {
+        fold_few_boxes(
+            sheet,
+            left,
+            out,
+            states,
+            span_counts,
+            spans,
+            replacing,
+            range_counts,
+            ranges,
+            rows,
+            sizes,
+            cuts,
+        )
+    } else {
+        fold_many_boxes(
+            sheet,
+            left,
+            out,
+            states,
+            span_counts,
+            spans,
+            replacing,
+            range_counts,
+            ranges,
+            rows,
+            sizes,
+            cuts,
+        )
+    }
 }

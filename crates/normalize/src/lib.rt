@@ -1,31 +1,36 @@
-// The fold of a checked sheet, phase after phase: the rules before the first stopper in tables, the dimensions cut at their ranges (5), a
-// list for each box (6), pages of the folded rules, and these written before the rules that are left (7). Each phase has its buffers in
-// a function of its own. From normalize/mod.rs.
+// The fold of a checked sheet, stage after stage: the rules before the first stopper in tables and the dimensions cut at their ranges (5), a
+// list for each box (6), pages of the folded rules, and these written before the rules that are left (7). From normalize/mod.rs.
 pub mod boxes;
-pub mod lists;
 
-use emission::Folded;
-use lists::fold_boxes;
+use answers::Folded;
+use answers::fold_refused;
+use boxes::fold_boxes;
+use emission::Left;
+use prepare::prepare;
 ghost use mathlib.Core.Path.{_≡_};
-ghost use Prim.Native.Nat.{_*_, _≤_};
-ghost use lib.ListN.{length};
-ghost use Rattle.definition.specs.Fold.{numbers, refusal};
-ghost use Rattle.emission.specs.Emission.{numbersOf};
-ghost use Rattle.cutting.specs.Cutting.{rowPlaces};
-ghost use Rattle.normalize.specs.Prepared.{Readings};
-ghost use Rattle.normalize.specs.Folds.{Folds};
+ghost use mathlib.Core.Bool.{cond};
+ghost use Prim.Native.Nat.{_-_, _*_, _≤_};
+ghost use lib.Dec.{ltb};
+ghost use lib.ListN.{length, getD};
+ghost use Rattle.tables.specs.Sizes.{rowPlaces};
+ghost use Rattle.normalize.specs.Folds.{Readings, Folds};
 
-// "On a refusal every number but code and place is 0."
-pub fn refused(code: u64, place: u64) -> Folded
-    ensures { λ r. ⌜ numbersOf r ≡ numbers (refusal code place) ⌝ }
+// The rules left: from the first of them on, or from the end where there is none.
+fn rules_left(begins: &[usize], rules: usize, count: usize, end: usize) -> Left
+    requires { ⌜ (count ≤ length (now begins)) × (rules ≤ count) ⌝ }
+    ensures { λ r. ⌜ (r .start ≡ cond (ltb rules count) (getD (now (begins .entry)) rules 0) end) × (r .end ≡ end) × (r .rules ≡ count - rules) ⌝ }
 {
-    Folded {
-        code,
-        drained: 0,
-        emitted: 0,
-        left: 0,
-        bytes: 0,
-        place,
+    if rules < count {
+        return Left {
+            start: begins[rules],
+            end,
+            rules: count - rules,
+        };
+    }
+    Left {
+        start: end,
+        end,
+        rules: 0,
     }
 }
 
@@ -40,15 +45,18 @@ fn fold_rules_in(
     span_counts: &mut [u8],
     spans: &mut [u64],
     replacing: &mut [u8],
+    range_counts: &mut [u16],
+    ranges: &mut [u16],
     cuts: &mut [u16],
 ) -> Folded
     requires { ⌜ Readings (now sheet) (now begins) count end ⌝ }
-    requires { ⌜ (count ≤ length (now states)) × (count ≤ length (now «span_counts»)) × (count * 16 ≤ length (now spans)) × (count ≤ length (now replacing)) × (4 * rowPlaces count ≤ length (now cuts)) ⌝ }
+    requires { ⌜ (count ≤ length (now states)) × (count ≤ length (now «span_counts»)) × (count * 16 ≤ length (now spans)) × (count ≤ length (now replacing)) ⌝ }
+    requires { ⌜ (count * 4 ≤ length (now «range_counts»)) × (count * 256 ≤ length (now ranges)) × (4 * rowPlaces count ≤ length (now cuts)) ⌝ }
     ensures { λ r. ⌜ Folds (now (sheet .entry)) (now (out .entry)) r (now (out .exit)) ⌝ }
 {
-    let mut sizes = [0u16; 4];
     let mut rows = [0u16; 4];
-    let drained = cutting::cut_drained(
+    let mut sizes = [0u16; 4];
+    let drained = prepare(
         sheet,
         begins,
         count,
@@ -56,34 +64,35 @@ fn fold_rules_in(
         span_counts,
         spans,
         replacing,
-        cuts,
-        &mut sizes,
+        range_counts,
+        ranges,
         &mut rows,
+        &mut sizes,
+        cuts,
     );
     if drained.boxes > 1024 {
-        return refused(5, drained.boxes);
+        return fold_refused(5, drained.boxes);
     }
     let rules = drained.rules;
     let places = rules * 16;
+    let left = rules_left(begins, rules, count, end);
     fold_boxes(
         sheet,
-        begins,
-        count,
-        end,
+        left,
         out,
         &states[..rules],
         &span_counts[..rules],
         &spans[..places],
         replacing,
+        range_counts,
+        ranges,
         &rows,
         &sizes,
         cuts,
-        rules,
-        drained.boxes as usize,
     )
 }
 
-// Few rules, in small tables.
+// Few rules, in small tables: clearing large ones would take longer than the fold of so few.
 fn fold_few_rules(
     sheet: &[u8],
     begins: &[usize],
@@ -99,6 +108,8 @@ fn fold_few_rules(
     let mut span_counts = [0u8; 4];
     let mut spans = [0u64; 64];
     let mut replacing = [0u8; 4];
+    let mut range_counts = [0u16; 16];
+    let mut ranges = [0u16; 1024];
     let mut cuts = [0u16; 1032];
     fold_rules_in(
         sheet,
@@ -110,6 +121,8 @@ fn fold_few_rules(
         &mut span_counts,
         &mut spans,
         &mut replacing,
+        &mut range_counts,
+        &mut ranges,
         &mut cuts,
     )
 }
@@ -129,6 +142,8 @@ fn fold_many_rules(
     let mut span_counts = [0u8; 64];
     let mut spans = [0u64; 1024];
     let mut replacing = [0u8; 64];
+    let mut range_counts = [0u16; 256];
+    let mut ranges = [0u16; 16384];
     let mut cuts = [0u16; 16392];
     fold_rules_in(
         sheet,
@@ -140,6 +155,8 @@ fn fold_many_rules(
         &mut span_counts,
         &mut spans,
         &mut replacing,
+        &mut range_counts,
+        &mut ranges,
         &mut cuts,
     )
 }

@@ -8,8 +8,8 @@ use Rattle.definition.specs.Rule.{Rule}
 use Rattle.definition.specs.Sheet.{form1, limits1}
 use Rattle.definition.specs.Fold as definition
 use Rattle.definition.specs.Fold.{buffer, numbers, fold}
-use Rattle.emission.specs.Emission.{numbersOf}
-use Rattle.emission.specs.declared.Folded.{Folded}
+use Rattle.answers.specs.Numbers.{foldNumbers}
+use Rattle.answers.specs.declared.Folded.{Folded}
 use Rattle.promises.specs.Conditions.{Accepted}
 use Rattle.promises.proofs.Counts.{accepted-counts, refused-nothing}
 use Rattle.one_answer.specs.Promise.{FoldPromise}
@@ -20,7 +20,7 @@ module _ (sheet out : List ℕ) (x : Folded × List ℕ) (p : FoldPromise sheet 
   answer = fold form1 limits1 (length out) sheet
 
   -- the k-th number
-  told : (k : ℕ) → getD (numbersOf (x .0)) k 0 ≡ getD (numbers answer) k 0
+  told : (k : ℕ) → getD (foldNumbers (x .0)) k 0 ≡ getD (numbers answer) k 0
   told k = ap (λ l. getD l k 0) (p .0)
 
   accepted : x .0 .code ≡ 0 → (rs : List Rule) × Accepted form1 limits1 sheet rs × CountedRules out x rs

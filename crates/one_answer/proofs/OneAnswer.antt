@@ -13,12 +13,10 @@ use Rattle.definition.specs.Fold.{Written, numbers, writtenNumbers, fold, write
 use Rattle.definition.specs.Show.{showLine}
 use Rattle.definition.specs.Lookup as state
 use Rattle.definition.proofs.Bits.{Bytes, length-sheetBits, bytes-sheet}
-use Rattle.sheet.specs.Back.{answered}
-use Rattle.sheet.specs.declared.back.Written as answer
-use Rattle.emission.specs.Emission.{numbersOf}
-use Rattle.emission.specs.declared.Folded.{Folded}
-use Rattle.state_at.specs.Found as found
-use Rattle.state_at.specs.declared.answer.Answer.{Answer}
+use Rattle.answers.specs.Numbers.{writeNumbers, foldNumbers, lookedUp}
+use Rattle.answers.specs.declared.Written as answer
+use Rattle.answers.specs.declared.Folded.{Folded}
+use Rattle.answers.specs.declared.Answer.{Answer}
 use Rattle.hours.specs.Export.{put}
 use Rattle.one_answer.specs.Promise.{OneAnswer, FoldPromise, WriteBackPromise, LinePromise, ExportedFoldPromise, ExportedWriteBackPromise, ExportedLinePromise, LookupPromise, ExportedLookupPromise}
 
@@ -33,16 +31,16 @@ pair = ap₂ (λ a c. (a, c))
 foldedFrom : List ℕ → Folded
 foldedFrom n = record { code = getD n 0 0; drained = getD n 1 0; emitted = getD n 2 0; left = getD n 3 0; bytes = getD n 4 0; place = getD n 5 0 }
 
-one-folded : (n : List ℕ) → OneAnswer (λ r. numbersOf r ≡ n)
+one-folded : (n : List ℕ) → OneAnswer (λ r. foldNumbers r ≡ n)
 unfolding foldedFrom
-one-folded = one-solution numbersOf foldedFrom (λ r. refl)
+one-folded = one-solution foldNumbers foldedFrom (λ r. refl)
 
 writtenFrom : List ℕ → answer.Written
 writtenFrom n = record { code = getD n 0 0; bytes = getD n 1 0; place = getD n 2 0 }
 
-one-written : (n : List ℕ) → OneAnswer (λ r. answered r ≡ n)
+one-written : (n : List ℕ) → OneAnswer (λ r. writeNumbers r ≡ n)
 unfolding writtenFrom
-one-written = one-solution answered writtenFrom (λ r. refl)
+one-written = one-solution writeNumbers writtenFrom (λ r. refl)
 
 answerFrom : state.Looked → Answer
 answerFrom k = record { code = k .code; kind = k .kind; comment = k .comment; place = k .place }
@@ -59,7 +57,7 @@ one-line sheet out x y p q = pair (one-written _ (x .0) (y .0) (p .0) (q .0)) (p
 
 pub one-lookup : (sheet : List ℕ) (year month day minute : ℕ) → OneAnswer (LookupPromise sheet year month day minute)
 unfolding answerFrom
-one-lookup sheet year month day minute = one-solution found.answered answerFrom (λ a. refl) (state.lookup form1 limits1 sheet year month day minute)
+one-lookup sheet year month day minute = one-solution lookedUp answerFrom (λ a. refl) (state.lookup form1 limits1 sheet year month day minute)
 
 -- ## The exports: what the slices hold hangs on whether there is an answer
 one-told : {A : Type 0} (told : Bool) (slices : Bool → A) → OneAnswer {A = Bool × A} (λ x. (x .0 ≡ told) × (x .1 ≡ slices (x .0)))
@@ -75,7 +73,8 @@ one-exported-fold sheet out lent x y p q =
 
 -- an entry that writes and answers w
 one-exported : (w : Written) (out lent : List ℕ)
-    → OneAnswer {A = Bool × (List ℕ × List ℕ)} (λ x. (x .0 ≡ leb 3 (length lent)) × (x .1 .0 ≡ put (x .0) (writtenNumbers w) lent) × (x .1 .1 ≡ put (x .0) (w .result) out))
+    → OneAnswer {A = Bool × (List ℕ × List ℕ)}
+    (λ x. (x .0 ≡ leb 3 (length lent)) × (x .1 .0 ≡ put (x .0) (writtenNumbers w) lent) × (x .1 .1 ≡ put (x .0) (w .result) out))
 one-exported w out lent x y p q =
     one-told (leb 3 (length lent)) (λ b. (put b (writtenNumbers w) lent, put b (w .result) out)) x y (p .0, pair (p .1) (p .2)) (q .0, pair (q .1) (q .2))
 

@@ -6,9 +6,9 @@ use contract.Lifetimes.{Lfts}
 use denote.Ref.{now}
 use denote.Triple.Clauses.{AtExit}
 use borrow.Fn.Kinds.{Dens, endedOf}
-use Rattle.emission.specs.declared.Folded.{Folded}
-use Rattle.sheet.specs.declared.back.Written.{Written}
-use Rattle.state_at.specs.declared.answer.Answer.{Answer}
+use Rattle.answers.specs.declared.Folded.{Folded}
+use Rattle.answers.specs.declared.Written.{Written}
+use Rattle.answers.specs.declared.Answer.{Answer}
 use Rattle.hours.proofs.fold.Kinds as fold-kinds
 use Rattle.hours.proofs.fold.Reads as fold-reads
 use Rattle.hours.proofs.lookup.Kinds as lookup-kinds
@@ -47,7 +47,8 @@ pub hours-fold-promised : (κs : Lfts 3) (a : Dens κs hours-fold-kinds.ps) (r :
     → hours-fold-reads.Learnt κs a r e → ExportedFoldPromise (now (a .0)) (now (a .1 .0)) (now (a .1 .1 .0)) (r, (now (e .1 .1 .0), now (e .1 .0)))
 hours-fold-promised κs a r e h = h
 
-pub hours-write-back-promised : (κs : Lfts 3) (a : Dens κs hours-write-back-kinds.ps) (r : Bool) (e : AtExit (endedOf 3 hours-write-back-kinds.ps hours-write-back-kinds.r) κs)
+pub hours-write-back-promised : (κs : Lfts 3) (a : Dens κs hours-write-back-kinds.ps) (r : Bool)
+    (e : AtExit (endedOf 3 hours-write-back-kinds.ps hours-write-back-kinds.r) κs)
     → hours-write-back-reads.Learnt κs a r e → ExportedWriteBackPromise (now (a .0)) (now (a .1 .0)) (now (a .1 .1 .0)) (r, (now (e .1 .1 .0), now (e .1 .0)))
 hours-write-back-promised κs a r e h = h
 

@@ -11,12 +11,10 @@ use Rattle.definition.specs.Sheet.{form1, limits1}
 use Rattle.definition.specs.Fold.{buffer, numbers, writtenNumbers, fold, writeBack}
 use Rattle.definition.specs.Show.{showLine}
 use Rattle.definition.specs.Lookup as state
-use Rattle.sheet.specs.Back.{answered}
-use Rattle.sheet.specs.declared.back.Written.{Written}
-use Rattle.emission.specs.Emission.{numbersOf}
-use Rattle.emission.specs.declared.Folded.{Folded}
-use Rattle.state_at.specs.Found as found
-use Rattle.state_at.specs.declared.answer.Answer.{Answer}
+use Rattle.answers.specs.Numbers.{writeNumbers, foldNumbers, lookedUp}
+use Rattle.answers.specs.declared.Written.{Written}
+use Rattle.answers.specs.declared.Folded.{Folded}
+use Rattle.answers.specs.declared.Answer.{Answer}
 use Rattle.hours.specs.Export.{put}
 
 -- NO SECOND ANSWER FITS a promise
@@ -26,15 +24,15 @@ OneAnswer {A} Promise = (x y : A) → Promise x → Promise y → x ≡ y
 -- ## The entries that write, for a sheet and a buffer: the answer, and the buffer after the call
 module _ (sheet out : List ℕ) where
   abbrev pub FoldPromise : Folded × List ℕ → Type 0
-  FoldPromise x = (numbersOf (x .0) ≡ numbers (fold form1 limits1 (length out) sheet))
+  FoldPromise x = (foldNumbers (x .0) ≡ numbers (fold form1 limits1 (length out) sheet))
       × (x .1 ≡ buffer ((fold form1 limits1 (length out) sheet) .result) out)
 
   abbrev pub WriteBackPromise : Written × List ℕ → Type 0
-  WriteBackPromise x = (answered (x .0) ≡ writtenNumbers (writeBack form1 limits1 (length out) sheet))
+  WriteBackPromise x = (writeNumbers (x .0) ≡ writtenNumbers (writeBack form1 limits1 (length out) sheet))
       × (x .1 ≡ buffer ((writeBack form1 limits1 (length out) sheet) .result) out)
 
   abbrev pub LinePromise : Written × List ℕ → Type 0
-  LinePromise x = (answered (x .0) ≡ writtenNumbers (showLine form1 limits1 (length out) sheet))
+  LinePromise x = (writeNumbers (x .0) ≡ writtenNumbers (showLine form1 limits1 (length out) sheet))
       × (x .1 ≡ buffer ((showLine form1 limits1 (length out) sheet) .result) out)
 
   -- exported: whether there is an answer; the lent numbers and the buffer after the call
@@ -57,7 +55,7 @@ module _ (sheet out : List ℕ) where
 -- ## The lookup, for a sheet, a date and a minute
 module _ (sheet : List ℕ) (year month day minute : ℕ) where
   abbrev pub LookupPromise : Answer → Type 0
-  LookupPromise x = found.answered x ≡ state.lookup form1 limits1 sheet year month day minute
+  LookupPromise x = lookedUp x ≡ state.lookup form1 limits1 sheet year month day minute
 
   -- exported: whether there is an answer; the lent numbers after the call
   abbrev pub ExportedLookupPromise : List ℕ → Bool × List ℕ → Type 0

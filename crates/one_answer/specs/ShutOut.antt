@@ -12,7 +12,7 @@ use Rattle.definition.specs.Stop.{drained, left}
 use Rattle.definition.specs.Group.{pages, rulesOf, folded}
 use Rattle.definition.specs.Fold.{buffer}
 use Rattle.definition.specs.Worked.{cases}
-use Rattle.emission.specs.declared.Folded.{Folded}
+use Rattle.answers.specs.declared.Folded.{Folded}
 use Rattle.promises.specs.Conditions.{Accepted}
 use Rattle.one_answer.specs.Promise.{FoldPromise}
 

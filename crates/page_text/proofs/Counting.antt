@@ -5,9 +5,8 @@ use mathlib.Core.Path.{_≡_, refl, sym, ap, subst}
 use mathlib.Core.List.{List}
 use Prim.Native.Nat.{ℕ, zero, suc, _+_, _*_, _≤_, _<_}
 use native.Mathlib.Omega.{arith}
-use Rattle.page_writer.specs.Pages.{pageSize}
-use Rattle.page_writer.proofs.Reading.{size-low}
-use Rattle.page_text.specs.Counted.{Counted}
+use Rattle.tables.specs.Pages.{pageSize, Counted}
+use Rattle.tables.proofs.Pages.{size-low}
 
 module _ (text : List ℕ) (stop : ℕ) where
   counted-low : (n at : ℕ) → Counted text n at stop → at + 5 * n ≤ stop

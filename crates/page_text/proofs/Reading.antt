@@ -12,24 +12,23 @@ use Rattle.grid.specs.Group.{Set, Group}
 use Rattle.grid.proofs.Part.{Part}
 use Rattle.definition.specs.Range.{Ends}
 use Rattle.paving.specs.Grid.{axes}
-use Rattle.paving_pages.specs.Pages.{sortItems, pageItems, endNumbers, groupNumbers, groupsNumbers}
-use Rattle.paving_pages.specs.Pages as written
+use Rattle.paving_pages.specs.Pages.{sortItems, pageItems, groupNumbers, groupsNumbers}
+use Rattle.tables.specs.Items.{endNumbers}
 use Rattle.paving_pages.proofs.Rules.{by-sorts}
-use Rattle.page_writer.specs.Pages.{pageNumbers, pageSize, pageAt, pagesAt}
-use Rattle.page_writer.proofs.Numbers.{place-back, page-back, page-behind}
-use Rattle.page_text.specs.Counted.{Counted}
+use Rattle.tables.specs.Pages.{pageNumbers, pageSize, pageAt, pagesAt, Counted}
+use Rattle.tables.proofs.Pages.{place-back, page-back, page-behind}
 use Rattle.page_text.specs.Items.{dimensionItems, groupPage}
 
 -- ## A page, and those behind it
-page-sized : (Y M K D : List Ends) (text : List ℕ) (at number : ℕ) (rest : List ℕ) → drop at text ≡ pageNumbers number Y M K D ++ rest
-    → pageSize text at ≡ length (pageNumbers number Y M K D)
-unfolding pageSize pageNumbers flatMap
+page-sized : (Y M K D : List Ends) (text : List ℕ) (at number : ℕ) (rest : List ℕ) → drop at text ≡ pageNumbers number (Y ∷ M ∷ K ∷ D ∷ []) ++ rest
+    → pageSize text at ≡ length (pageNumbers number (Y ∷ M ∷ K ∷ D ∷ []))
+unfolding pageSize pageNumbers endNumbers flatMap
 page-sized Y M K D text at number rest held = omega (arith, place-back Y M K D text at number rest held)
 
 module _ (rows cuts sizes : List ℕ) where
   pub group-numbers : (v : ℕ) (D K M Y : List ℕ)
-      → groupNumbers rows cuts sizes 4 (v, D ∷ K ∷ M ∷ Y ∷ []) ≡ pageNumbers v (sortItems rows cuts sizes 0 Y) (sortItems rows cuts sizes 1 M) (sortItems rows cuts sizes 2 K) (sortItems rows cuts sizes 3 D)
-  unfolding groupNumbers written.pageNumbers pageNumbers pageItems endNumbers
+      → groupNumbers rows cuts sizes 4 (v, D ∷ K ∷ M ∷ Y ∷ []) ≡ pageNumbers v (sortItems rows cuts sizes 0 Y ∷ sortItems rows cuts sizes 1 M ∷ sortItems rows cuts sizes 2 K ∷ sortItems rows cuts sizes 3 D ∷ [])
+  unfolding groupNumbers pageItems
   group-numbers v D K M Y = refl
 
   -- a group's page is read at a place, as long as its numbers, with these behind it

@@ -16,14 +16,12 @@ use Rattle.definition.specs.Point.{yearDimension, monthDimension, weekDimension
 use Rattle.definition.proofs.Lawful.{Lawful}
 use Rattle.paving.specs.Grid.{sizeOf, axes}
 use Rattle.paving_points.proofs.Boxes.{Bounded, lawful-bounded}
-use Rattle.rule_writer.specs.Rows.{upperOf, Below, row, Rows}
-use Rattle.rule_writer.specs.Written.{rowsBelow}
+use Rattle.tables.specs.Items.{upperOf, Below, row, Rows, rowsBelow}
 use Rattle.paving_pages.specs.Pages.{CutRows, sortItems, groupNumbers, groupsNumbers}
 use Rattle.paving_pages.proofs.Rules.{by-sorts, cut-rows}
-use Rattle.page_writer.specs.Pages.{pageNumbers, pageCounts, pageEnds, pageSize, pageAt, PageReady, Pages}
-use Rattle.page_writer.proofs.Numbers.{ends, sorts, ends-length, rows-back, counts-back, ends-back}
-use Rattle.page_writer.proofs.Reading.{size-low}
-use Rattle.phases.specs.Phases.{Cut}
+use Rattle.tables.specs.Pages.{pageNumbers, pageCounts, pageEnds, pageSize, pageAt, PageReady, Pages}
+use Rattle.tables.proofs.Pages.{ends, sorts, ends-length, rows-back, counts-back, ends-back, size-low}
+use Rattle.tables.specs.Cuts.{Cut}
 use Rattle.page_text.specs.DayReady.{DayReady}
 use Rattle.page_text.proofs.Reading.{group-numbers, Read, first-read, numbersBehind, text-held}
 use Rattle.page_text.proofs.Sorts.{sizes-few, Writable, sort-writable}
@@ -45,7 +43,7 @@ module _ (Y M K D : List Ends) (years : Writable (upperOf 0) Y) (months : Writab
   lawful-rows (suc (suc (suc zero))) l = subst (All (Below (upperOf 3))) (sym (ap (λ Es. getD Es 0 []) (rows-back Y M K D))) (weekdays .1)
   lawful-rows (suc (suc (suc (suc sort)))) l = absurd (omega arith)
 
-  page-rows : (text : List ℕ) (at number : ℕ) (rest : List ℕ) → drop at text ≡ pageNumbers number Y M K D ++ rest → Rows (pageEnds text at) (pageCounts text at)
+  page-rows : (text : List ℕ) (at number : ℕ) (rest : List ℕ) → drop at text ≡ pageNumbers number (Y ∷ M ∷ K ∷ D ∷ []) ++ rest → Rows (pageEnds text at) (pageCounts text at)
   page-rows text at number rest held =
       subst (λ es. Rows es (pageCounts text at)) (sym (ends-back Y M K D text at number rest held))
       (subst (Rows (ends Y M K D)) (sym (counts-back Y M K D text at number rest held))

@@ -12,14 +12,13 @@ use Rattle.laws.proofs.Spread.{flatMap-map}
 use Rattle.grid.specs.Group.{Set, Group}
 use Rattle.grid.proofs.Part.{Part}
 use Rattle.paving.specs.Grid.{axes}
-use Rattle.paving_map.specs.Boxes.{boxWords}
+use Rattle.tables.specs.Days.{boxWords}
 use Rattle.paving_map.proofs.InUse.{numberDay}
-use Rattle.rule_writer.specs.Written.{overItems}
-use Rattle.day_writer.specs.Rules.{dayRules}
+use Rattle.tables.specs.Items.{overItems}
+use Rattle.tables.specs.Pages.{dayRules, pagesAt, pageRules, pagesRules}
 use Rattle.paving_pages.specs.Pages.{pageItems, groupsNumbers}
 use Rattle.paving_pages.specs.Sorts.{overSorts, groupRules}
 use Rattle.paving_pages.proofs.Rules.{by-sorts}
-use Rattle.page_writer.specs.Pages.{pagesAt, pageRules, pagesRules}
 use Rattle.page_text.specs.Items.{dimensionItems, groupPage}
 use Rattle.page_text.proofs.Reading.{text-pages}
 

@@ -15,13 +15,13 @@ use Rattle.definition.specs.Rule.{Rule}
 use Rattle.definition.specs.Range.{Ends}
 use Rattle.definition.specs.Point.{Dimension}
 use Rattle.paving.specs.Grid.{sizeOf}
-use Rattle.paving_update.specs.Update as update
-use Rattle.paving_cuts.specs.Rules.{CutBy}
+use Rattle.tables.specs.Cuts as tables
+use Rattle.tables.specs.Cuts.{CutBy}
 use Rattle.paving_points.proofs.Boxes.{Bounded}
-use Rattle.rule_writer.specs.Rows.{Below}
+use Rattle.tables.specs.Items.{Below}
 use Rattle.runs.specs.Runs.{runsOf, cutOf, Cuts}
 use Rattle.runs.proofs.Joining.{runs-few}
-use Rattle.runs.proofs.Filling.{items-few}
+use Rattle.definition.proofs.RuleCounts.{items-less}
 use Rattle.runs.proofs.Within.{items-below}
 use Rattle.paving_pages.specs.Pages.{sortItems}
 use Rattle.paving_pages.proofs.Rules.{row-ends}
@@ -46,12 +46,12 @@ Writable upper es = (length es < 2 ^ 10) × All (Below upper) es
 module _ (rows sizes cuts : List ℕ) (rs : List Rule) where
   pub sort-writable : (d : Dimension) (ds : List Dimension) → CutBy rows sizes cuts rs (d ∷ ds) → Bounded rs (d ∷ ds) → Cuts cuts (getD rows (length ds) 0) (getD sizes (length ds) 0)
       → getD sizes (length ds) 0 ≤ 1024 → (E : List ℕ) → (t : ℕ → Bool) × (E ≡ keep t (from 0 (getD sizes (length ds) 0))) → Writable (d .bounds .1) (sortItems rows cuts sizes (length ds) E)
-  unfolding sortItems runsOf update.cutOf
+  unfolding sortItems runsOf tables.cutOf
   sort-writable d ds c b lawful size E (t, kept) =
       let i : ℕ = length ds in
       let row : ℕ = getD rows i 0 in
       let width : ℕ = getD sizes i 0 in
       subst (λ D. Writable (d .bounds .1) (sortItems rows cuts sizes i D)) (sym kept) (
-        omega (arith, items-few (cutOf cuts row 0, cutOf cuts row width) (runsOf (cutOf cuts row) t 0 width), runs-few (cutOf cuts row) t width 0, size),
+        omega (arith, items-less (cutOf cuts row 0, cutOf cuts row width) (runsOf (cutOf cuts row) t 0 width), runs-few (cutOf cuts row) t width 0, size),
         items-below t cuts row width (d .bounds .1) lawful (omega (arith, row-ends rows sizes cuts rs d ds c b .1)),
       )

@@ -4,8 +4,7 @@ use mathlib.Core.List.{List}
 use Prim.Native.Nat.{ℕ, _-_, _≤_}
 use Rattle.laws.specs.Lists.{All}
 use Rattle.day_words.specs.Day.{unflat}
-use Rattle.day_writer.specs.Rules.{Carried}
-use Rattle.paving_map.specs.Boxes.{boxWords, Ready}
+use Rattle.tables.specs.Days.{Carried, boxWords, Ready}
 
 -- it numbers a day, whose box can be folded and whose entries a sheet can carry
 abbrev pub DayReady : List ℕ → List ℕ → List ℕ → List ℕ → ℕ → ℕ → Type 0

@@ -5,7 +5,7 @@ use Prim.Native.Nat.{ℕ, zero, suc}
 use Rattle.grid.specs.Group.{Set, Group}
 use Rattle.definition.specs.Range.{Ends}
 use Rattle.paving_pages.specs.Pages.{sortItems}
-use Rattle.page_writer.specs.Pages.{Page}
+use Rattle.tables.specs.Pages.{Page}
 
 module _ (rows cuts sizes : List ℕ) where
   -- the items of a set of l dimensions, years last: those of `pageItems` from the other end

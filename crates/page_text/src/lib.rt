@@ -1,10 +1,10 @@
 // How many pages a text holds: the pages that the groups of a paving were appended as, counted up to the place where they end, for the
 // writer that takes so many of them.
-use page_writer::page_size;
+use tables::page::page_size;
 ghost use mathlib.Core.Path.{_≡_};
 ghost use Prim.Native.Nat.{ℕ, _≤_};
 ghost use lib.ListN.{length};
-ghost use Rattle.page_text.specs.Counted.{Counted};
+ghost use Rattle.tables.specs.Pages.{Counted};
 
 // How many pages stand before a place where a page ends.
 pub fn count_pages(text: &[u16], stop: usize) -> usize

@@ -13,15 +13,13 @@ use Rattle.day_words.specs.Day.{flat, unflat, listRules}
 use Rattle.day_words.proofs.Flat.{unflat-flat}
 use Rattle.day_words.proofs.Own.{day-own}
 use Rattle.day_words.proofs.Room.{day-room}
-use Rattle.rule_writer.specs.Rows.{rowPlace, Rows}
-use Rattle.rule_writer.specs.Written.{rowsBelow}
-use Rattle.day_writer.specs.Rules.{dayRules, Carried, dayIn, Whole}
-use Rattle.paving_update.specs.Update.{listPlaces, listLimit}
-use Rattle.paving_update.specs.Boxes.{listOf}
-use Rattle.paving_update.proofs.Drawing.{list-length}
-use Rattle.paving_map.specs.Numbering.{wordsOf}
-use Rattle.box_day.specs.Boxes.{boxWords, Ready}
-use Rattle.page_writer.specs.Pages.{pageCounts, pageEnds, pageAt, pageRules, PageReady}
+use Rattle.tables.specs.Items.{rowPlace, Rows, rowsBelow}
+use Rattle.day_writer.specs.Rules.{dayIn, Whole}
+use Rattle.tables.specs.Pages.{dayRules, pageCounts, pageEnds, pageAt, pageRules, PageReady}
+use Rattle.tables.specs.Days.{Carried, wordsOf, boxWords, Ready}
+use Rattle.tables.specs.Sizes.{listPlaces, listLimit}
+use Rattle.tables.specs.Lists.{listOf}
+use Rattle.tables.proofs.Lists.{list-length}
 
 -- ## Its items, as they are cut out
 module _ (states counts spans lists text : List ℕ) (room at : ℕ) (page : PageReady states counts spans lists text room at) (sorts : List ℕ) (cut : sorts ≡ pageCounts text at) where

@@ -1,5 +1,3 @@
 pub mod Reading
 pub mod Walking
 pub mod Folding
-pub mod Carrying
-pub mod Numbers

@@ -2,36 +2,17 @@
 -- Assumes nothing.
 use mathlib.Core.Path.{_≡_, refl, sym, ap, _∙_, subst}
 use mathlib.Core.List.{List, [], _∷_, _++_, flatMap, append-assoc}
-use Prim.Native.Nat.{ℕ, zero, suc, _+_, _-_, _*_, _≤_, _<_}
+use Prim.Native.Nat.{ℕ, zero, suc, _+_, _-_, _<_}
 use native.Mathlib.Omega.{arith}
-use lib.ListN.{length, take, drop, getD, length-append}
-use lib.Seq.{getD-take, getD-drop}
-use Rattle.definition.specs.Field.{Layout}
+use lib.ListN.{length, take, drop, length-append}
 use Rattle.definition.specs.Rule.{Rule}
 use Rattle.definition.specs.Sheet.{form1, limits1, rule}
-use Rattle.rule_writer.specs.Rows.{rowPlace}
+use Rattle.tables.specs.Items.{rowPlace}
 use Rattle.day_writer.specs.Rules.{rulesBits}
-use Rattle.page_writer.specs.Pages.{pageCounts, pageEnds, pageSize, pageAt, pagesAt, pageRules, pagesRules, PageReady, Pages}
+use Rattle.tables.specs.Pages.{pageCounts, pageEnds, pageSize, pageAt, pagesAt, pageRules, pagesRules, PageReady, Pages}
 
 -- ## A page
 module _ (text : List ℕ) (at : ℕ) where
-  count-at : (k place : ℕ) → k < 4 → at + 1 + k ≡ place → getD (pageCounts text at) k 0 ≡ getD text place 0
-  count-at k place l e = getD-take 4 (drop (at + 1) text) k 0 l ∙ getD-drop (at + 1) text k 0 ∙ ap (λ j. getD text j 0) e
-
-  pub size-is : (years months weeks weekdays : ℕ) → years ≡ getD text (at + 1) 0 → months ≡ getD text (at + 2) 0 → weeks ≡ getD text (at + 3) 0 → weekdays ≡ getD text (at + 4) 0
-      → 5 + 2 * (years + months + weeks + weekdays) ≡ pageSize text at
-  unfolding pageSize rowPlace
-  size-is years months weeks weekdays p q r s =
-      let a = count-at 0 (at + 1) (omega arith) (omega arith) in
-      let b = count-at 1 (at + 2) (omega arith) (omega arith) in
-      let c = count-at 2 (at + 3) (omega arith) (omega arith) in
-      let d = count-at 3 (at + 4) (omega arith) (omega arith) in
-      omega (arith, a, b, c, d, p, q, r, s)
-
-  pub size-low : 5 ≤ pageSize text at
-  unfolding pageSize
-  size-low = omega arith
-
   -- its counts and its ends, as the code cuts them out
   pub counts-cut : take (at + 5 - (at + 1)) (drop (at + 1) text) ≡ pageCounts text at
   counts-cut = let four : at + 5 - (at + 1) ≡ 4 = omega arith in ap (λ n. take n (drop (at + 1) text)) four

@@ -9,7 +9,7 @@ use Rattle.definition.specs.Rule.{Rule}
 use Rattle.item_writer.specs.Written.{Room, Wrote}
 use Rattle.item_writer.proofs.Chain.{wrote-then, room-first, room-rest, room-as, wrote-as, wrote-none}
 use Rattle.day_writer.specs.Rules.{rulesBits}
-use Rattle.page_writer.specs.Pages.{pageSize, pageAt, pagesAt, pageRules, pagesRules}
+use Rattle.tables.specs.Pages.{pageSize, pageAt, pagesAt, pageRules, pagesRules}
 use Rattle.page_writer.proofs.Reading.{none-bits, none-size, more-bits, more-size}
 
 module _ (W : ℕ → List ℕ) (text : List ℕ) (rest at : ℕ) where

@@ -6,25 +6,15 @@ use day_writer::Measure;
 use day_writer::measure_day;
 use day_writer::write_day;
 use paving::wide;
+use tables::page::page_size;
 ghost use mathlib.Core.Path.{_≡_};
 ghost use Prim.Native.Nat.{_+_, _*_, _≤_, _<_, _^_};
 ghost use lib.ListN.{length};
 ghost use Rattle.item_writer.specs.Written.{Room, Wrote};
 ghost use Rattle.day_writer.specs.Rules.{rulesBits};
-ghost use Rattle.box_day.specs.Boxes.{boxWords, Scratch};
-ghost use Rattle.page_writer.specs.Pages.{pageSize, pageAt, pagesAt, pageRules, pagesRules, PageReady, Pages};
-
-// How many numbers a page has.
-pub fn page_size(text: &[u16], at: usize) -> usize
-    requires { ⌜ at + 5 ≤ length (now text) ⌝ }
-    ensures { λ r. ⌜ r ≡ pageSize (now (text .entry)) at ⌝ }
-{
-    let years = wide(text[at + 1]);
-    let months = wide(text[at + 2]);
-    let weeks = wide(text[at + 3]);
-    let weekdays = wide(text[at + 4]);
-    5 + 2 * (years + months + weeks + weekdays)
-}
+ghost use Rattle.box_day.specs.Boxes.{Scratch};
+ghost use Rattle.tables.specs.Days.{boxWords};
+ghost use Rattle.tables.specs.Pages.{pageSize, pageAt, pagesAt, pageRules, pagesRules, PageReady, Pages};
 
 // How many rules a page is, and how many bits they take.
 fn measure_page(

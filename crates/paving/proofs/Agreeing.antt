@@ -1,4 +1,4 @@
--- What each way out of the check shows, in plain terms. Rests on the columns' laws.
+-- What each return of the check shows, in plain terms. Rests on the columns' laws.
 -- Assumes nothing.
 use mathlib.Core.Path.{_≡_, sym, ap, _∙_}
 use mathlib.Core.Bool.{Bool, true, false, _&&_}

@@ -43,7 +43,8 @@ day-tests (e ∷ d) = kind-tests (isKind Open e) (every (isKind Open) d) (isKind
   where
     neither : isKind Open e ≡ true → isKind Unknown e ≡ true → ⊥
     neither p q =
-        let r : kindNumber Open ≡ kindNumber Unknown = sym (eqb-true (kindNumber (e .0 .kind)) (kindNumber Open) p) ∙ eqb-true (kindNumber (e .0 .kind)) (kindNumber Unknown) q in
+        let r : kindNumber Open ≡ kindNumber Unknown =
+        sym (eqb-true (kindNumber (e .0 .kind)) (kindNumber Open) p) ∙ eqb-true (kindNumber (e .0 .kind)) (kindNumber Unknown) q in
         omega arith
 
 -- THE CLASSES: a table that holds the kind of each day in use says of its number what the definition's classes say of the day

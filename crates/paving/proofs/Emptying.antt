@@ -1,4 +1,4 @@
--- What each way out of the reset shows, in plain terms. Rests on the columns' laws.
+-- What each return of the reset shows, in plain terms. Rests on the columns' laws.
 -- Assumes nothing.
 use mathlib.Core.Path.{_≡_, refl, sym, ap, ap₂, _∙_, fun-ext}
 use mathlib.Core.Bool.{Bool, true, false, _&&_, _||_, cond}
@@ -11,6 +11,7 @@ use lib.ListN.{length, getD, set}
 use lib.Seq.{getD-set-same, getD-set-other}
 use borrow.Author.Tests.{eq-eqb, ne-eqb, ltb-true, ltb-false, eqb-true, eqb-false}
 use Rattle.laws.specs.Lists.{from, anyOf, keep}
+use Rattle.laws.proofs.Flags.{and-false}
 use Rattle.grid.specs.Group.{Set, Map, at, clear}
 use Rattle.paving.specs.Grid.{grid, chosen, marksFrom, Cleared, ClearedFrom}
 use Rattle.paving.proofs.Room.{marks-in, marks-out, marks-end}
@@ -24,7 +25,8 @@ module _ (same : ℕ → ℕ → Bool) (empty : ℕ) where
   clear-twice-at (E ∷ S) f (x ∷ p) = go (anyOf (same x) E) (clear-twice-at S (at f x) p)
     where
       go : (b : Bool) → clear same empty S (clear same empty S (at f x)) p ≡ clear same empty S (at f x) p
-          → cond b (clear same empty S (cond b (clear same empty S (at f x)) (at f x))) (cond b (clear same empty S (at f x)) (at f x)) p ≡ cond b (clear same empty S (at f x)) (at f x) p
+          → cond b (clear same empty S (cond b (clear same empty S (at f x)) (at f x))) (cond b (clear same empty S (at f x)) (at f x)) p
+          ≡ cond b (clear same empty S (at f x)) (at f x) p
       go true ih = ih
       go false ih = refl
 
@@ -40,7 +42,8 @@ module _ (same : ℕ → ℕ → Bool) (empty : ℕ) where
       go false ih = refl
 
   -- emptied at one step, then at the later ones
-  clear-or : (S : Set ℕ) (b c : Bool) (f g h : Map ℕ ℕ) → g ≡ cond b (clear same empty S f) f → h ≡ cond c (clear same empty S g) g → h ≡ cond (b || c) (clear same empty S f) f
+  clear-or : (S : Set ℕ) (b c : Bool) (f g h : Map ℕ ℕ) → g ≡ cond b (clear same empty S f) f → h ≡ cond c (clear same empty S g) g
+      → h ≡ cond (b || c) (clear same empty S f) f
   clear-or S true true f g h p q = q ∙ ap (clear same empty S) p ∙ fun-ext (clear-twice-at S f)
   clear-or S true false f g h p q = q ∙ p
   clear-or S false true f g h p q = q ∙ ap (clear same empty S) p
@@ -55,7 +58,8 @@ clear-in same empty S true true false f g p k = sym (clear-const same empty S p)
 clear-in same empty S true false false f g p k = refl
 clear-in same empty S false c false f g p k = refl
 
-pub reset-leaf : (cells sizes marks : List ℕ) (left node base : ℕ) → left ≡ 0 → node < length cells → Cleared cells (set cells node 0) sizes left node (chosen marks sizes left base)
+pub reset-leaf : (cells sizes marks : List ℕ) (left node base : ℕ) → left ≡ 0 → node < length cells
+    → Cleared cells (set cells node 0) sizes left node (chosen marks sizes left base)
 unfolding grid chosen clear
 reset-leaf cells sizes marks left node base e h = λ d. rw e (fun-ext (λ p. go d p (eqb d node) refl))
   where
@@ -71,7 +75,8 @@ module _ (cells sizes marks : List ℕ) (i node base n j : ℕ) (e : n ≡ getD 
   unfolding anyOf
   reset-end h d = rw (marks-end marks base (getD sizes i 0) j (omega arith))
 
-  pub reset-out : (c₂ : List ℕ) → j < n → (getD marks (base + j) 0 ≡ 1 → ⊥) → ClearedFrom cells c₂ sizes i node marks base (j + 1) → ClearedFrom cells c₂ sizes i node marks base j
+  pub reset-out : (c₂ : List ℕ) → j < n → (getD marks (base + j) 0 ≡ 1 → ⊥) → ClearedFrom cells c₂ sizes i node marks base (j + 1)
+      → ClearedFrom cells c₂ sizes i node marks base j
   reset-out c₂ h m k d = rw (marks-out marks base (getD sizes i 0) j (omega arith) m) (k d)
 
   pub reset-in : (c₁ c₂ : List ℕ) → j < n → getD marks (base + j) 0 ≡ 1 → Cleared cells c₁ sizes i (node * n + j) (chosen marks sizes i (base + n))
@@ -79,12 +84,14 @@ module _ (cells sizes marks : List ℕ) (i node base n j : ℕ) (e : n ≡ getD 
   unfolding anyOf
   reset-in c₁ c₂ h m a k d =
       rw (marks-in marks base (getD sizes i 0) j (omega arith) m)
-      (clear-or eqb 0 (chosen marks sizes i (base + getD sizes i 0)) (eqb d (node * getD sizes i 0 + j)) (anyOf (λ x. eqb d (node * getD sizes i 0 + x)) (marksFrom marks base (getD sizes i 0) (j + 1)))
+      (clear-or eqb 0 (chosen marks sizes i (base + getD sizes i 0)) (eqb d (node * getD sizes i 0 + j))
+      (anyOf (λ x. eqb d (node * getD sizes i 0 + x)) (marksFrom marks base (getD sizes i 0) (j + 1)))
       (grid cells sizes i d) (grid c₁ sizes i d) (grid c₂ sizes i d) (rw e at (a d)) (k d))
 
 -- what empties the marked columns from j on of some cells empties all marked columns of the cells as they were at first
 unfoldable pub RestEmpties : List ℕ → List ℕ → List ℕ → List ℕ → ℕ → ℕ → ℕ → ℕ → Type 0
-RestEmpties first cells sizes marks i node base j = (c₂ : List ℕ) → ClearedFrom cells c₂ sizes i node marks base j → ClearedFrom first c₂ sizes i node marks base 0
+RestEmpties first cells sizes marks i node base j =
+    (c₂ : List ℕ) → ClearedFrom cells c₂ sizes i node marks base j → ClearedFrom first c₂ sizes i node marks base 0
 
 pub rest-begin : (cells sizes marks : List ℕ) (i node base : ℕ) → RestEmpties cells cells sizes marks i node base 0
 unfolding RestEmpties
@@ -125,11 +132,7 @@ number-eq m d c x y h k = go (eqb d c) refl (eqb x y) refl
 hit : (t : ℕ → Bool) (m d c x s r : ℕ) → x < m → s + r ≤ m
     → anyOf (λ y. eqb (d * m + x) (c * m + y)) (keep t (from s r)) ≡ eqb d c && anyOf (eqb x) (keep t (from s r))
 unfolding anyOf keep from
-hit t m d c x s zero h k = sym (none-and (eqb d c))
-  where
-    none-and : (b : Bool) → b && false ≡ false
-    none-and true = refl
-    none-and false = refl
+hit t m d c x s zero h k = sym (and-false (eqb d c))
 hit t m d c x s (suc r) h k = go (t s) refl (hit t m d c x (suc s) r h (omega arith))
   where
     share : (a b e : Bool) → a && b || (a && e) ≡ a && (b || e)
@@ -155,14 +158,18 @@ reset-node cells c₂ sizes marks left i node base e h = λ d. rw e (fun-ext (λ
     S : Set ℕ
     S = chosen marks sizes i (base + m)
 
-    hits : (d x : ℕ) → x < m → grid c₂ sizes i (d * m + x) ≡ cond (eqb d node && anyOf (eqb x) E) (clear eqb 0 S (grid cells sizes i (d * m + x))) (grid cells sizes i (d * m + x))
+    hits : (d x : ℕ) → x < m → grid c₂ sizes i (d * m + x)
+        ≡ cond (eqb d node && anyOf (eqb x) E) (clear eqb 0 S (grid cells sizes i (d * m + x))) (grid cells sizes i (d * m + x))
     hits d x l =
         h (d * m + x)
-        ∙ ap (λ b. cond b (clear eqb 0 S (grid cells sizes i (d * m + x))) (grid cells sizes i (d * m + x))) (hit (λ y. eqb (getD marks (base + y) 0) 1) m d node x 0 (m - 0) l (omega arith))
+        ∙ ap (λ b. cond b (clear eqb 0 S (grid cells sizes i (d * m + x))) (grid cells sizes i (d * m + x)))
+        (hit (λ y. eqb (getD marks (base + y) 0) 1) m d node x 0 (m - 0) l (omega arith))
 
     go : (d : ℕ) (p : List ℕ) (b : Bool) → eqb d node ≡ b
         → grid c₂ sizes (suc i) d p ≡ cond b (clear eqb 0 (E ∷ S) (grid cells sizes (suc i) d)) (grid cells sizes (suc i) d) p
     go d [] true q = refl
     go d [] false q = refl
-    go d (x ∷ p) true q = clear-in eqb 0 S true (anyOf (eqb x) E) (ltb x m) (grid cells sizes i (d * m + x)) (grid c₂ sizes i (d * m + x)) p (λ l. rw q at (hits d x (ltb-true x m l)))
-    go d (x ∷ p) false q = clear-in eqb 0 S false (anyOf (eqb x) E) (ltb x m) (grid cells sizes i (d * m + x)) (grid c₂ sizes i (d * m + x)) p (λ l. rw q at (hits d x (ltb-true x m l)))
+    go d (x ∷ p) true q = clear-in eqb 0 S true (anyOf (eqb x) E) (ltb x m) (grid cells sizes i (d * m + x)) (grid c₂ sizes i (d * m + x)) p
+        (λ l. rw q at (hits d x (ltb-true x m l)))
+    go d (x ∷ p) false q = clear-in eqb 0 S false (anyOf (eqb x) E) (ltb x m) (grid cells sizes i (d * m + x)) (grid c₂ sizes i (d * m + x)) p
+        (λ l. rw q at (hits d x (ltb-true x m l)))

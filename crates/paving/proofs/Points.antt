@@ -44,7 +44,9 @@ module _ (cuts : ℕ → ℕ → ℕ) (sizes : List ℕ) where
   pub points : (l : ℕ) → Rising cuts sizes l → fines (blocks cuts l) (axes sizes l) ≡ coordinatesOf cuts sizes l
   unfolding axes
   points zero h = refl
-  points (suc l) h = ap₂ _∷_ (interval-all (cuts l) (getD sizes l 0) (h l (omega arith)) 0 (getD sizes l 0) (omega arith) ∙ ap (λ m. from (cuts l 0) (cuts l m - cuts l 0)) (let z : 0 + getD sizes l 0 ≡ getD sizes l 0 = omega arith in z)) (points l (λ i k. h i (omega arith)))
+  points (suc l) h = ap₂ _∷_
+      (interval-all (cuts l) (getD sizes l 0) (h l (omega arith)) 0 (getD sizes l 0) (omega arith) ∙ ap (λ m. from (cuts l 0) (cuts l m - cuts l 0))
+      (let z : 0 + getD sizes l 0 ≡ getD sizes l 0 = omega arith in z)) (points l (λ i k. h i (omega arith)))
 
 -- what that asks of the cells: at each cell the day of each of its points
 abbrev pub Shows : {X : Type 0} → (ℕ → X) → (ℕ → ℕ → ℕ) → List ℕ → List ℕ → ℕ → ℕ → Map ℕ X → Type 0
@@ -52,13 +54,16 @@ Shows day cuts cells sizes zero node g = day (getD cells node 0) ≡ g []
 Shows day cuts cells sizes (suc l) node g =
     (x b : ℕ) → x < getD sizes l 0 → cuts l x ≤ b → b < cuts l (suc x) → Shows day cuts cells sizes l (node * getD sizes l 0 + x) (at g b)
 
-pub shows-constants : {X : Type 0} (day : ℕ → X) (cuts : ℕ → ℕ → ℕ) (cells sizes : List ℕ) (l node : ℕ) (g : Map ℕ X) → Rising cuts sizes l → Shows day cuts cells sizes l node g
+pub shows-constants : {X : Type 0} (day : ℕ → X) (cuts : ℕ → ℕ → ℕ) (cells sizes : List ℕ) (l node : ℕ) (g : Map ℕ X) → Rising cuts sizes l
+    → Shows day cuts cells sizes l node g
     → Constants day (blocks cuts l) (axes sizes l) (grid cells sizes l node) g
 unfolding axes grid
 shows-constants day cuts cells sizes zero node g up h = h
 shows-constants day cuts cells sizes (suc l) node g up h =
-    All-from (λ x. All (λ b. Constants day (blocks cuts l) (axes sizes l) (at (grid cells sizes (suc l) node) x) (at g b)) (interval (cuts l) x)) 0 (getD sizes l 0)
-    (λ x _ k. block-all (cuts l x, cuts l (suc x)) (up l (omega arith) x (omega arith)) (λ b. Constants day (blocks cuts l) (axes sizes l) (at (grid cells sizes (suc l) node) x) (at g b))
+    All-from (λ x. All (λ b. Constants day (blocks cuts l) (axes sizes l) (at (grid cells sizes (suc l) node) x) (at g b)) (interval (cuts l) x)) 0
+    (getD sizes l 0)
+    (λ x _ k. block-all (cuts l x, cuts l (suc x)) (up l (omega arith) x (omega arith))
+    (λ b. Constants day (blocks cuts l) (axes sizes l) (at (grid cells sizes (suc l) node) x) (at g b))
     (λ b lo hi. subst (λ f. Constants day (blocks cuts l) (axes sizes l) f (at g b)) (sym (at-grid cells sizes l node x (omega arith)))
     (shows-constants day cuts cells sizes l (node * getD sizes l 0 + x) (at g b) (λ i m. up i (omega arith)) (h x b (omega arith) lo hi))))
 
@@ -96,6 +101,7 @@ groups-points {X} day P sameDay keeps noDay z p0 cuts cells kinds sizes last k l
     ∙ ap (λ D. groups sameDay eqb noDay tests D g) (points cuts sizes l up)
   where
     pairs : (k : ℕ) (us : List (X → Bool)) → Classed day P kinds k us
-        → Tests day P eqb sameDay keeps eqb eqb 0 noDay z p0 (blocks cuts l) (fills cuts sizes l) (axes sizes l) (aparts cuts sizes l up) (map (inClass kinds) (from k (length us))) us
+        → Tests day P eqb sameDay keeps eqb eqb 0 noDay z p0 (blocks cuts l) (fills cuts sizes l) (axes sizes l) (aparts cuts sizes l up)
+        (map (inClass kinds) (from k (length us))) us
     pairs k [] c = tt
     pairs k (u ∷ us) c = (c .0, empty-unmatched kinds k none, pairs (suc k) us (c .1))

@@ -1,4 +1,4 @@
--- What each way out of the pop shows, in plain terms. Rests on the marks' laws.
+-- What each return of the pop shows, in plain terms. Rests on the marks' laws.
 -- Assumes nothing.
 use mathlib.Core.Path.{_≡_, refl, sym, ap, ap₂, _∙_}
 use mathlib.Core.Bool.{Bool, true, false, cond}
@@ -54,7 +54,8 @@ mark-length sizes (suc l) base (E ∷ S) s =
     paint-length (λ x. anyOf (eqb x) E) base 0 (getD sizes l 0) (markSet sizes l (base + getD sizes l 0) S s) ∙ mark-length sizes l (base + getD sizes l 0) S s
 
 -- the marks that were written are read back
-chosen-mark : (sizes s : List ℕ) (l base : ℕ) (S : Set ℕ) → Part (axes sizes l) S → base + widthOf sizes l ≤ length s → chosen (markSet sizes l base S s) sizes l base ≡ S
+chosen-mark : (sizes s : List ℕ) (l base : ℕ) (S : Set ℕ) → Part (axes sizes l) S → base + widthOf sizes l ≤ length s
+    → chosen (markSet sizes l base S s) sizes l base ≡ S
 unfolding markSet axes widthOf chosen
 chosen-mark sizes s zero base [] p h = refl
 chosen-mark sizes s zero base (E ∷ S) p h = absurd p
@@ -71,13 +72,15 @@ chosen-mark sizes s (suc l) base (E ∷ S) p h =
     (chosen-mark sizes s l (base + n) S (p .1) (omega arith))
 
 -- the answer and the marks together are the group
-pub popped-of : (sizes s s′ : List ℕ) (l base : ℕ) (o : Option (Group ℕ ℕ)) (f : Popped) → OnSome (λ g. Part (axes sizes l) (g .1)) o → base + widthOf sizes l ≤ length s
+pub popped-of : (sizes s s′ : List ℕ) (l base : ℕ) (o : Option (Group ℕ ℕ)) (f : Popped) → OnSome (λ g. Part (axes sizes l) (g .1)) o
+    → base + widthOf sizes l ≤ length s
     → f ≡ answer o → s′ ≡ marked sizes l base o s → popped f (chosen s′ sizes l base) ≡ o
 unfolding popped answer marked
 popped-of sizes s s′ l base none f p h a m = rw a
 popped-of sizes s s′ l base (some g) f p h a m = rw (a, m) (ap (λ S. some (g .0, S)) (chosen-mark sizes s l base (g .1) p h))
 
-first-step : (h : ℕ → Option (Group ℕ ℕ)) (x : ℕ) (xs : List ℕ) (o : Option (Group ℕ ℕ)) → h x ≡ o → firstOf h (x ∷ xs) ≡ elim o [ none ↦ firstOf h xs | some g ↦ some g ]
+first-step : (h : ℕ → Option (Group ℕ ℕ)) (x : ℕ) (xs : List ℕ) (o : Option (Group ℕ ℕ)) → h x ≡ o
+    → firstOf h (x ∷ xs) ≡ elim o [ none ↦ firstOf h xs | some g ↦ some g ]
 unfolding firstOf
 first-step h x xs o e = rw (e, firstOf)
 
@@ -107,7 +110,10 @@ module _ (cells kinds sizes : List ℕ) (k : ℕ) where
     unfolding popAt pop axes popFrom
     pop-unfold =
         let z : getD sizes i 0 ≡ getD sizes i 0 - 0 = omega arith in
-        ap (λ m. grow eqb (from 0 (getD sizes i 0)) (grid cells sizes (suc i) node) (firstOf (λ x. pop eqb (inClass kinds k) (axes sizes i) (at (grid cells sizes (suc i) node) x)) (from 0 m))) z
+        ap
+        (λ m.
+        grow eqb (from 0 (getD sizes i 0)) (grid cells sizes (suc i) node)
+        (firstOf (λ x. pop eqb (inClass kinds k) (axes sizes i) (at (grid cells sizes (suc i) node) x)) (from 0 m))) z
 
     popFrom-part : OnSome (λ g. Part (axes sizes i) (g .1)) (popFrom cells sizes i node (inClass kinds k) 0)
     unfolding popFrom
@@ -115,7 +121,8 @@ module _ (cells kinds sizes : List ℕ) (k : ℕ) where
         OnSome-firstOf (λ g. Part (axes sizes i) (g .1)) (λ x. pop eqb (inClass kinds k) (axes sizes i) (at (grid cells sizes (suc i) node) x))
         (λ x. pop-part eqb (inClass kinds k) (axes sizes i) (at (grid cells sizes (suc i) node) x)) (from 0 (getD sizes i 0 - 0))
 
-  module _ (left i node base n : ℕ) (el : left ≡ suc i) (e : n ≡ getD sizes i 0) (f : Popped) (s s₁ : List ℕ) (h : f ≡ answer (popFrom cells sizes i node (inClass kinds k) 0))
+  module _ (left i node base n : ℕ) (el : left ≡ suc i) (e : n ≡ getD sizes i 0) (f : Popped) (s s₁ : List ℕ)
+      (h : f ≡ answer (popFrom cells sizes i node (inClass kinds k) 0))
       (m : s₁ ≡ marked sizes i (base + n) (popFrom cells sizes i node (inClass kinds k) 0) s) where
     pub pop-node-none : f ≡ Nothing
         → (Nothing ≡ answer (popAt cells kinds sizes k left node))
@@ -129,7 +136,8 @@ module _ (cells kinds sizes : List ℕ) (k : ℕ) where
         go none a b = (refl, b)
         go (some g) a b = absurd (let z : _≡_ {A = ℕ} 0 1 = cc in omega arith)
 
-    pub pop-node-some : (v : ℕ) (s₂ : List ℕ) → f ≡ Value v → base + n + widthOf sizes i ≤ length s → s₂ ≡ paint (goodAt cells sizes i node s₁ base v) base 0 n s₁
+    pub pop-node-some : (v : ℕ) (s₂ : List ℕ) → f ≡ Value v → base + n + widthOf sizes i ≤ length s
+        → s₂ ≡ paint (goodAt cells sizes i node s₁ base v) base 0 n s₁
         → (Value v ≡ answer (popAt cells kinds sizes k left node))
         × (s₂ ≡ marked sizes left base (popAt cells kinds sizes k left node) s)
     unfolding answer marked grow markSet goodAt
@@ -142,16 +150,20 @@ module _ (cells kinds sizes : List ℕ) (k : ℕ) where
         go (some g) p a c =
             let t : ℕ → Bool = λ x. agree eqb (g .0) (g .1) (at (grid cells sizes (suc i) node) x) in
             let w : v ≡ g .0 = cc in
-            let ch : chosen s₁ sizes i (base + getD sizes i 0) ≡ g .1 = rw (rw e at c) (chosen-mark sizes s i (base + getD sizes i 0) (g .1) p (rw e at len)) in (
+            let ch : chosen s₁ sizes i (base + getD sizes i 0) ≡ g .1 =
+            rw (rw e at c) (chosen-mark sizes s i (base + getD sizes i 0) (g .1) p (rw e at len)) in (
               sym q ∙ a,
               b ∙ ap (λ r. paint (goodAt cells sizes i node s₁ base v) base 0 r s₁) e
                   ∙ ap₂ (λ S u. paint (λ x. agree eqb u S (at (grid cells sizes (suc i) node) x)) base 0 (getD sizes i 0) s₁) ch w
-                  ∙ paint-ext t (λ x. anyOf (eqb x) (keep t (from 0 (getD sizes i 0)))) base 0 (getD sizes i 0) s₁ (λ x lo hi. sym (has-keep t x 0 (getD sizes i 0) lo hi))
+                  ∙ paint-ext t (λ x. anyOf (eqb x) (keep t (from 0 (getD sizes i 0)))) base 0 (getD sizes i 0) s₁
+                  (λ x lo hi. sym (has-keep t x 0 (getD sizes i 0) lo hi))
                   ∙ ap (paint (λ x. anyOf (eqb x) (keep t (from 0 (getD sizes i 0)))) base 0 (getD sizes i 0)) (rw e at c),
             )
 
   module _ (i node base n j : ℕ) (e : n ≡ getD sizes i 0) where
-    pub pop-columns-end : (s : List ℕ) → n ≤ j → (Nothing ≡ answer (popFrom cells sizes i node (inClass kinds k) j)) × (s ≡ marked sizes i (base + n) (popFrom cells sizes i node (inClass kinds k) j) s)
+    pub pop-columns-end : (s : List ℕ) → n ≤ j
+        → (Nothing ≡ answer (popFrom cells sizes i node (inClass kinds k) j)) ×
+        (s ≡ marked sizes i (base + n) (popFrom cells sizes i node (inClass kinds k) j) s)
     unfolding popFrom firstOf answer marked
     pop-columns-end s h = rw (from-end j (getD sizes i 0) (omega arith)) (refl, refl)
 
@@ -169,7 +181,8 @@ module _ (cells kinds sizes : List ℕ) (k : ℕ) where
           (ap (pop eqb (inClass kinds k) (axes sizes i)) (at-grid cells sizes i node j (omega arith) ∙ ap (λ m. grid cells sizes i (node * m + j)) (sym e)))
 
       pub pop-columns-hit : (v : ℕ) → f ≡ Value v
-          → (Value v ≡ answer (popFrom cells sizes i node (inClass kinds k) j)) × (s₁ ≡ marked sizes i (base + n) (popFrom cells sizes i node (inClass kinds k) j) s)
+          → (Value v ≡ answer (popFrom cells sizes i node (inClass kinds k) j)) ×
+          (s₁ ≡ marked sizes i (base + n) (popFrom cells sizes i node (inClass kinds k) j) s)
       unfolding answer marked
       pop-columns-hit v q = rw step (go (popAt cells kinds sizes k i (node * n + j)) a m)
         where
@@ -185,7 +198,8 @@ module _ (cells kinds sizes : List ℕ) (k : ℕ) where
       pop-columns-miss q = rw step (go (popAt cells kinds sizes k i (node * n + j)) a m)
         where
           go : (o : Option (Group ℕ ℕ)) → f ≡ answer o → s₁ ≡ marked sizes i (base + n) o s
-              → (popFrom cells sizes i node (inClass kinds k) (j + 1) ≡ elim o [ none ↦ popFrom cells sizes i node (inClass kinds k) (j + 1) | some g ↦ some g ])
+              → (popFrom cells sizes i node (inClass kinds k) (j + 1)
+              ≡ elim o [ none ↦ popFrom cells sizes i node (inClass kinds k) (j + 1) | some g ↦ some g ])
               × (s₁ ≡ s)
           go none b c = (refl, c)
           go (some h) b c = absurd (let z : _≡_ {A = ℕ} 0 1 = cc in omega arith)

@@ -77,7 +77,8 @@ module _ (len places : ℕ) (sizes : List ℕ) where
   pub room-node : (l node base : ℕ) → Room len places sizes l node base → node < len
   room-node l node base r = node-in len sizes l node (r .column)
 
-  pub room-child : (i node base n j : ℕ) → n ≡ getD sizes i 0 → j < n → Room len places sizes (suc i) node base → Room len places sizes i (node * n + j) (base + n)
+  pub room-child : (i node base n j : ℕ) → n ≡ getD sizes i 0 → j < n → Room len places sizes (suc i) node base
+      → Room len places sizes i (node * n + j) (base + n)
   unfolding widthOf
   room-child i node base n j e h r = let w = r .marked in record { column = node-child len sizes i node n j e h (r .column); marked = omega arith }
 
@@ -100,7 +101,8 @@ module _ (len places : ℕ) (sizes : List ℕ) where
       let a : 1 * sizeOf sizes l ≤ (node + 1) * sizeOf sizes l = mul-le-mul-right (sizeOf sizes l) (omega arith) in
       omega (arith, a, r .column .below)
 
-  pub room-place : (i node base n : ℕ) → n ≡ getD sizes i 0 → Room len places sizes (suc i) node base → (i ≤ length sizes) × ((k : ℕ) → k < i → 1 ≤ getD sizes k 0) × (sizeOf sizes i ≤ len)
+  pub room-place : (i node base n : ℕ) → n ≡ getD sizes i 0 → Room len places sizes (suc i) node base
+      → (i ≤ length sizes) × ((k : ℕ) → k < i → 1 ≤ getD sizes k 0) × (sizeOf sizes i ≤ len)
   room-place i node base n e r =
       let one = r .column .filled i (omega arith) in
       let first = room-child i node base n 0 e (omega arith) r in

@@ -51,7 +51,8 @@ module _ (cells : List ℕ) (ok : ℕ → Bool) where
   none-more first at b a e q = none-join first at (at + 1) a (λ x l h. let z : x ≡ at = omega arith in rw z (sym e ∙ q))
 
   -- passing cells that do not pass
-  cells-skip : (d first end : ℕ) → first + d ≤ end → NoneFrom cells ok first (first + d) → firstCell cells ok (first + d) (end - (first + d)) ≡ firstCell cells ok first (end - first)
+  cells-skip : (d first end : ℕ) → first + d ≤ end → NoneFrom cells ok first (first + d)
+      → firstCell cells ok (first + d) (end - (first + d)) ≡ firstCell cells ok first (end - first)
   unfolding NoneFrom
   cells-skip zero first end h a = let z : first + 0 ≡ first = omega arith in ap (λ m. firstCell cells ok m (end - m)) z
   cells-skip (suc d) first end h a =
@@ -87,18 +88,21 @@ module _ (cells kinds sizes : List ℕ) (k node base n : ℕ) (e : n ≡ getD si
       go : (b : Bool) → b ≡ inClass kinds k (getD cells (node * n + j) 0)
           → (firstCell cells (inClass kinds k) (node * n + (j + 1)) r ≡ answer (popFrom cells sizes 0 node (inClass kinds k) (j + 1)))
           × (s ≡ marked sizes 0 (base + n) (popFrom cells sizes 0 node (inClass kinds k) (j + 1)) s)
-          → (cond b (Value (getD cells (node * n + j) 0)) (firstCell cells (inClass kinds k) (node * n + j + 1) r) ≡ answer (popFrom cells sizes 0 node (inClass kinds k) j))
+          → (cond b (Value (getD cells (node * n + j) 0)) (firstCell cells (inClass kinds k) (node * n + j + 1) r)
+          ≡ answer (popFrom cells sizes 0 node (inClass kinds k) j))
           × (s ≡ marked sizes 0 (base + n) (popFrom cells sizes 0 node (inClass kinds k) j) s)
       go true q ih =
           let leaf = pop-leaf-yes cells kinds sizes k s 0 (node * n + j) (base + n) true refl q refl in
-          pop-columns-hit cells kinds sizes k 0 node base n j e (Value (getD cells (node * n + j) 0)) s s (omega arith) (leaf .0) (leaf .1) (getD cells (node * n + j) 0) refl
+          pop-columns-hit cells kinds sizes k 0 node base n j e (Value (getD cells (node * n + j) 0)) s s (omega arith) (leaf .0) (leaf .1)
+          (getD cells (node * n + j) 0) refl
       go false q ih =
           let leaf = pop-leaf-no cells kinds sizes k s 0 (node * n + j) (base + n) false refl q refl in
           let miss = pop-columns-miss cells kinds sizes k 0 node base n j e Nothing s s (omega arith) (leaf .0) (leaf .1) refl in
           (rw (← miss .0, ← next) (ih .0), rw (← miss .0) (ih .1))
 
 pub pop-cells : (cells kinds sizes : List ℕ) (k i node base n j : ℕ) (s : List ℕ) (r : Popped) → i ≡ 0 → n ≡ getD sizes i 0
-    → popFrom cells sizes i node (inClass kinds k) j ≡ popFrom cells sizes i node (inClass kinds k) 0 → r ≡ firstCell cells (inClass kinds k) (node * n + j) (node * n + n - (node * n + j))
+    → popFrom cells sizes i node (inClass kinds k) j ≡ popFrom cells sizes i node (inClass kinds k) 0
+    → r ≡ firstCell cells (inClass kinds k) (node * n + j) (node * n + n - (node * n + j))
     → (r ≡ answer (popFrom cells sizes i node (inClass kinds k) 0)) × (s ≡ marked sizes i (base + n) (popFrom cells sizes i node (inClass kinds k) 0) s)
 pop-cells cells kinds sizes k i node base n j s r z e p h =
     let all : node * n + n - (node * n + j) ≡ n - j = omega arith in
@@ -121,7 +125,8 @@ module _ (cells marks : List ℕ) (first base n v j : ℕ) where
     unfolding cellsAgree every
     agree-in m = rw (marks-in marks base n j h m)
 
-    pub agree-yes : getD marks (base + j) 0 ≡ 1 → getD cells (first + j) 0 ≡ v → cellsAgree cells marks first base n v (j + 1) ≡ cellsAgree cells marks first base n v j
+    pub agree-yes : getD marks (base + j) 0 ≡ 1 → getD cells (first + j) 0 ≡ v
+        → cellsAgree cells marks first base n v (j + 1) ≡ cellsAgree cells marks first base n v j
     unfolding cellIs
     agree-yes m q = sym (agree-in m ∙ ap (λ b. b && cellsAgree cells marks first base n v (j + 1)) (eq-eqb (getD cells (first + j) 0) v q))
 
@@ -135,12 +140,15 @@ module _ (cells sizes marks : List ℕ) (v node base n : ℕ) (e : n ≡ getD si
   agree-columns zero j z = sym (agree-end cells marks (node * n) base n v j (omega arith)) ∙ columns-end cells sizes marks v 0 node base n j e (omega arith)
   agree-columns (suc r) j z = go (eqb (getD marks (base + j) 0) 1) refl (agree-columns r (j + 1) (omega arith))
     where
-      go : (b : Bool) → eqb (getD marks (base + j) 0) 1 ≡ b → cellsAgree cells marks (node * n) base n v (j + 1) ≡ agreeFrom cells sizes 0 node marks base v (j + 1)
+      go : (b : Bool) → eqb (getD marks (base + j) 0) 1 ≡ b
+          → cellsAgree cells marks (node * n) base n v (j + 1) ≡ agreeFrom cells sizes 0 node marks base v (j + 1)
           → cellsAgree cells marks (node * n) base n v j ≡ agreeFrom cells sizes 0 node marks base v j
       go true q ih =
           let m = eqb-true (getD marks (base + j) 0) 1 q in
           agree-in cells marks (node * n) base n v j (omega arith) m ∙ ap (λ b. cellIs cells (node * n) v j && b) ih
-          ∙ sym (columns-in cells sizes marks v 0 node base n j e (omega arith) m (cellIs cells (node * n) v j) (check-leaf cells sizes marks v 0 (node * n + j) (base + n) refl))
+          ∙ sym
+          (columns-in cells sizes marks v 0 node base n j e (omega arith) m (cellIs cells (node * n) v j)
+          (check-leaf cells sizes marks v 0 (node * n + j) (base + n) refl))
       go false q ih =
           let m = eqb-false (getD marks (base + j) 0) 1 q in
           sym (agree-out cells marks (node * n) base n v j (omega arith) m) ∙ ih ∙ columns-out cells sizes marks v 0 node base n j e (omega arith) m
@@ -162,7 +170,8 @@ grow-cells cells sizes v i node base n s s₂ z e h =
     h ∙ paint-ext (cellIs cells (node * n) v) (goodAt cells sizes i node s base v) base 0 n s (λ x lo hi. sym (rw z (here x (omega arith))))
   where
     here : (x : ℕ) → x < n → goodAt cells sizes 0 node s base v x ≡ cellIs cells (node * n) v x
-    here x hi = good-here cells sizes v 0 node base n x (rw z at e) s (cellIs cells (node * n) v x) hi (check-leaf cells sizes s v 0 (node * n + x) (base + n) refl)
+    here x hi = good-here cells sizes v 0 node base n x (rw z at e) s (cellIs cells (node * n) v x) hi
+        (check-leaf cells sizes s v 0 (node * n + x) (base + n) refl)
 
 -- ## Emptying the marked cells
 pub empty-all : (marks : List ℕ) (first base n : ℕ) (cells : List ℕ) → emptied marks first base 0 (n - 0) cells ≡ emptied marks first base 0 n cells
@@ -179,16 +188,19 @@ module _ (marks : List ℕ) (first base j n : ℕ) (cells : List ℕ) where
     unfolding emptied
     empty-step b q =
         let z : n - j ≡ suc (n - (j + 1)) = omega arith in
-        ap (λ x. emptied marks first base (j + 1) (n - (j + 1)) (cond x (set cells (first + j) 0) cells)) (sym q) ∙ sym (ap (λ m. emptied marks first base j m cells) z)
+        ap (λ x. emptied marks first base (j + 1) (n - (j + 1)) (cond x (set cells (first + j) 0) cells)) (sym q)
+        ∙ sym (ap (λ m. emptied marks first base j m cells) z)
 
-    pub empty-in : getD marks (base + j) 0 ≡ 1 → emptied marks first base (j + 1) (n - (j + 1)) (set cells (first + j) 0) ≡ emptied marks first base j (n - j) cells
+    pub empty-in : getD marks (base + j) 0 ≡ 1
+        → emptied marks first base (j + 1) (n - (j + 1)) (set cells (first + j) 0) ≡ emptied marks first base j (n - j) cells
     empty-in m = empty-step true (eq-eqb (getD marks (base + j) 0) 1 m)
 
     pub empty-out : (getD marks (base + j) 0 ≡ 1 → ⊥) → emptied marks first base (j + 1) (n - (j + 1)) cells ≡ emptied marks first base j (n - j) cells
     empty-out m = empty-step false (ne-eqb (getD marks (base + j) 0) 1 m)
 
 module _ (sizes marks : List ℕ) (node base n : ℕ) (e : n ≡ getD sizes 0 0) where
-  empty-columns : (r j : ℕ) → r ≡ n - j → (cells : List ℕ) → node * n + n ≤ length cells → ClearedFrom cells (emptied marks (node * n) base j r cells) sizes 0 node marks base j
+  empty-columns : (r j : ℕ) → r ≡ n - j → (cells : List ℕ) → node * n + n ≤ length cells
+      → ClearedFrom cells (emptied marks (node * n) base j r cells) sizes 0 node marks base j
   unfolding emptied
   empty-columns zero j z cells l = reset-end cells sizes marks 0 node base n j e (omega arith)
   empty-columns (suc r) j z cells l = go (eqb (getD marks (base + j) 0) 1) refl (empty-columns r (j + 1) (omega arith))
@@ -201,7 +213,8 @@ module _ (sizes marks : List ℕ) (node base n : ℕ) (e : n ≡ getD sizes 0 0)
           reset-in cells sizes marks 0 node base n j e c₁ (emptied marks (node * n) base (j + 1) r c₁) (omega arith) (eqb-true (getD marks (base + j) 0) 1 q)
           (reset-leaf cells sizes marks 0 (node * n + j) (base + n) refl (omega arith)) (ih c₁ (omega (arith, length-set cells (node * n + j) 0)))
       go false q ih =
-          reset-out cells sizes marks 0 node base n j e (emptied marks (node * n) base (j + 1) r cells) (omega arith) (eqb-false (getD marks (base + j) 0) 1 q) (ih cells l)
+          reset-out cells sizes marks 0 node base n j e (emptied marks (node * n) base (j + 1) r cells) (omega arith)
+          (eqb-false (getD marks (base + j) 0) 1 q) (ih cells l)
 
 pub reset-cells : (cells after sizes marks : List ℕ) (i node base n : ℕ) → i ≡ 0 → n ≡ getD sizes i 0 → node * n + n ≤ length cells
     → after ≡ emptied marks (node * n) base 0 n cells → ClearedFrom cells after sizes i node marks base 0

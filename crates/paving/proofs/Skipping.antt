@@ -38,7 +38,8 @@ pub size-next : (sizes : List ℕ) (k size width : ℕ) → size ≡ sizeOf size
 unfolding sizeOf
 size-next sizes k size width e w = let z : k + 1 ≡ suc k = omega arith in rw (z, e, w)
 
-pub size-fits : (sizes : List ℕ) (k l size width : ℕ) → ((j : ℕ) → j < l → 1 ≤ getD sizes j 0) → k < l → size ≡ sizeOf sizes k → width ≡ getD sizes k 0 → width * size ≤ sizeOf sizes l
+pub size-fits : (sizes : List ℕ) (k l size width : ℕ) → ((j : ℕ) → j < l → 1 ≤ getD sizes j 0) → k < l → size ≡ sizeOf sizes k → width ≡ getD sizes k 0
+    → width * size ≤ sizeOf sizes l
 size-fits sizes k l size width f h e w = rw (size-next sizes k size width e w) (size-le sizes (k + 1) l f (omega arith))
 
 -- ## Columns before a cell
@@ -65,7 +66,8 @@ module _ (cells kinds sizes : List ℕ) (k : ℕ) where
     before-none : (l node : ℕ) → (node + 1) * sizeOf sizes l ≤ first → popAt cells kinds sizes k l node ≡ none
     unfolding NoneFrom popAt popFrom pop axes grid sizeOf firstOf grow
     before-none zero node h = rw (a node (omega arith) (omega arith), pop)
-    before-none (suc i) node h = pop-unfold cells kinds sizes k i node ∙ ap (grow eqb (from 0 (getD sizes i 0)) (grid cells sizes (suc i) node)) (all (before-none i))
+    before-none (suc i) node h =
+        pop-unfold cells kinds sizes k i node ∙ ap (grow eqb (from 0 (getD sizes i 0)) (grid cells sizes (suc i) node)) (all (before-none i))
       where
         n : ℕ
         n = getD sizes i 0
@@ -116,7 +118,8 @@ clear-unmatched ok z (E ∷ S) f (x ∷ p) h = go (anyOf (eqb x) E) (clear-unmat
     go false ih = h
 
 -- where none was of the class, none is
-pub none-after : (cells after sizes : List ℕ) (ok : ℕ → Bool) (l first : ℕ) (S : Set ℕ) → ((k : ℕ) → k < l → 1 ≤ getD sizes k 0) → ok 0 ≡ false → Cleared cells after sizes l 0 S
+pub none-after : (cells after sizes : List ℕ) (ok : ℕ → Bool) (l first : ℕ) (S : Set ℕ) → ((k : ℕ) → k < l → 1 ≤ getD sizes k 0) → ok 0 ≡ false
+    → Cleared cells after sizes l 0 S
     → first ≤ sizeOf sizes l → NoneFrom cells ok 0 first → NoneFrom after ok 0 first
 unfolding NoneFrom
 none-after cells after sizes ok l first S f z c h a = λ q lo hi.

@@ -24,7 +24,8 @@ use Rattle.paving.proofs.Room.{from-cons, from-end}
 unfoldable pub matching : List ℕ → List ℕ → List ℕ → ℕ → ℕ → ℕ
 matching cells kinds sizes k l = tally (inClass kinds k) (axes sizes l) (grid cells sizes l 0)
 
-pub emitted-append : {S : Type 0} (emit : S → Group ℕ ℕ → S) (s : S) (xs ys : List (Group ℕ ℕ)) → emitted emit s (xs ++ ys) ≡ emitted emit (emitted emit s xs) ys
+pub emitted-append : {S : Type 0} (emit : S → Group ℕ ℕ → S) (s : S) (xs ys : List (Group ℕ ℕ))
+    → emitted emit s (xs ++ ys) ≡ emitted emit (emitted emit s xs) ys
 unfolding emitted
 emitted-append emit s [] ys = refl
 emitted-append emit s (x ∷ xs) ys = emitted-append emit (emit s x) xs ys
@@ -54,7 +55,8 @@ module _ (cells kinds sizes : List ℕ) (k l : ℕ) (z : getD kinds 0 0 ≡ 0) w
   swept-none f S h q = unroll ∙ ap (takeOut eqb eqb 0 (grid cells sizes l 0) (λ f. sweep eqb eqb 0 (inClass kinds k) (axes sizes l) f)) (sym (rw q at h))
 
   -- nothing popped: nothing more to take in, and the cells are what is left
-  pub loop-end : {T : Type 0} (emit : T → Group ℕ ℕ → T) (f : Popped) (S : Set ℕ) → popped f S ≡ popAt cells kinds sizes k l 0 → f ≡ Nothing → (s r : T) (m : Map ℕ ℕ)
+  pub loop-end : {T : Type 0} (emit : T → Group ℕ ℕ → T) (f : Popped) (S : Set ℕ) → popped f S ≡ popAt cells kinds sizes k l 0 → f ≡ Nothing
+      → (s r : T) (m : Map ℕ ℕ)
       → emitted emit s (swept cells kinds sizes k l .0) ≡ r → swept cells kinds sizes k l .1 ≡ m → (s ≡ r) × (grid cells sizes l 0 ≡ m)
   unfolding emitted
   loop-end emit f S h q s r m g w =
@@ -83,11 +85,13 @@ module _ (cells kinds sizes : List ℕ) (k l : ℕ) (z : getD kinds 0 0 ≡ 0) w
     unfolding matching popAt
     matching-falls =
         subst (λ g. tally (inClass kinds k) (axes sizes l) g < tally (inClass kinds k) (axes sizes l) (grid cells sizes l 0)) (sym (c 0))
-        (subst (OnSome (λ g. tally (inClass kinds k) (axes sizes l) (clear eqb 0 (g .1) (grid cells sizes l 0)) < tally (inClass kinds k) (axes sizes l) (grid cells sizes l 0))) one
+        (subst (OnSome (λ g. tally (inClass kinds k) (axes sizes l) (clear eqb 0 (g .1) (grid cells sizes l 0)) < tally (inClass kinds k) (axes sizes l)
+        (grid cells sizes l 0))) one
         (pop-less exact-eqb exact-eqb 0 (inClass kinds k) (inClass kinds k) (λ v e. e) unmatched (axes sizes l) (grid cells sizes l 0)))
 
     -- the group taken in: what is left to take in, and what is left in the end, is that of the cells without it
-    pub loop-round : {T : Type 0} (emit : T → Group ℕ ℕ → T) (s s₁ r : T) (m : Map ℕ ℕ) → emitted emit s (swept cells kinds sizes k l .0) ≡ r → swept cells kinds sizes k l .1 ≡ m
+    pub loop-round : {T : Type 0} (emit : T → Group ℕ ℕ → T) (s s₁ r : T) (m : Map ℕ ℕ) → emitted emit s (swept cells kinds sizes k l .0) ≡ r
+        → swept cells kinds sizes k l .1 ≡ m
         → s₁ ≡ emit s (v, S) → (emitted emit s₁ (swept after kinds sizes k l .0) ≡ r) × (swept after kinds sizes k l .1 ≡ m)
     unfolding emitted
     loop-round emit s s₁ r m g w a = (
@@ -99,7 +103,8 @@ module _ (cells kinds sizes : List ℕ) (k l : ℕ) (z : getD kinds 0 0 ≡ 0) w
     unfolding marked markGroup
     marks-round marks marks₁ e = e ∙ ap (λ o. marked sizes l 0 o marks) one
 
-    pub elsewhere-round : (first : List ℕ) → ((d : ℕ) → 1 ≤ d → grid cells sizes l d ≡ grid first sizes l d) → (d : ℕ) → 1 ≤ d → grid after sizes l d ≡ grid first sizes l d
+    pub elsewhere-round : (first : List ℕ) → ((d : ℕ) → 1 ≤ d → grid cells sizes l d ≡ grid first sizes l d) → (d : ℕ) → 1 ≤ d
+        → grid after sizes l d ≡ grid first sizes l d
     elsewhere-round first e d h = c d ∙ ap (λ b. cond b (clear eqb 0 S (grid cells sizes l d)) (grid cells sizes l d)) (ne-eqb d 0 (omega arith)) ∙ e d h
 
 -- ## Class after class
@@ -114,7 +119,8 @@ module _ (cells kinds sizes : List ℕ) (last k l : ℕ) where
   unfolding swept groupsFrom classesFrom groups
   groups-step emit after s s₁ r h a c g = rw (from-cons k (suc last) (omega arith), emitted-append, ← a, ← c) g
 
-  pub taken-none : (marks : List ℕ) → last < k → TakenOut sizes l cells marks cells marks (groupsFrom cells kinds sizes last k l) (leftFrom cells kinds sizes last k l)
+  pub taken-none : (marks : List ℕ) → last < k
+      → TakenOut sizes l cells marks cells marks (groupsFrom cells kinds sizes last k l) (leftFrom cells kinds sizes last k l)
   unfolding leftFrom leftAfter classesFrom
   taken-none marks h = record { marked = groups-end (markGroup sizes l) marks h; left = rw (from-end k (suc last) h); elsewhere = λ d o. refl }
 

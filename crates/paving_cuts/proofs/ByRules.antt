@@ -20,10 +20,11 @@ use Rattle.definition.specs.Range.{ranges}
 use Rattle.definition.specs.Point.{Dimension, selector}
 use Rattle.definition.specs.Box.{allRanges, boxCount}
 use Rattle.paving.specs.Grid.{sizeOf}
-use Rattle.paving_update.specs.Update.{rangePlaces, rangeOf}
-use Rattle.paving_update.specs.Boxes.{selectorOf}
-use Rattle.paving_cuts.specs.Cuts.{rangesFrom, cutsOnto, Rowed, rowOf, cutRows, Space}
-use Rattle.paving_cuts.specs.Rules.{CutBy, Roomy}
+use Rattle.tables.specs.Sizes.{rangePlaces}
+use Rattle.tables.specs.Ranges.{rangeOf, selectorOf}
+use Rattle.paving_cuts.specs.Cuts.{rangesFrom, cutsOnto, Rowed, cutRows, Space}
+use Rattle.tables.specs.Cuts.{RowsRise, dimensionCuts, CutBy}
+use Rattle.paving_cuts.specs.Rules.{Roomy}
 use Rattle.paving_cuts.proofs.Rows.{cuts-more, row-length, next, rows-cut}
 
 -- ## The loaded ranges of a rule
@@ -76,10 +77,10 @@ module _ (rows counts loaded : List ℕ) (room : ℕ) (rs : List Rule) (r : Rule
   module _ (ds : List Dimension) (e : selectorOf counts loaded (length ds) ≡ selector ds r) (w : Roomy room (rs ++ (r ∷ [])) ds)
       (placed : (i : ℕ) → i < length ds → getD rows i 0 ≡ i * room) where
     -- so the rule can be cut at
-    pub cut-space : (places : ℕ) (sizes table : List ℕ) → CutBy rows sizes table rs ds → length ds * room ≤ places → room ≤ 65536
+    pub cut-space : (sizes table : List ℕ) → CutBy rows sizes table rs ds → RowsRise rows sizes table (length ds) → length ds * room ≤ length table → room ≤ 65536
         → length ds ≤ length rows → length ds ≤ length sizes → length ds ≤ length counts → length ds * rangePlaces ≤ length loaded
-        → ((i : ℕ) → i < length ds → getD counts i 0 * 2 ≤ rangePlaces) → Space places rows sizes counts loaded (length ds)
-    cut-space places sizes table c l small a b n m few = record {
+        → ((i : ℕ) → i < length ds → getD counts i 0 * 2 ≤ rangePlaces) → Space table rows sizes counts loaded (length ds)
+    cut-space sizes table c rise l small a b n m few = record {
       all-rows = a;
       all-sizes = b;
       all-counts = n;
@@ -87,6 +88,8 @@ module _ (rows counts loaded : List ℕ) (room : ℕ) (rs : List Rule) (r : Rule
       count = few;
       place = λ i h. omega (arith, placed i h, row-room sizes table ds e c w i h, mul-le-mul-right room h);
       fits = λ i h. omega (arith, row-room sizes table ds e c w i h);
+      apart = λ i j l h. omega (arith, placed i (omega arith), placed j h, row-room sizes table ds e c w i (omega arith), mul-le-mul-right room l);
+      rising = rise;
     }
 
     -- A RULE MORE: the rows hold the cuts of all rules
@@ -97,11 +100,11 @@ module _ (rows counts loaded : List ℕ) (room : ℕ) (rs : List Rule) (r : Rule
         t₁ : Rowed
         t₁ = cutRows rows counts loaded (length ds) t
 
-        cut : (k : ℕ) → k < length ds → rowOf rows (t₁ .sizes) (t₁ .cuts) k ≡ cutsOnto (rangesFrom loaded k 0 (getD counts k 0)) (rowOf rows (t .sizes) (t .cuts) k)
+        cut : (k : ℕ) → k < length ds → dimensionCuts rows (t₁ .sizes) (t₁ .cuts) k ≡ cutsOnto (rangesFrom loaded k 0 (getD counts k 0)) (dimensionCuts rows (t .sizes) (t .cuts) k)
         cut k h =
             let more = row-room (t .sizes) (t .cuts) ds e c w in
             rows-cut rows room (length ds) placed counts loaded (length ds) (omega arith) t a b (λ j l. omega (arith, more j l)) more k h
-            ∙ ap (λ v. cond v (next rows room (length ds) placed counts loaded t k) (rowOf rows (t .sizes) (t .cuts) k)) (lt-ltb k (length ds) h)
+            ∙ ap (λ v. cond v (next rows room (length ds) placed counts loaded t k) (dimensionCuts rows (t .sizes) (t .cuts) k)) (lt-ltb k (length ds) h)
 
         go : (es : List Dimension) → length es ≤ length ds → selectorOf counts loaded (length es) ≡ selector es r → CutBy rows (t .sizes) (t .cuts) rs es
             → CutBy rows (t₁ .sizes) (t₁ .cuts) (rs ++ (r ∷ [])) es

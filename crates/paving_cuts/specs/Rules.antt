@@ -1,20 +1,13 @@
 -- Rows that hold the cuts of some rules: what the cutting is measured by.
 -- Assumes nothing.
-use mathlib.Core.Path.{_≡_}
 use mathlib.Core.List.{List, [], _∷_}
 use Prim.Native.Nat.{ℕ, _+_, _*_, _≤_}
 use lib.ListN.{length}
 use Rattle.laws.specs.Lists.{All}
-use Rattle.grid.specs.Cut.{cuts}
 use Rattle.definition.specs.Rule.{Rule}
 use Rattle.definition.specs.Point.{Dimension}
 use Rattle.definition.specs.Box.{allRanges}
-use Rattle.paving_cuts.specs.Cuts.{Rowed, rowOf, startRow}
-
--- dimension by dimension the cuts of the rules' ranges; the first dimension's row is the last
-abbrev pub CutBy : List ℕ → List ℕ → List ℕ → List Rule → List Dimension → Type 0
-CutBy rows sizes table rs [] = Unit {0}
-CutBy rows sizes table rs (d ∷ ds) = (rowOf rows sizes table (length ds) ≡ cuts (d .bounds) (allRanges rs d)) × CutBy rows sizes table rs ds
+use Rattle.paving_cuts.specs.Cuts.{Rowed, startRow}
 
 -- each dimension's cuts have room: both bounds, and both ends of each range
 abbrev pub Roomy : ℕ → List Rule → List Dimension → Type 0

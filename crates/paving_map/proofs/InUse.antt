@@ -19,9 +19,10 @@ use Rattle.day_words.proofs.Flat.{unflat-flat}
 use Rattle.day_words.proofs.Own.{day-own}
 use Rattle.paving.proofs.Points.{Classed}
 use Rattle.paving.proofs.DayKinds.{day-classed}
-use Rattle.paving_update.specs.Boxes.{listOf}
-use Rattle.paving_map.specs.Numbering.{numberOf, wordsOf}
-use Rattle.paving_map.specs.Boxes.{boxWords, Mapped}
+use Rattle.tables.specs.Lists.{listOf}
+use Rattle.paving_map.specs.Numbering.{numberOf}
+use Rattle.tables.specs.Days.{wordsOf, boxWords}
+use Rattle.paving_map.specs.Boxes.{Mapped}
 use Rattle.paving_map.proofs.Numbering.{same-number, number-words, number-none}
 
 -- ## Numbers in use: 0, and those of the first n boxes

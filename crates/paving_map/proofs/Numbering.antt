@@ -9,7 +9,8 @@ use lib.Dec.{eqb, leb}
 use borrow.Author.Tests.{eqb-true, eqb-false, leb-true, leb-false}
 use Rattle.laws.specs.Tests.{sameList}
 use Rattle.laws.proofs.Tests.{exact-eqb, exact-list}
-use Rattle.paving_map.specs.Numbering.{firstSame, numberFor, numberOf, wordsOf}
+use Rattle.paving_map.specs.Numbering.{firstSame, numberFor, numberOf}
+use Rattle.tables.specs.Days.{wordsOf}
 
 module _ (W : ℕ → List ℕ) where
   -- a box that does not pass is not the one that does

@@ -8,14 +8,15 @@ use native.Mathlib.Omega.{arith}
 use lib.ListN.{length, getD, set}
 use Rattle.definition.specs.Day.{day}
 use Rattle.day_words.specs.Day.{flat, listRules, fingerprintOf}
-use Rattle.paving_update.specs.Boxes.{listOf}
+use Rattle.tables.specs.Lists.{listOf}
 use Rattle.memory.specs.declared.Found.{Found}
 use Rattle.memory.specs.declared.Found.the-variants.{At, Nothing}
 use Rattle.list_memory.specs.Lists.{Listed, SameList}
 use Rattle.box_day.proofs.Kept.{ready-kept}
 use Rattle.day_memory.specs.Known.{SameWords}
 use Rattle.day_number.specs.Number.{Among, foundNumber, foundClasses}
-use Rattle.paving_map.specs.Boxes.{boxWords, Ready, AllReady, Room, Known, Mapped}
+use Rattle.paving_map.specs.Boxes.{AllReady, Room, Known, Mapped}
+use Rattle.tables.specs.Days.{boxWords, Ready}
 use Rattle.paving_map.proofs.Mapping.{same-mapped, new-mapped, new-known, none-before}
 
 -- ## One box whose day was sought among the known ones, over any words

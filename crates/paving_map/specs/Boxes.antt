@@ -8,8 +8,7 @@ use Rattle.definition.specs.Group.{dayClass}
 use Rattle.day_words.specs.Day.{unflat}
 use Rattle.day_memory.specs.Known.{Printed}
 use Rattle.paving_map.specs.Numbering.{numberOf}
-unfoldable pub use Rattle.box_day.specs.Boxes.{boxWords}
-pub use Rattle.box_day.specs.Boxes.{Ready, Scratch}
+use Rattle.tables.specs.Days.{boxWords, Ready}
 
 -- so many boxes whose lists can be folded
 abbrev pub AllReady : List ℕ → List ℕ → List ℕ → List ℕ → ℕ → ℕ → Type 0

@@ -19,8 +19,3 @@ module _ (W : ℕ → List ℕ) where
 
   abbrev pub numberOf : ℕ → ℕ
   numberOf i = numberFor (W i) i
-
-  -- the words that a number stands for
-  unfoldable pub wordsOf : ℕ → List ℕ
-  wordsOf zero = []
-  wordsOf (suc j) = W j

@@ -10,7 +10,9 @@ use memory::Found;
 ghost use Prim.Native.Nat.{_+_, _≤_, _<_};
 ghost use mathlib.Core.Path.{_≡_};
 ghost use lib.ListN.{length};
-ghost use Rattle.paving_map.specs.Boxes.{boxWords, AllReady, Scratch, Room, Mapped, SoFar};
+ghost use Rattle.paving_map.specs.Boxes.{AllReady, Room, Mapped, SoFar};
+ghost use Rattle.tables.specs.Days.{boxWords};
+ghost use Rattle.box_day.specs.Boxes.{Scratch};
 
 // Numbers a box whose list isn't known.
 fn number_list(

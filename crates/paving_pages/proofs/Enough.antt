@@ -20,10 +20,13 @@ use Rattle.grid.proofs.Width.{set-width, groups-filled}
 use Rattle.paving.specs.Grid.{sizeOf, axes, grid, inClass}
 use Rattle.paving.specs.Sweep.{classesFrom, groupsFrom}
 use Rattle.paving.proofs.Sweeping.{empty-unmatched}
-use Rattle.runs.specs.Runs.{intervalAt, cutOf}
-use Rattle.runs.proofs.Joining.{joined-few}
-use Rattle.runs.proofs.Filling.{items-few}
-use Rattle.paving_pages.specs.Pages.{sortItems, pageItems, endNumbers, pageNumbers, groupNumbers, groupsNumbers}
+use Rattle.runs.specs.Runs.{cutOf}
+use Rattle.tables.specs.Cuts.{intervalAt}
+use Rattle.grid.proofs.Count.{joined-less}
+use Rattle.definition.proofs.RuleCounts.{items-less}
+use Rattle.paving_pages.specs.Pages.{sortItems, pageItems, groupNumbers, groupsNumbers}
+use Rattle.tables.specs.Items.{endNumbers}
+use Rattle.tables.specs.Pages.{pageNumbers}
 use Rattle.paving_pages.proofs.Writing.{last-length}
 
 -- ## Dimensions
@@ -50,7 +53,7 @@ module _ (rows cuts sizes : List ℕ) where
   sort-few i E =
       let row : ℕ = getD rows i 0 in
       let R = map (intervalAt (cutOf cuts row)) E in
-      omega (arith, items-few (cutOf cuts row 0, cutOf cuts row (getD sizes i 0)) (joined R), joined-few R, length-map E (intervalAt (cutOf cuts row)))
+      omega (arith, items-less (cutOf cuts row 0, cutOf cuts row (getD sizes i 0)) (joined R), joined-less R, length-map E (intervalAt (cutOf cuts row)))
 
   items-few-by-sort : (l : ℕ) (S : Set ℕ) → (length (pageItems rows cuts sizes l S) ≤ l) × (length (endNumbers (pageItems rows cuts sizes l S)) ≤ 2 * sum length S)
   unfolding pageItems endNumbers flatMap sum

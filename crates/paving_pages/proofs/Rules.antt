@@ -20,9 +20,8 @@ use Rattle.definition.specs.Day.{Day}
 use Rattle.definition.specs.Group.{itemsOf, laidOver, asRules, rulesOf, pages, folded}
 use Rattle.paving.specs.Grid.{axes, grid}
 use Rattle.paving.specs.Sweep.{classesFrom, groupsFrom}
-use Rattle.paving_update.specs.Update.{cutOf}
-use Rattle.paving_cuts.specs.Rules.{CutBy}
-use Rattle.paving_points.specs.Paged.{intervalAt, runsOf, pageOf}
+use Rattle.tables.specs.Cuts.{cutOf, CutBy, intervalAt}
+use Rattle.paving_points.specs.Paged.{runsOf, pageOf}
 use Rattle.paving_points.proofs.Boxes.{Bounded, cuts-rise, cuts-points}
 use Rattle.paving_pages.specs.Pages.{CutRows, sortItems, pageItems}
 use Rattle.paving_pages.specs.Sorts.{sorts, overSorts, groupRules}

@@ -12,8 +12,10 @@ use Rattle.laws.proofs.Stores.{sets-append, sets-set}
 use Rattle.definition.specs.Range.{Ends}
 use Rattle.words.proofs.Sets.{sets-next}
 use Rattle.paving.specs.Grid.{widthOf, marksFrom, chosen}
-use Rattle.runs.specs.Runs.{Cuts, numbers, itemsAt}
-use Rattle.paving_pages.specs.Pages.{CutRows, sortItems, pageItems, endNumbers, pageNumbers, laidItems, state, groupNumbers, putPage}
+use Rattle.runs.specs.Runs.{Cuts, itemsAt}
+use Rattle.tables.specs.Items.{numbers, endNumbers}
+use Rattle.paving_pages.specs.Pages.{CutRows, sortItems, pageItems, laidItems, state, groupNumbers, putPage}
+use Rattle.tables.specs.Pages.{pageNumbers}
 
 -- ## A sort more
 numbers-length : (es : List Ends) → length (numbers es) ≡ 2 * length es

@@ -9,7 +9,10 @@ use Rattle.grid.specs.Group.{Set, Group}
 use Rattle.grid.specs.Cut.{joined}
 use Rattle.definition.specs.Range.{Ends}
 use Rattle.definition.specs.Group.{itemsOf}
-use Rattle.runs.specs.Runs.{intervalAt, cutOf, Cuts, numbers}
+use Rattle.runs.specs.Runs.{cutOf, Cuts}
+use Rattle.tables.specs.Cuts.{intervalAt}
+use Rattle.tables.specs.Items.{endNumbers}
+use Rattle.tables.specs.Pages.{pageNumbers}
 
 -- l dimensions whose rows of cuts are all there
 pub record CutRows (rows cuts sizes : List ℕ) (l : ℕ) : Type 0 where
@@ -29,13 +32,6 @@ module _ (rows cuts sizes : List ℕ) where
   pageItems zero S = []
   pageItems (suc i) [] = []
   pageItems (suc i) (E ∷ S) = pageItems i S ++ (sortItems i E ∷ [])
-
--- items as numbers, and a page's numbers
-unfoldable pub endNumbers : List (List Ends) → List ℕ
-endNumbers Es = flatMap numbers Es
-
-unfoldable pub pageNumbers : ℕ → List (List Ends) → List ℕ
-pageNumbers v Es = v ∷ map length Es ++ endNumbers Es
 
 -- the counts laid from a place on, the items from another
 unfoldable pub laidItems : List ℕ → ℕ → ℕ → List (List Ends) → List ℕ

@@ -6,7 +6,8 @@ ghost use lib.ListN.{length, getD};
 ghost use lib.Seq.{sets};
 ghost use Rattle.paving.specs.Grid.{Room, sizeOf, widthOf, chosen};
 ghost use Rattle.paving.specs.Sweep.{swept, groupsFrom, emitted, leftFrom, TakenOut};
-ghost use Rattle.paving_pages.specs.Pages.{CutRows, pageItems, endNumbers, laidItems, state, groupNumbers, groupsNumbers, putPage};
+ghost use Rattle.paving_pages.specs.Pages.{CutRows, pageItems, laidItems, state, groupNumbers, groupsNumbers, putPage};
+ghost use Rattle.tables.specs.Items.{endNumbers};
 
 // Appends the items of the marked set, sort after sort, and puts how many each sort has from another place on.
 fn put_sorts(

@@ -26,9 +26,8 @@ use Rattle.definition.proofs.FoldBox.{bounds-proper, lawful-within}
 use Rattle.definition.proofs.Lawful.{Lawful}
 use Rattle.paving.specs.Grid.{axes}
 use Rattle.paving.proofs.Points.{blocks, coordinatesOf, Rising, fills, points, Shows}
-use Rattle.paving_update.specs.Update.{cutOf}
-use Rattle.paving_update.specs.Boxes.{Within, boxOf, startOf}
-use Rattle.paving_cuts.specs.Rules.{CutBy}
+use Rattle.tables.specs.Cuts.{cutOf, CutBy}
+use Rattle.tables.specs.Lists.{Within, boxOf, startOf}
 use Rattle.paving_points.proofs.Rows.{row-rises, row-marks, row-all}
 
 -- q is a point of the box p

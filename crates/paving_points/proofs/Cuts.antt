@@ -8,15 +8,17 @@ use native.Mathlib.Omega.{arith}
 use lib.ListN.{length, getD, take, length-append}
 use lib.Seq.{take-suc}
 use Rattle.laws.proofs.Lists.{All-map}
-use Rattle.definition.specs.Rule.{Rule}
+use Rattle.definition.specs.Rule.{Rule, noRule}
 use Rattle.definition.specs.Range.{ranges}
 use Rattle.definition.specs.Point.{Dimension, selector}
-use Rattle.paving_update.specs.Update.{rangePlaces}
-use Rattle.paving_update.specs.Boxes.{selectorOf}
+use Rattle.tables.specs.Sizes.{rangePlaces}
+use Rattle.tables.specs.Ranges.{selectorOf}
 use Rattle.paving_cuts.specs.Cuts.{Rowed, cutRows, Space}
-use Rattle.paving_cuts.specs.Rules.{CutBy, Roomy}
+use Rattle.paving_cuts.specs.Rules.{Roomy}
+use Rattle.tables.specs.Cuts.{CutBy}
 use Rattle.paving_cuts.proofs.ByRules.{cut-space, cut-next}
-use Rattle.paving_points.specs.Listed.{noRule, ruleAt}
+use Rattle.tables.specs.Rules.{ruleAt}
+use Rattle.paving_points.proofs.Boxes.{Bounded, cuts-rise}
 
 -- fewer rules have fewer ranges
 take-fewer : {A B : Type 0} (f : A → List B) (n : ℕ) (xs : List A) → length (flatMap f (take n xs)) ≤ length (flatMap f xs)
@@ -33,10 +35,11 @@ module _ (rows counts loaded : List ℕ) (room : ℕ) (rs : List Rule) (k : ℕ)
       (All-map (λ d h. omega (arith, take-fewer (λ r. ranges (d .bounds) (d .items r)) (suc k) rs)) ds wide)
 
   -- rule k can be cut at
-  pub rule-space : (places : ℕ) (sizes table : List ℕ) → CutBy rows sizes table (take k rs) ds → length ds * room ≤ places → room ≤ 65536
+  pub rule-space : (sizes table : List ℕ) → CutBy rows sizes table (take k rs) ds → Bounded (take k rs) ds → length ds * room ≤ length table → room ≤ 65536
       → length ds ≤ length rows → length ds ≤ length sizes → length ds ≤ length counts → length ds * rangePlaces ≤ length loaded
-      → ((i : ℕ) → i < length ds → getD counts i 0 * 2 ≤ rangePlaces) → Space places rows sizes counts loaded (length ds)
-  rule-space = cut-space rows counts loaded room (take k rs) (ruleAt rs k) ds e more placed
+      → ((i : ℕ) → i < length ds → getD counts i 0 * 2 ≤ rangePlaces) → Space table rows sizes counts loaded (length ds)
+  rule-space sizes table c b =
+      cut-space rows counts loaded room (take k rs) (ruleAt rs k) ds e more placed sizes table c (cuts-rise rows sizes table (take k rs) ds c b)
 
   -- and then the rows hold the cuts of a rule more
   pub rule-cut : (t : Rowed) → CutBy rows (t .sizes) (t .cuts) (take k rs) ds → length ds ≤ length (t .sizes) → length ds * room ≤ length (t .cuts)

@@ -28,11 +28,10 @@ use Rattle.definition.proofs.Lawful.{Lawful}
 use Rattle.paving.specs.Grid.{axes, grid}
 use Rattle.paving.specs.Sweep.{classesFrom, groupsFrom}
 use Rattle.paving.proofs.Points.{blocks, Rising, Classed, groups-points}
-use Rattle.paving_update.specs.Update.{cutOf}
-use Rattle.paving_update.specs.Boxes.{listOf, Within, boxOf, startOf}
-use Rattle.paving_cuts.specs.Rules.{CutBy}
-use Rattle.paving_points.specs.Paged.{intervalAt, runsOf, pageOf}
-use Rattle.paving_points.specs.Listed.{ruleAt, Listed}
+use Rattle.tables.specs.Cuts.{cutOf, CutBy, intervalAt}
+use Rattle.tables.specs.Lists.{listOf, Within, boxOf, startOf, Listed}
+use Rattle.paving_points.specs.Paged.{runsOf, pageOf}
+use Rattle.tables.specs.Rules.{ruleAt}
 use Rattle.paving_points.proofs.Boxes.{Under, boxes-shown, Bounded, lawful-bounded, cuts-rise, cuts-points, box-marks}
 
 -- ## Marked intervals, joined

@@ -13,17 +13,19 @@ use lib.Seq.{take-suc}
 use Rattle.laws.specs.Lists.{from, All}
 use Rattle.laws.proofs.Numbers.{first-at, first-none}
 use Rattle.grid.specs.Group.{somewhere}
-use Rattle.definition.specs.Rule.{Rule}
+use Rattle.definition.specs.Rule.{Rule, noRule}
 use Rattle.definition.specs.Point.{dimensions, points, selector, combinations, replaces, after, listFrom, listAt, tooLong, firstTooLong}
 use Rattle.definition.proofs.FoldBox.{list-marks}
 use Rattle.definition.proofs.Lawful.{Lawful}
 use Rattle.paving.specs.Grid.{Node}
-use Rattle.paving_update.specs.Update.{listPlaces, listLimit, countOf, leavesOf, Drawn, drawn, drawAll}
-use Rattle.paving_update.specs.Boxes.{listOf, afterNumber, Within, boxOf, startOf, selectorOf}
+use Rattle.paving_update.specs.Update.{leavesOf, Drawn, drawn, drawAll}
+use Rattle.tables.specs.Sizes.{listPlaces, listLimit}
+use Rattle.tables.specs.Ranges.{countOf, selectorOf}
+use Rattle.paving_update.specs.Boxes.{afterNumber}
+use Rattle.tables.specs.Lists.{listOf, Within, boxOf, startOf, Listed}
 use Rattle.paving_update.proofs.Meaning.{afterAt, update-rules, update-short, update-named, update-over, after-rules}
-use Rattle.paving_update.specs.Update.{cutOf}
-use Rattle.paving_cuts.specs.Rules.{CutBy}
-use Rattle.paving_points.specs.Listed.{noRule, ruleAt, Listed}
+use Rattle.tables.specs.Cuts.{cutOf, CutBy}
+use Rattle.tables.specs.Rules.{ruleAt}
 use Rattle.paving_points.proofs.Boxes.{Under, somewhere-points, Bounded, lawful-bounded, cuts-rise, cuts-points, box-marks}
 
 -- ## A rule more, at a point

@@ -14,9 +14,7 @@ use Rattle.grid.specs.Cut.{Range, coordinates, cuts, between, intervals}
 use Rattle.grid.proofs.Interval.{block, Rising}
 use Rattle.grid.proofs.Number.{interval}
 use Rattle.grid.proofs.Cut.{Inside, Marks, intervals-rise, intervals-all, intervals-marks}
-use Rattle.paving_update.specs.Update.{cutOf}
-use Rattle.paving_cuts.specs.Cuts.{stretch, rowOf}
-use Rattle.paving_points.specs.Paged.{intervalAt}
+use Rattle.tables.specs.Cuts.{cutOf, stretch, dimensionCuts, intervalAt}
 
 -- ## Intervals by number
 rising-each : (lo : ℕ) (D : List Range) → Rising lo D → All (λ i. i .0 < i .1) D
@@ -36,13 +34,13 @@ shifted f g p s (suc n) h = let e : suc (p + s) ≡ p + suc s = omega arith in a
 
 -- ## A row
 module _ (rows sizes table : List ℕ) (i : ℕ) (b : Range) (proper : b .0 < b .1) (R : List Range) (inside : All (Inside b) R)
-    (row : rowOf rows sizes table i ≡ cuts b R) where
+    (row : dimensionCuts rows sizes table i ≡ cuts b R) where
   -- interval x of the row
   abbrev at-row : ℕ → Range
   at-row = intervalAt (cutOf rows table i)
 
   row-intervals : map at-row (from 0 (getD sizes i 0)) ≡ intervals b R
-  unfolding intervals rowOf stretch cutOf
+  unfolding intervals dimensionCuts stretch cutOf
   row-intervals =
       let r = getD rows i 0 in
       let n = getD sizes i 0 in

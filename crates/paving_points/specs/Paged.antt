@@ -6,10 +6,7 @@ use Rattle.grid.specs.Group.{Set, Group}
 use Rattle.grid.specs.Cut.{Range, joined}
 use Rattle.definition.specs.Day.{Day}
 use Rattle.definition.specs.Group.{Page}
-
--- interval x between the cuts of a dimension
-abbrev pub intervalAt : (ℕ → ℕ) → ℕ → Range
-intervalAt cut x = (cut x, cut (suc x))
+use Rattle.tables.specs.Cuts.{intervalAt}
 
 -- the marked intervals of each dimension, those that touch joined
 unfoldable pub runsOf : (ℕ → ℕ → ℕ) → ℕ → Set ℕ → List (List Range)

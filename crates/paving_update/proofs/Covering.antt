@@ -14,8 +14,10 @@ use Rattle.laws.specs.Lists.{from, count, sum, Mem}
 use Rattle.grid.specs.Cut.{Range, holds}
 use Rattle.paving.proofs.Emptying.{number-eq}
 use Rattle.definition.specs.Point.{combinations}
-use Rattle.paving_update.specs.Update.{cutOf, rangeOf, covered, overColumns, overRanges, leaves}
-use Rattle.paving_update.specs.Boxes.{Within, boxOf, startOf, selectorOf}
+use Rattle.paving_update.specs.Update.{covered, overColumns, overRanges, leaves}
+use Rattle.tables.specs.Cuts.{cutOf}
+use Rattle.tables.specs.Ranges.{rangeOf, selectorOf}
+use Rattle.tables.specs.Lists.{Within, boxOf, startOf}
 
 -- ## Counts and sums
 count-append : (t : ℕ → Bool) (xs ys : List ℕ) → count t (xs ++ ys) ≡ count t xs + count t ys

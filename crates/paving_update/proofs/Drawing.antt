@@ -7,20 +7,18 @@ use mathlib.Core.Logic.{inl, inr}
 use Prim.Native.Nat.{ℕ, suc, _+_, _*_, _≤_, _<_}
 use native.Mathlib.Omega.{arith}
 use lib.Dec.{eqb, ltb}
-use lib.ListN.{length, getD, set, replicate, length-set, length-append, length-map, length-replicate}
+use lib.ListN.{length, getD, set, replicate, length-set, length-append, length-replicate}
 use lib.Seq.{getD-set-same, getD-set-other}
 use borrow.Author.Tests.{ltb-true, ltb-false, eqb-true, eqb-false, eq-eqb, ne-eqb}
 use Rattle.laws.specs.Lists.{from, count, Mem}
-use Rattle.laws.proofs.Numbers.{length-from, from-append, map-from}
-use Rattle.paving_update.specs.Update.{listPlaces, listLimit, Drawn, drawn, drawOne, drawAll}
-use Rattle.paving_update.specs.Boxes.{listOf, Short, afterNumber}
+use Rattle.laws.proofs.Numbers.{from-append, map-from}
+use Rattle.paving_update.specs.Update.{Drawn, drawn, drawOne, drawAll}
+use Rattle.tables.specs.Sizes.{listPlaces, listLimit}
+use Rattle.paving_update.specs.Boxes.{afterNumber}
+use Rattle.tables.specs.Lists.{listOf, Short}
+use Rattle.tables.proofs.Lists.{list-length}
 
 -- ## A box's list
-pub list-length : (lists : List ℕ) (node : ℕ) → length (listOf lists node) ≡ getD lists (node * listPlaces) 0
-unfolding listOf
-list-length lists node =
-    length-map (from 0 (getD lists (node * listPlaces) 0)) (λ k. getD lists (node * listPlaces + 1 + k) 0) ∙ length-from 0 (getD lists (node * listPlaces) 0)
-
 -- a rule written as the entry w of a node, at its place, and n as the node's count
 module _ (lists : List ℕ) (rule node w n place : ℕ) (room : node * listPlaces + listPlaces ≤ length lists) (fits : w < listLimit)
     (p : place ≡ node * listPlaces + 1 + w) where

@@ -1,4 +1,3 @@
-pub mod Narrowing
 pub mod Walk
 pub mod Run
 pub mod Covering

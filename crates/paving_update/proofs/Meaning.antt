@@ -16,11 +16,15 @@ use Rattle.paving.specs.Grid.{Node, axes}
 use Rattle.paving.proofs.Room.{node-in, node-child}
 use Rattle.definition.specs.Rule.{Rule}
 use Rattle.definition.specs.Point.{combinations, replaces, after}
-use Rattle.paving_update.specs.Update.{listPlaces, listLimit, countOf, leaves, leavesOf, Drawn, drawn, drawAll}
-use Rattle.paving_update.specs.Boxes.{listOf, Short, afterNumber, Within, boxOf, startOf, selectorOf}
+use Rattle.paving_update.specs.Update.{leaves, leavesOf, Drawn, drawn, drawAll}
+use Rattle.tables.specs.Sizes.{listPlaces, listLimit}
+use Rattle.tables.specs.Ranges.{countOf, selectorOf}
+use Rattle.paving_update.specs.Boxes.{afterNumber}
+use Rattle.tables.specs.Lists.{listOf, Short, Within, boxOf, startOf}
 use Rattle.paving_update.proofs.Walk.{all-ranges}
 use Rattle.paving_update.proofs.Covering.{covered-times, leaf-box}
-use Rattle.paving_update.proofs.Drawing.{list-length, drawn-all, full-all}
+use Rattle.paving_update.proofs.Drawing.{drawn-all, full-all}
+use Rattle.tables.proofs.Lists.{list-length}
 
 -- ## Some box
 any-from : (t : ℕ → Bool) (s n : ℕ) → anyOf t (from s n) ≡ true → (x : ℕ) × (x < s + n) × (t x ≡ true)

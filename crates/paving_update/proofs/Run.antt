@@ -10,9 +10,10 @@ use borrow.Author.Tests.{lt-ltb, le-ltb}
 use Rattle.laws.specs.Lists.{from}
 use Rattle.paving.specs.Grid.{sizeOf, Node}
 use Rattle.paving.proofs.Room.{from-cons, from-end}
-use Rattle.paving_update.specs.Search.{Rising, PlaceOf}
-use Rattle.paving_update.specs.Update.{rangePlaces, listPlaces, covered, overColumns, overRanges, leaves, leavesOf, Drawn, drawOne, drawAll}
-use Rattle.paving_update.proofs.Narrowing.{rising-le}
+use Rattle.tables.specs.Search.{Rising, PlaceOf}
+use Rattle.paving_update.specs.Update.{covered, overColumns, overRanges, leaves, leavesOf, Drawn, drawOne, drawAll}
+use Rattle.tables.specs.Sizes.{rangePlaces, listPlaces}
+use Rattle.tables.proofs.Narrowing.{rising-le}
 use Rattle.paving_update.proofs.Walk.{covers-yes, covers-no, columns-skip, draw-append}
 
 -- ## Boxes side by side

@@ -10,7 +10,12 @@ use lib.ListN.{length, getD, set}
 use borrow.Author.Tests.{lt-ltb, le-ltb, le-leb, lt-leb, eqb-true, eqb-false}
 use Rattle.paving.specs.Grid.{Node}
 use Rattle.paving.proofs.Room.{from-cons, from-end, node-in}
-use Rattle.paving_update.specs.Update.{rangePlaces, listPlaces, listLimit, Lawful, cutOf, rangeOf, covered, NextCovered, countOf, overColumns, overRanges, leaves, leavesOf, Drawn, drawn, drawOne, drawAll}
+use Rattle.paving_update.specs.Update.{Lawful, covered, NextCovered, overColumns, overRanges, leaves, leavesOf, Drawn, drawn, drawOne, drawAll}
+use Rattle.tables.specs.Sizes.{rangePlaces, listPlaces, listLimit}
+use Rattle.tables.specs.Cuts.{cutOf}
+use Rattle.tables.specs.Ranges.{rangeOf, countOf}
+use Rattle.tables.specs.Search.{Rising}
+use Rattle.tables.proofs.Cuts.{row-rising}
 
 -- ## Tables
 pub count-none : (counts : List ℕ) (l : ℕ) → l ≡ 0 → 0 ≡ countOf counts l
@@ -35,6 +40,10 @@ module _ (rows cuts ranges : List ℕ) (i r x row : ℕ) (e : row ≡ getD rows 
 pub columns-in : (sizes counts rows cuts ranges : List ℕ) → Lawful sizes counts rows cuts ranges → (i width r x : ℕ) → i < length sizes → width ≡ getD sizes i 0 → r < getD counts i 0 → x ≤ width
     → (i < length rows) × (getD rows i 0 + width < length cuts) × (i * rangePlaces + 2 * r + 1 < length ranges) × (x ≤ width)
 columns-in sizes counts rows cuts ranges h i width r x l e k o = (omega (arith, h .all-rows), omega (arith, h .row i l), omega (arith, h .all-ranges, h .count i l), o)
+
+-- the starts of the last dimension's intervals rise
+pub last-rising : (sizes counts rows cuts ranges : List ℕ) → Lawful sizes counts rows cuts ranges → 0 < length sizes → Rising cuts (getD rows 0 0) (getD rows 0 0 + getD sizes 0 0)
+last-rising sizes counts rows cuts ranges h l k a b = row-rising rows sizes cuts (length sizes) (h .rising) 0 l k a (omega arith)
 
 -- one column more that is passed
 pub passed-more : (f : ℕ → Bool) (x y : ℕ) → ((k : ℕ) → x ≤ k → k < y → f k ≡ false) → f y ≡ false → (k : ℕ) → x ≤ k → k < y + 1 → f k ≡ false

@@ -1,3 +1,2 @@
-pub mod Search
 pub mod Update
 pub mod Boxes

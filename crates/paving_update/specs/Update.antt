@@ -7,41 +7,19 @@ use Prim.Native.Nat.{ℕ, zero, suc, _+_, _-_, _*_, _≤_, _<_}
 use lib.Dec.{ltb}
 use lib.ListN.{length, getD, set}
 use Rattle.laws.specs.Lists.{from}
-use Rattle.grid.specs.Cut.{Range, holds}
-use Rattle.definition.specs.Sheet.{limits1}
-use Rattle.paving_update.specs.Search.{Rising}
+use Rattle.grid.specs.Cut.{holds}
+use Rattle.tables.specs.Sizes.{listLimit, listPlaces, rangePlaces}
+use Rattle.tables.specs.Cuts.{cutOf, RowsRise}
+use Rattle.tables.specs.Ranges.{rangeOf}
 
--- ## Tables
--- how many rules a list has at most
-abbrev pub listLimit : ℕ
-listLimit = limits1 .entries
-
--- the places of a box among the lists: its count, then its rules
-abbrev pub listPlaces : ℕ
-listPlaces = listLimit + 1
-
--- the places of a dimension in the table of ranges: an item gives two at most, each with its start and its end
-abbrev pub rangePlaces : ℕ
-rangePlaces = 4 * limits1 .items
-
--- Tables that have a row for each dimension: of its cuts, one more than its size, from a place on that `rows` names, and of its ranges.
+-- Tables that have a row for each dimension, of its cuts, which rise, and of a rule's ranges.
 pub record Lawful (sizes counts rows cuts ranges : List ℕ) : Type 0 where
   pub all-counts : length sizes ≤ length counts
   pub all-rows : length sizes ≤ length rows
   pub all-ranges : length sizes * rangePlaces ≤ length ranges
   pub row : (i : ℕ) → i < length sizes → getD rows i 0 + getD sizes i 0 < length cuts
   pub count : (i : ℕ) → i < length sizes → getD counts i 0 * 2 ≤ rangePlaces
-
--- the cuts of a dimension at which its columns start rise
-abbrev pub RisingRow : List ℕ → List ℕ → List ℕ → ℕ → Type 0
-RisingRow sizes rows cuts i = Rising cuts (getD rows i 0) (getD rows i 0 + getD sizes i 0)
-
--- a cut, a range
-unfoldable pub cutOf : List ℕ → List ℕ → ℕ → ℕ → ℕ
-cutOf rows cuts i x = getD cuts (getD rows i 0 + x) 0
-
-unfoldable pub rangeOf : List ℕ → ℕ → ℕ → Range
-rangeOf ranges i r = (getD ranges (i * rangePlaces + 2 * r) 0, getD ranges (i * rangePlaces + 2 * r + 1) 0)
+  pub rising : RowsRise rows sizes cuts (length sizes)
 
 -- does a range cover a column? It does where the column's start lies in it: a range's ends are cuts
 unfoldable pub covered : List ℕ → List ℕ → List ℕ → ℕ → ℕ → ℕ → Bool
@@ -53,11 +31,6 @@ pub record NextCovered (rows cuts ranges : List ℕ) (i r width x y : ℕ) : Typ
   pub to-end : y ≤ width
   pub passed : (k : ℕ) → x ≤ k → k < y → covered rows cuts ranges i r k ≡ false
   pub reached : y < width → covered rows cuts ranges i r y ≡ true
-
--- how many ranges the first of l dimensions has
-unfoldable pub countOf : List ℕ → ℕ → ℕ
-countOf counts zero = 0
-countOf counts (suc i) = getD counts i 0
 
 -- ## The covered boxes, with repeats
 module _ (sizes counts rows cuts ranges : List ℕ) where

@@ -1,13 +1,13 @@
 // The last dimension: a rule at a box, and at the boxes that ranges cover. Where the cuts rise, those of a range stand side by side.
+use tables::LIST_PLACES;
+use tables::search::place_in;
 ghost use mathlib.Core.Path.{_≡_};
-ghost use mathlib.Core.Bool.{true};
 ghost use Prim.Native.Nat.{_+_, _-_, _*_, _≤_, _<_, _/_};
 ghost use lib.ListN.{length, getD};
 ghost use Rattle.laws.specs.Lists.{from};
 ghost use Rattle.paving.specs.Grid.{Node};
-ghost use Rattle.paving_update.specs.Update.{listPlaces, Lawful, RisingRow, leaves, leavesOf, overColumns, drawn, drawOne, drawAll};
-
-const LIST_PLACES: usize = 33;
+ghost use Rattle.paving_update.specs.Update.{Lawful, leaves, leavesOf, overColumns, drawn, drawOne, drawAll};
+ghost use Rattle.tables.specs.Sizes.{listPlaces};
 
 const LIST_LIMIT: u16 = 32;
 
@@ -68,7 +68,6 @@ fn draw_range(
 ) -> bool
     requires { ⌜ Lawful (now sizes) (now counts) (now rows) (now cuts) (now ranges) ⌝ }
     requires { ⌜ Node (length (now lists) / listPlaces) (now sizes) 1 node ⌝ }
-    requires { ⌜ RisingRow (now sizes) (now rows) (now cuts) 0 ⌝ }
     requires { ⌜ range < getD (now counts) 0 0 ⌝ }
     ensures { λ r. ⌜ drawn (now (lists .exit)) r
         ≡ drawAll rule replaces (drawn (now (lists .entry)) over) (overColumns (now (sizes .entry)) (now (counts .entry)) (now (rows .entry)) (now (cuts .entry)) (now (ranges .entry)) 0
@@ -76,8 +75,8 @@ fn draw_range(
 {
     let width = paving::wide(sizes[0]);
     let first = paving::wide(rows[0]);
-    let begin = crate::search::place_in(cuts, first, first + width, ranges[2 * range]);
-    let end = crate::search::place_in(cuts, begin, first + width, ranges[2 * range + 1]);
+    let begin = place_in(cuts, first, first + width, ranges[2 * range]);
+    let end = place_in(cuts, begin, first + width, ranges[2 * range + 1]);
     let base = node * width;
     draw_boxes(
         lists,
@@ -105,7 +104,6 @@ pub fn draw_ranges(
 ) -> bool
     requires { ⌜ Lawful (now sizes) (now counts) (now rows) (now cuts) (now ranges) ⌝ }
     requires { ⌜ Node (length (now lists) / listPlaces) (now sizes) 1 node ⌝ }
-    requires { ⌜ RisingRow (now sizes) (now rows) (now cuts) 0 ⌝ }
     requires { ⌜ rest ≤ getD (now counts) 0 0 ⌝ }
     ensures { λ r. ⌜ drawn (now (lists .exit)) r
         ≡ drawAll rule replaces (drawn (now (lists .entry)) over) (leavesOf (now (sizes .entry)) (now (counts .entry)) (now (rows .entry)) (now (cuts .entry)) (now (ranges .entry)) 1 node rest) ⌝ }
@@ -130,16 +128,4 @@ pub fn draw_ranges(
         range += 1;
     }
     now
-}
-
-// Whether one dimension is left and its cuts rise.
-pub fn last_rises(sizes: &[u16], rows: &[u16], cuts: &[u16], left: usize) -> bool
-    requires { ⌜ (left ≤ length (now sizes)) × (length (now sizes) ≤ length (now rows)) × (left ≡ 1 → getD (now rows) 0 0 + getD (now sizes) 0 0 < length (now cuts)) ⌝ }
-    ensures { λ r. ⌜ (r ≡ true → (left ≡ 1) × RisingRow (now (sizes .entry)) (now (rows .entry)) (now (cuts .entry)) 0) ⌝ }
-{
-    if left == 1 {
-        let first = paving::wide(rows[0]);
-        return crate::search::rises(cuts, first, first + paving::wide(sizes[0]));
-    }
-    false
 }

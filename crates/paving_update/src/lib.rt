@@ -1,15 +1,15 @@
 // Update: a rule drawn over the boxes that its ranges cover, once for each combination of one covering range per dimension.
 // The walk over a rule's ranges and the walk into a node's columns call each other; a box's list is its count and its rules' numbers.
 mod last;
-pub mod search;
 
+use tables::RANGE_PLACES;
 ghost use mathlib.Core.Path.{_≡_};
 ghost use Prim.Native.Nat.{suc, _+_, _-_, _*_, _≤_, _<_, _/_};
 ghost use lib.ListN.{length, getD};
 ghost use Rattle.paving.specs.Grid.{Node};
-ghost use Rattle.paving_update.specs.Update.{rangePlaces, listPlaces, Lawful, covered, NextCovered, countOf, leaves, leavesOf, overColumns, drawn, drawAll};
-
-const RANGE_PLACES: usize = 64;
+ghost use Rattle.paving_update.specs.Update.{Lawful, covered, NextCovered, leaves, leavesOf, overColumns, drawn, drawAll};
+ghost use Rattle.tables.specs.Sizes.{rangePlaces, listPlaces};
+ghost use Rattle.tables.specs.Ranges.{countOf};
 
 // Whether a range covers a column.
 fn covers(
@@ -93,7 +93,7 @@ pub fn update(
     if rest == 0 {
         return over;
     }
-    if last::last_rises(sizes, rows, cuts, left) {
+    if left == 1 {
         return last::draw_ranges(
             lists,
             sizes,

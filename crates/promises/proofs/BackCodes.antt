@@ -15,7 +15,8 @@ use Rattle.promises.specs.Counts.{BackWrites, BackNothing}
 use Rattle.promises.proofs.Entries.{Entry, entry-codes, entry-writes, entry-nothing}
 
 module _ (form : Form) (limits : Limits) (room : ℕ) (sheet : List ℕ) where
-  back : Entry form limits sheet room (writeBack form limits room sheet) (Accepted form limits sheet) (encode form limits) (WritingRows room (Accepted form limits sheet) (encode form limits))
+  back : Entry form limits sheet room (writeBack form limits room sheet) (Accepted form limits sheet) (encode form limits)
+      (WritingRows room (Accepted form limits sheet) (encode form limits))
   unfolding writeBack
   back = record {
     refused-answer = λ c p e. rw (e, writeBack);

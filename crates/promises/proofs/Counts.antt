@@ -1,14 +1,13 @@
 -- DEMAND 2: what an accepted fold counts and wrote, and that a refused one counted and wrote nothing. Rests on the conditions of the codes.
 -- Assumes nothing.
 use mathlib.Core.Path.{_≡_, refl, sym, ap, _∙_, subst}
-use mathlib.Core.List.{List, [], _∷_, _++_}
-use mathlib.Core.Bool.{Bool, true, false}
-use Prim.Native.Nat.{ℕ, suc, _+_, _≤_}
-use native.Mathlib.Omega.{arith}
+use mathlib.Core.List.{List, _++_}
+use Prim.Native.Nat.{ℕ, _+_, _≤_}
 use lib.ListN.{length}
 use Rattle.definition.specs.Rule.{Rule}
 use Rattle.definition.specs.Sheet.{Form, Limits, encode}
-use Rattle.definition.specs.Stop.{stops, drained, left}
+use Rattle.definition.specs.Stop.{drained, left}
+use Rattle.definition.proofs.Drained.{left-behind}
 use Rattle.definition.specs.Group.{folded}
 use Rattle.definition.specs.Fold.{Folded, fold}
 use Rattle.promises.specs.Conditions.{Accepted}
@@ -16,16 +15,6 @@ use Rattle.promises.specs.Codes.{Done}
 use Rattle.promises.specs.Counts.{Counted, Nothing, AcceptedCounts, RefusedNothing, SameFolded}
 use Rattle.promises.proofs.Reading.{accepted-once}
 use Rattle.promises.proofs.FoldCodes.{done-answer, refused-whole, fold-codes}
-
--- every rule is drained or left
-parts-count : (rs : List Rule) → length (drained rs) + length (left rs) ≡ length rs
-unfolding drained left
-parts-count [] = omega arith
-parts-count (r ∷ rs) = go (stops r) refl (parts-count rs)
-  where
-    go : (b : Bool) → stops r ≡ b → length (drained rs) + length (left rs) ≡ length rs → length (drained (r ∷ rs)) + length (left (r ∷ rs)) ≡ suc (length rs)
-    go true e ih = rw (e, drained, left) (omega arith)
-    go false e ih = rw (e, drained, left) (omega (arith, ih))
 
 module _ (form : Form) (limits : Limits) (room : ℕ) (sheet : List ℕ) where
   abbrev answer : Folded
@@ -36,7 +25,7 @@ module _ (form : Form) (limits : Limits) (room : ℕ) (sheet : List ℕ) where
   done-counted p d = subst (Counted form limits (d .0)) (sym (done-answer form limits room sheet p d)) (record {
     drained-counted = refl;
     left-counted = refl;
-    all-counted = parts-count (d .0);
+    all-counted = left-behind (d .0) .1;
     emitted-counted = refl;
     written = refl;
     bytes-counted = refl;
@@ -70,7 +59,8 @@ same-folded form limits room sheet place other e g rs qs a b same =
       second-written = d .written ∙ ap (λ ds. encode form limits (folded ds ++ left qs)) (sym same);
     }
   where
-    counted : (room : ℕ) (sheet : List ℕ) → (fold form limits room sheet) .code ≡ 0 → (rs : List Rule) → Accepted form limits sheet rs → Counted form limits rs (fold form limits room sheet)
+    counted : (room : ℕ) (sheet : List ℕ) → (fold form limits room sheet) .code ≡ 0 → (rs : List Rule) → Accepted form limits sheet rs
+        → Counted form limits rs (fold form limits room sheet)
     counted room sheet e rs a =
         let k = accepted-counts form limits room sheet e in
         subst (λ qs. Counted form limits qs (fold form limits room sheet)) (accepted-once form limits sheet (k .0) rs (k .1) a) (k .2)

@@ -1,18 +1,19 @@
 -- HOW DRAINED RULES ARE JUDGED: 5 where there are too many boxes, 6 where some list is too long, else fine. Rests on which list is too long.
 -- Assumes nothing.
-use mathlib.Core.Path.{_≡_, refl, sym, ap}
+use mathlib.Core.Path.{_≡_, refl, sym, ap, _∙_}
 use mathlib.Core.List.{List}
 use mathlib.Core.Logic.{_⊎_, inl, inr}
 use mathlib.Core.Bool.{Bool, true, false}
 use Prim.Native.Nat.{ℕ, _≤_, _<_}
 use lib.Dec.{ltb}
-use borrow.Author.Tests.{ltb-true, ltb-false, lt-ltb, le-ltb}
+use borrow.Author.Tests.{ltb-true, ltb-false}
 use Rattle.definition.specs.Field.{manyBoxes, longList}
 use Rattle.definition.specs.Rule.{Rule}
 use Rattle.definition.specs.Sheet.{Limits}
 use Rattle.definition.specs.Point.{dimensions}
 use Rattle.definition.specs.Box.{boxCount}
-use Rattle.definition.specs.Fold.{fine, over, judged, drain}
+use Rattle.definition.specs.Fold.{fine, over, drain}
+use Rattle.definition.proofs.Drained as judged
 use Rattle.promises.specs.Conditions.{FirstLong, AllShort}
 use Rattle.promises.proofs.TooLong.{LongCases, long-cases, first-long, none-long}
 
@@ -21,16 +22,13 @@ module _ (limits : Limits) (ds : List Rule) where
   boxes = boxCount dimensions ds
 
   pub drain-many : (p : ℕ) → limits .boxes < boxes → p ≡ boxes → drain limits ds ≡ over manyBoxes p
-  unfolding drain judged
-  drain-many p l e = rw (lt-ltb (limits .boxes) boxes l, judged) (ap (over manyBoxes) (sym e))
+  drain-many p l e = judged.drain-many limits ds l ∙ ap (over manyBoxes) (sym e)
 
   pub drain-long : (k : ℕ) → boxes ≤ limits .boxes → FirstLong (limits .entries) ds k → drain limits ds ≡ over longList k
-  unfolding drain judged
-  drain-long k l h = rw (le-ltb (limits .boxes) boxes l, first-long (limits .entries) ds k h, judged)
+  drain-long k l h = judged.drain-long limits ds l k (first-long (limits .entries) ds k h)
 
   pub drain-fine : boxes ≤ limits .boxes → AllShort (limits .entries) ds → drain limits ds ≡ fine
-  unfolding drain judged
-  drain-fine l h = rw (le-ltb (limits .boxes) boxes l, none-long (limits .entries) ds h, judged)
+  drain-fine l h = judged.drain-fine limits ds l (none-long (limits .entries) ds h)
 
   -- one of the three
   abbrev pub DrainCases : Type 0

@@ -40,7 +40,8 @@ set-cases (b ∷ bs) q = go (eqb b 0) refl (set-cases bs (suc q))
       where
         at : q ≡ q + 0
         at = omega arith
-    go true e (inl k) = inl (suc (k .0), record { within = omega (arith, k .1 .within); set = k .1 .set; zeros = zeros }, rw (e, firstSet) (k .2 ∙ ap some next))
+    go true e (inl k) =
+        inl (suc (k .0), record { within = omega (arith, k .1 .within); set = k .1 .set; zeros = zeros }, rw (e, firstSet) (k .2 ∙ ap some next))
       where
         next : suc q + k .0 ≡ q + suc (k .0)
         next = omega arith
@@ -76,7 +77,8 @@ module _ {A : Type 0} (s : List ℕ) (x : A) (q : ℕ) where
   unfolding ended
   ended-cases = go (set-cases padding q)
     where
-      follow : firstSet padding q ≡ none → (b : Bool) → ltb end (length s) ≡ b → ((end < length s) × (ended s x q ≡ refused badEnd end)) ⊎ ((length s ≤ end) × (ended s x q ≡ got x q))
+      follow : firstSet padding q ≡ none → (b : Bool) → ltb end (length s) ≡ b
+          → ((end < length s) × (ended s x q ≡ refused badEnd end)) ⊎ ((length s ≤ end) × (ended s x q ≡ got x q))
       follow f true e = inl (ltb-true end (length s) e, rw (f, e, ended))
       follow f false e = inr (ltb-false end (length s) e, rw (f, e, ended))
 

@@ -20,17 +20,20 @@ use Rattle.promises.specs.Codes.{Exactly}
 use Rattle.promises.proofs.Reading.{row, reading-rows, reading-told}
 
 -- an entry's answer, the rules that are ready to be written, what is written of them, and the rows of its table behind those of reading
-pub record Entry (form : Form) (limits : Limits) (sheet : List ℕ) (room : ℕ) (answer : Written) (Ready : List Rule → Type 0) (write : List Rule → List ℕ) (Rows : ℕ → ℕ → Type 0) : Type 0 where
+pub record Entry (form : Form) (limits : Limits) (sheet : List ℕ) (room : ℕ) (answer : Written) (Ready : List Rule → Type 0) (write : List Rule → List ℕ)
+    (Rows : ℕ → ℕ → Type 0) : Type 0 where
   pub refused-answer : (c p : ℕ) → decode form limits sheet ≡ refused c p → answer ≡ unwritten c p
   pub ready-answer : (rs : List Rule) → Ready rs → answer ≡ writtenInto room (write rs)
   -- accepted rules are refused by a row of the entry's own, or ready; and so is each row
-  pub accepted-cases : (rs : List Rule) → Accepted form limits sheet rs → ((c : ℕ) × (p : ℕ) × ReadingRows form limits sheet c p (Rows c p) × (answer ≡ unwritten c p)) ⊎ Ready rs
+  pub accepted-cases : (rs : List Rule) → Accepted form limits sheet rs
+      → ((c : ℕ) × (p : ℕ) × ReadingRows form limits sheet c p (Rows c p) × (answer ≡ unwritten c p)) ⊎ Ready rs
   pub row-cases : (c p : ℕ) → Rows c p → (answer ≡ unwritten c p) ⊎ WritingRows room Ready write c p
   -- no row of its own has the code 7 or 0
   pub room-row : (p : ℕ) → WritingRows room Ready write noRoom p → Rows noRoom p
   pub done-row : (p : ℕ) → Exactly (Rows 0 p) (WritingRows room Ready write 0 p)
 
-module _ {form : Form} {limits : Limits} {sheet : List ℕ} {room : ℕ} {answer : Written} {Ready : List Rule → Type 0} {write : List Rule → List ℕ} {Rows : ℕ → ℕ → Type 0}
+module _ {form : Form} {limits : Limits} {sheet : List ℕ} {room : ℕ} {answer : Written} {Ready : List Rule → Type 0} {write : List Rule
+    → List ℕ} {Rows : ℕ → ℕ → Type 0}
     (entry : Entry form limits sheet room answer Ready write Rows) where
   abbrev Table : ℕ → ℕ → Type 0
   Table c p = ReadingRows form limits sheet c p (Rows c p)
@@ -72,7 +75,9 @@ module _ {form : Form} {limits : Limits} {sheet : List ℕ} {room : ℕ} {answer
       fits rs a true t =
           let l = ltb-true room (length (write rs)) t in
           tell _ (entry .ready-answer rs a ∙ written-not room (write rs) l) (entry .room-row _ (rs, a, l, refl))
-      fits rs a false t = let d : Done 0 = (rs, a, ltb-false room (length (write rs)) t, refl) in tell (written rs) (done-answer 0 d) ((entry .done-row 0) .always d)
+      fits rs a false t =
+          let d : Done 0 = (rs, a, ltb-false room (length (write rs)) t, refl) in
+          tell (written rs) (done-answer 0 d) ((entry .done-row 0) .always d)
 
       ready : (rs : List Rule) → ((c : ℕ) × (p : ℕ) × Table c p × (answer ≡ unwritten c p)) ⊎ Ready rs → Table (answer .code) (answer .place)
       ready rs (inl k) = tell _ (k .3) (k .2)
@@ -88,7 +93,9 @@ module _ {form : Form} {limits : Limits} {sheet : List ℕ} {room : ℕ} {answer
 
   -- WHAT IS WRITTEN: what is to be written of the ready rules, or nothing
   pub entry-writes : answer .code ≡ 0 → (rs : List Rule) × Ready rs × (answer ≡ written rs)
-  entry-writes e = let d = (entry .done-row (answer .place)) .only ((entry-codes 0 (answer .place)) .only (e, refl)) in (d .0, d .1, done-answer (answer .place) d)
+  entry-writes e =
+      let d = (entry .done-row (answer .place)) .only ((entry-codes 0 (answer .place)) .only (e, refl)) in
+      (d .0, d .1, done-answer (answer .place) d)
 
   pub entry-nothing : (answer .code ≡ 0 → ⊥) → (answer .bytes ≡ 0) × (answer .result ≡ [])
   entry-nothing h = go (outcome (answer .code) (answer .place) told)

@@ -74,7 +74,8 @@ items-bounded b t proper =
         pick false e = rw (e, itemsOf) (ends-bounded b (b .0) (q ∷ rs) (omega arith) r h)
 
 -- ## Items that fit
-every-made : {A : Type 0} (make : Ends → A) (fits : A → Bool) (b : Range) → ((e : Ends) → Bounded b e → fits (make e) ≡ true) → (es : List Ends) → All (Bounded b) es
+every-made : {A : Type 0} (make : Ends → A) (fits : A → Bool) (b : Range) → ((e : Ends) → Bounded b e → fits (make e) ≡ true) → (es : List Ends)
+    → All (Bounded b) es
     → every fits (map make es) ≡ true
 every-made make fits b h es k = all-every fits (map make es) (All-image (λ x. fits x ≡ true) make es (All-map h es k))
 
@@ -102,12 +103,18 @@ weekday-fits e h = rw (within weekdayBounds (2 ^ 3) (e .0) (omega arith) (h .0),
 pub plain-fits : (r : Range) → ProperRun r → span .fits (plainSpan r) ≡ true
 unfolding span time timeOf repeatsLayout repeatsOf noBits tagged via _then_ field
 plain-fits r h =
-    rw (lt-ltb (r .0) 4096 (omega (arith, h .0, h .1)), le-leb (r .0) 2880 (omega (arith, h .0, h .1)), lt-ltb (r .1) 4096 (omega (arith, h .1)), le-leb (r .1) 2880 (omega (arith, h .1))) refl
+    rw (
+      lt-ltb (r .0) 4096 (omega (arith, h .0, h .1)),
+      le-leb (r .0) 2880 (omega (arith, h .0, h .1)),
+      lt-ltb (r .1) 4096 (omega (arith, h .1)),
+      le-leb (r .1) 2880 (omega (arith, h .1)),
+    ) refl
 
 -- ## Rules that fit
 module _ (form : Form) (limits : Limits) where
   -- the items of a rule that is laid over a set
-  pub laid-items : (S : Set ℕ) → Part points S → (o : Operator) (e : Entry) → every (span .fits) (e .1) ≡ true → ItemsFit form limits (laidOver dimensions (map runs S) (asRule o e))
+  pub laid-items : (S : Set ℕ) → Part points S → (o : Operator) (e : Entry) → every (span .fits) (e .1) ≡ true
+      → ItemsFit form limits (laidOver dimensions (map runs S) (asRule o e))
   unfolding laidOver
   laid-items [] k o e h = absurd k
   laid-items (D ∷ []) k o e h = absurd (k .1)
@@ -115,10 +122,14 @@ module _ (form : Form) (limits : Limits) where
   laid-items (D ∷ W ∷ M ∷ []) k o e h = absurd (k .1 .1 .1)
   laid-items (D ∷ W ∷ M ∷ Y ∷ Z ∷ S) k o e h = absurd (k .1 .1 .1 .1)
   laid-items (D ∷ W ∷ M ∷ Y ∷ []) k o e h = record {
-    years-fit = every-made _ (yearRange .fits) yearBounds year-fits (itemsOf yearBounds (runs Y)) (rw (k .1 .1 .1 .0 .1) (items-bounded yearBounds (k .1 .1 .1 .0 .0) (omega arith)));
-    monthdays-fit = every-made _ (monthdayRange .fits) monthBounds month-fits (itemsOf monthBounds (runs M)) (rw (k .1 .1 .0 .1) (items-bounded monthBounds (k .1 .1 .0 .0) (omega arith)));
-    weeks-fit = every-made _ (weekRange .fits) weekBounds week-fits (itemsOf weekBounds (runs W)) (rw (k .1 .0 .1) (items-bounded weekBounds (k .1 .0 .0) (omega arith)));
-    weekdays-fit = every-made _ (weekDayRange .fits) weekdayBounds weekday-fits (itemsOf weekdayBounds (runs D)) (rw (k .0 .1) (items-bounded weekdayBounds (k .0 .0) (omega arith)));
+    years-fit = every-made _ (yearRange .fits) yearBounds year-fits (itemsOf yearBounds (runs Y))
+        (rw (k .1 .1 .1 .0 .1) (items-bounded yearBounds (k .1 .1 .1 .0 .0) (omega arith)));
+    monthdays-fit = every-made _ (monthdayRange .fits) monthBounds month-fits (itemsOf monthBounds (runs M))
+        (rw (k .1 .1 .0 .1) (items-bounded monthBounds (k .1 .1 .0 .0) (omega arith)));
+    weeks-fit = every-made _ (weekRange .fits) weekBounds week-fits (itemsOf weekBounds (runs W))
+        (rw (k .1 .0 .1) (items-bounded weekBounds (k .1 .0 .0) (omega arith)));
+    weekdays-fit = every-made _ (weekDayRange .fits) weekdayBounds weekday-fits (itemsOf weekdayBounds (runs D))
+        (rw (k .0 .1) (items-bounded weekdayBounds (k .0 .0) (omega arith)));
     spans-fit = h;
   }
 
@@ -126,18 +137,23 @@ module _ (form : Form) (limits : Limits) where
   most = 2 ^ form .itemCount - 1
 
   count-fits : (n : ℕ) → n ≤ most → ltb n (2 ^ form .itemCount) && leb n most ≡ true
-  count-fits n l = both-and (ltb n (2 ^ form .itemCount)) (leb n most) (lt-ltb n (2 ^ form .itemCount) (omega (arith, l, pow-pos (form .itemCount)))) (le-leb n most l)
+  count-fits n l = both-and (ltb n (2 ^ form .itemCount)) (leb n most) (lt-ltb n (2 ^ form .itemCount) (omega (arith, l, pow-pos (form .itemCount))))
+      (le-leb n most l)
 
   -- a rule whose comment, counts and items fit
-  pub rule-fits : (r : Rule) → r .state .comment < 2 ^ form .comment → Sized most most r → ItemsFit form limits r → (rule form (widest form limits)) .fits r ≡ true
+  pub rule-fits : (r : Rule) → r .state .comment < 2 ^ form .comment → Sized most most r → ItemsFit form limits r
+      → (rule form (widest form limits)) .fits r ≡ true
   unfolding rule tagged head title counts body via _then_ several field
   rule-fits r c s i =
       both-and _ _
-      (both-and _ _ (both-and _ _ (operator-fits (r .operator)) (both-and _ _ (kind-fits (r .state .kind)) (both-and _ _ (lt-ltb (r .state .comment) (2 ^ form .comment) c) refl)))
+      (both-and _ _ (both-and _ _ (operator-fits (r .operator))
+      (both-and _ _ (kind-fits (r .state .kind)) (both-and _ _ (lt-ltb (r .state .comment) (2 ^ form .comment) c) refl)))
       (both-and _ _ (count-fits (length (r .years)) (s .years-few)) (both-and _ _ (count-fits (length (r .monthdays)) (s .monthdays-few))
-      (both-and _ _ (count-fits (length (r .weeks)) (s .weeks-few)) (both-and _ _ (count-fits (length (r .weekdays)) (s .weekdays-few)) (count-fits (length (r .spans)) (s .spans-few)))))))
+      (both-and _ _ (count-fits (length (r .weeks)) (s .weeks-few))
+      (both-and _ _ (count-fits (length (r .weekdays)) (s .weekdays-few)) (count-fits (length (r .spans)) (s .spans-few)))))))
       (both-and _ _ (all (yearRange .fits) (r .years) (i .years-fit)) (both-and _ _ (all (monthdayRange .fits) (r .monthdays) (i .monthdays-fit))
-      (both-and _ _ (all (weekRange .fits) (r .weeks) (i .weeks-fit)) (both-and _ _ (all (weekDayRange .fits) (r .weekdays) (i .weekdays-fit)) (all (span .fits) (r .spans) (i .spans-fit))))))
+      (both-and _ _ (all (weekRange .fits) (r .weeks) (i .weeks-fit))
+      (both-and _ _ (all (weekDayRange .fits) (r .weekdays) (i .weekdays-fit)) (all (span .fits) (r .spans) (i .spans-fit))))))
     where
       operator-fits : (o : Operator) → ltb (operatorNumber o) (2 ^ 2) && ltb (operatorNumber o) 3 ≡ true
       operator-fits Normal = refl

@@ -17,6 +17,7 @@ use Rattle.definition.specs.Point.{dimensions}
 use Rattle.definition.specs.Box.{boxCount}
 use Rattle.definition.specs.Group.{folded}
 use Rattle.definition.specs.Fold.{Folded, refusal, Drained, fine, over, drain, fitted, foldRules, fold}
+use Rattle.definition.proofs.FoldCases.{fold-refused, fold-judged}
 use Rattle.promises.specs.Conditions.{Accepted, ManyBoxes, LongList, Foldable}
 use Rattle.promises.specs.Codes.{result, NoRoom, Done, FoldRows, FoldAnswers, FoldCodes}
 use Rattle.promises.proofs.Reading.{row, reading-rows, reading-told}
@@ -28,14 +29,12 @@ module _ (form : Form) (limits : Limits) (room : ℕ) (sheet : List ℕ) where
 
   -- ## Each row settles the fold
   refused-answer : (c p : ℕ) → decode form limits sheet ≡ refused c p → answer ≡ refusal c p
-  unfolding fold
-  refused-answer c p e = rw (e, fold)
+  refused-answer c p e = fold-refused form limits room sheet c p e
 
   -- an accepted sheet, once its drained rules were judged
   judged-answer : (rs : List Rule) (j : Drained) → Accepted form limits sheet rs → drain limits (drained rs) ≡ j
       → answer ≡ foldRules form limits room rs j (folded (drained rs))
-  unfolding fold
-  judged-answer rs j a e = rw (a .1, fold) (ap (λ d. foldRules form limits room rs d (folded (drained rs))) e)
+  judged-answer rs j a e = fold-judged form limits room sheet rs (a .0) (a .1) j e
 
   boxes-answer : (p : ℕ) → ManyBoxes form limits sheet p → answer ≡ refusal manyBoxes p
   unfolding foldRules
@@ -94,12 +93,15 @@ module _ (form : Form) (limits : Limits) (room : ℕ) (sheet : List ℕ) where
   told : FoldRows form limits sheet room (answer .code) (answer .place)
   told = go (decode form limits sheet) refl
     where
-      fits : (rs : List Rule) → Foldable form limits sheet rs → (b : Bool) → ltb room (length (result form limits rs)) ≡ b → FoldRows form limits sheet room (answer .code) (answer .place)
+      fits : (rs : List Rule) → Foldable form limits sheet rs → (b : Bool) → ltb room (length (result form limits rs)) ≡ b
+          → FoldRows form limits sheet room (answer .code) (answer .place)
       fits rs h true t =
           let p = length (result form limits rs) in
           let k : NoRoom form limits sheet room p = (rs, h, ltb-true room p t, refl) in
           tell (refusal noRoom p) (room-answer p k) k
-      fits rs h false t = let k : Done form limits sheet room 0 = (rs, h, ltb-false room (length (result form limits rs)) t, refl) in tell (accepted rs) (done-answer 0 k) k
+      fits rs h false t =
+          let k : Done form limits sheet room 0 = (rs, h, ltb-false room (length (result form limits rs)) t, refl) in
+          tell (accepted rs) (done-answer 0 k) k
 
       judge : (rs : List Rule) → Accepted form limits sheet rs → DrainCases limits (drained rs) → FoldRows form limits sheet room (answer .code) (answer .place)
       judge rs a (inl l) =
@@ -117,7 +119,8 @@ module _ (form : Form) (limits : Limits) (room : ℕ) (sheet : List ℕ) where
   pub refused-whole : (answer .code ≡ 0 → ⊥) → answer ≡ refusal (answer .code) (answer .place)
   refused-whole h = go (outcome (answer .code) (answer .place) told)
     where
-      go : (answer ≡ refusal (answer .code) (answer .place)) ⊎ ((answer .code ≡ 0) × Done form limits sheet room (answer .place)) → answer ≡ refusal (answer .code) (answer .place)
+      go : (answer ≡ refusal (answer .code) (answer .place)) ⊎ ((answer .code ≡ 0) × Done form limits sheet room (answer .place))
+          → answer ≡ refusal (answer .code) (answer .place)
       go (inl e) = e
       go (inr k) = absurd (h (k .0))
 

@@ -50,7 +50,8 @@ unfolding drained left
 left-again [] = (refl, refl)
 left-again (r ∷ rs) = go (stops r) refl (left-again rs)
   where
-    go : (b : Bool) → stops r ≡ b → (drained (left rs) ≡ []) × (left (left rs) ≡ left rs) → (drained (left (r ∷ rs)) ≡ []) × (left (left (r ∷ rs)) ≡ left (r ∷ rs))
+    go : (b : Bool) → stops r ≡ b → (drained (left rs) ≡ []) × (left (left rs) ≡ left rs)
+        → (drained (left (r ∷ rs)) ≡ []) × (left (left (r ∷ rs)) ≡ left (r ∷ rs))
     go true e ih = rw (e, left, e, drained, left) (refl, refl)
     go false e ih = rw (e, left) ih
 
@@ -95,7 +96,8 @@ module _ (ds : List Rule) (h : All Goes ds) where
   unfolding folded pages
   folded-go = flatMap-all Goes rulesOf (pages ds) (each (pointGroups ds) (sound ds) (image-All _ asRuns (pointGroups ds) days-stay))
     where
-      each : (gs : List (Group ℕ Day)) → All Sound gs → All (λ g. All (λ e. anyOf spanStops (e .1) ≡ false) (g .0)) gs → All (λ g. All Goes (rulesOf g)) (map asRuns gs)
+      each : (gs : List (Group ℕ Day)) → All Sound gs → All (λ g. All (λ e. anyOf spanStops (e .1) ≡ false) (g .0)) gs
+          → All (λ g. All Goes (rulesOf g)) (map asRuns gs)
       each [] s k = tt
       each (g ∷ gs) s k = (rules-go g (s .0) (k .0), each gs (s .1) (k .1))
 
@@ -106,7 +108,8 @@ module _ (rs : List Rule) where
 
   -- its drained rules are the folded ones
   folded-drained : drained written ≡ folded (drained rs)
-  folded-drained = go-before (folded (drained rs)) (left rs) (folded-go (drained rs) (drained-go rs)) .0 ∙ ap (folded (drained rs) ++_) (left-again rs .0) ∙ append-nil (folded (drained rs))
+  folded-drained = go-before (folded (drained rs)) (left rs) (folded-go (drained rs) (drained-go rs)) .0 ∙ ap (folded (drained rs) ++_)
+      (left-again rs .0) ∙ append-nil (folded (drained rs))
 
   -- DEMAND 3
   pub written-means : SameMeaning rs written

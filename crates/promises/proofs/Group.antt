@@ -39,7 +39,8 @@ module _ (g : Group ℕ Day) (sound : Sound g) where
   lays = laid (g .1) (sound .0)
 
   -- what holds of the rule of each entry holds of all the group's rules; they are Normal and Additional
-  pub rules-all : (R : Entry → Type 0) (P : Rule → Type 0) → ((o : Operator) (e : Entry) → isFallback o ≡ false → R e → P (lay (asRule o e))) → All R (g .0) → All P (rulesOf (asRuns g))
+  pub rules-all : (R : Entry → Type 0) (P : Rule → Type 0) → ((o : Operator) (e : Entry) → isFallback o ≡ false → R e → P (lay (asRule o e)))
+      → All R (g .0) → All P (rulesOf (asRuns g))
   unfolding rulesOf
   rules-all R P h = go (g .0)
     where

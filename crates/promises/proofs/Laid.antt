@@ -45,7 +45,8 @@ coordinate-holds b proper x h = low (leb (b .0) x) refl
     low false e = let k = leb-false (b .0) x e in absurd (false≢true (rw (from-below x (b .0) (b .1 - b .0) (omega arith)) at h))
 
 -- they cover the set's points once, and no others
-pub set-combinations : (bs : List Range) → Proper bs → (S : Set ℕ) → Part (map coordinates bs) S → All Filled S → (p : List ℕ) → inside eqb (map coordinates bs) p ≡ true
+pub set-combinations : (bs : List Range) → Proper bs → (S : Set ℕ) → Part (map coordinates bs) S → All Filled S → (p : List ℕ)
+    → inside eqb (map coordinates bs) p ≡ true
     → combinations (setRanges bs S) p ≡ cond (inside eqb S p) 1 0
 unfolding inside setRanges combinations
 set-combinations [] o [] k f [] i = refl

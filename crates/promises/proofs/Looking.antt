@@ -42,7 +42,8 @@ unfolding pointOf inside weekdayOf
 date-point y mo d h =
     both-and _ _ (from-inside (weekdayOf y mo d) 0 7 (omega arith) (weekday-within (y, dayOfYear y mo d)))
     (both-and _ _ (from-inside (weekOf y mo d) 1 53 (omega (arith, week)) (omega (arith, week)))
-    (both-and _ _ (from-inside mo 1 12 (omega (arith, month)) (omega (arith, month))) (both-and _ _ (from-inside y 1900 8100 (omega (arith, year)) (omega (arith, year))) refl)))
+    (both-and _ _ (from-inside mo 1 12 (omega (arith, month)) (omega (arith, month)))
+    (both-and _ _ (from-inside y 1900 8100 (omega (arith, year)) (omega (arith, year))) refl)))
   where
     week : (1 ≤ weekOf y mo d) × (weekOf y mo d < 54)
     week = holds-in (weekOf y mo d) weekBounds (week-within y mo d h)

@@ -34,7 +34,8 @@ unfolding anyOf
 all-simple [] h = tt
 all-simple (x ∷ xs) h = go (simple (x .1)) refl (all-simple xs)
   where
-    go : (b : Bool) → simple (x .1) ≡ b → (anyOf (λ x. not (simple (x .1))) xs ≡ false → All (λ x. simple (x .1) ≡ true) xs) → All (λ x. simple (x .1) ≡ true) (x ∷ xs)
+    go : (b : Bool) → simple (x .1) ≡ b → (anyOf (λ x. not (simple (x .1))) xs ≡ false → All (λ x. simple (x .1) ≡ true) xs)
+        → All (λ x. simple (x .1) ≡ true) (x ∷ xs)
     go true e ih = (e, ih (rw e at h))
     go false e ih = absurd (true≢false (rw e at h))
 
@@ -104,7 +105,8 @@ module _ (form : Form) (limits : Limits) (sheet : List ℕ) (y mo d m : ℕ) whe
   outcome : (c p : ℕ) → LookupRows form limits sheet y mo d m c p → (answer ≡ refusal c p) ⊎ ((c ≡ 0) × Sure p)
   outcome c p =
       reading-rows form limits sheet c p (λ e. inl (refused-answer c p e)) (row (eqb c noDate) (λ t k. at noDate 0 t (k .3) (date-answer (k .0) (k .1) (k .2)))
-      (row (eqb c manyBoxes) (λ t k. at manyBoxes p t refl (boxes-answer p (k .0) (k .1))) (row (eqb c longList) (λ t k. at longList p t refl (long-answer p (k .0) (k .1)))
+      (row (eqb c manyBoxes) (λ t k. at manyBoxes p t refl (boxes-answer p (k .0) (k .1)))
+      (row (eqb c longList) (λ t k. at longList p t refl (long-answer p (k .0) (k .1)))
       (row (eqb c unsettled) (λ t k. at unsettled 0 t (k .4) (doubt-answer (k .0) (k .1) (k .2) (doubts (k .0) (k .3) (doubt (k .0)) refl)))
       (row (eqb c 0) (λ t k. inr (eqb-true c 0 t, k)) (λ k. absurd k))))))
     where
@@ -141,7 +143,9 @@ module _ (form : Form) (limits : Limits) (sheet : List ℕ) (y mo d m : ℕ) whe
           let p = boxCount dimensions (drained rs) in
           let k : ManyBoxes form limits sheet p = (rs, a, l, refl) in
           tell (refusal manyBoxes p) (boxes-answer p t k) (t, k)
-      judge rs t a (inr (l, inl h)) = let k : LongList form limits sheet (h .0) = (rs, (a, l), h .1) in tell (refusal longList (h .0)) (long-answer (h .0) t k) (t, k)
+      judge rs t a (inr (l, inl h)) =
+          let k : LongList form limits sheet (h .0) = (rs, (a, l), h .1) in
+          tell (refusal longList (h .0)) (long-answer (h .0) t k) (t, k)
       judge rs t a (inr (l, inr h)) = look rs t ((a, l), h) (doubt rs) refl
 
       date : (rs : List Rule) → Accepted form limits sheet rs → (b : Bool) → dated y mo d m ≡ b → Told

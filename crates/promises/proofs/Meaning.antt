@@ -48,7 +48,8 @@ module _ (p : List ℕ) (i : isPoint p ≡ true) where
   groups-list : (gs : List (Group ℕ Day)) → All Sound gs → Separated gs → map entryOf (listAt (allRules gs) p) ≡ found eqb [] gs p
   unfolding flatMap listFrom found
   groups-list [] s a = refl
-  groups-list (g ∷ gs) s a = ap (map entryOf) (list-append [] (rulesOf (asRuns g)) (allRules gs) p) ∙ go (inside eqb (g .1) p) refl (groups-list gs (s .1) (a .1))
+  groups-list (g ∷ gs) s a =
+      ap (map entryOf) (list-append [] (rulesOf (asRuns g)) (allRules gs) p) ∙ go (inside eqb (g .1) p) refl (groups-list gs (s .1) (a .1))
     where
       own : List Rule
       own = rulesOf (asRuns g)
@@ -62,7 +63,8 @@ module _ (p : List ℕ) (i : isPoint p ≡ true) where
 
 module _ (rs : List Rule) where
   pub sound : All Sound (pointGroups rs)
-  sound = All-map₂ (λ g. λ a b. (a, b)) (pointGroups rs) (groups-part sameDay eqb [] points dayClasses (dayAt rs)) (groups-filled exact-day eqb [] points dayClasses (dayAt rs))
+  sound = All-map₂ (λ g. λ a b. (a, b)) (pointGroups rs) (groups-part sameDay eqb [] points dayClasses (dayAt rs))
+      (groups-filled exact-day eqb [] points dayClasses (dayAt rs))
 
   -- THE FOLDED RULES, DRAINED AGAIN, HAVE AT EACH POINT ITS DAY
   pub folded-list : (p : List ℕ) → isPoint p ≡ true → map entryOf (listAt (folded rs) p) ≡ dayAt rs p
@@ -78,7 +80,8 @@ module _ (rs : List Rule) where
   -- ## In groups
   full : All (λ g. nonEmpty (g .0) ≡ true) (pointGroups rs)
   full = groups-each sameDay eqb [] points (λ ok. ok [] ≡ false) (λ g. nonEmpty (g .0) ≡ true) (λ f. Unit {0})
-      (λ ok z f u. OnSome-map (λ g h. matched ok z (g .0) (h .1)) (pop sameDay ok points f) (pop-agree exact-day ok points f)) (λ S f u. tt) dayClasses classes-empty (dayAt rs) tt
+      (λ ok z f u. OnSome-map (λ g h. matched ok z (g .0) (h .1)) (pop sameDay ok points f) (pop-agree exact-day ok points f)) (λ S f u. tt)
+      dayClasses classes-empty (dayAt rs) tt
     where
       matched : (ok : Day → Bool) → ok [] ≡ false → (d : Day) → ok d ≡ true → nonEmpty d ≡ true
       matched ok z [] h = absurd (true≢false (sym h ∙ z))

@@ -1,42 +1,17 @@
 -- WHAT HOLDS OF RULES' STATES AND SPANS HOLDS OF EVERY PAGE'S, if it holds of runs of minutes as well. Rests on the same law of a day.
 -- Assumes nothing.
-use mathlib.Core.Path.{_≡_, refl}
 use mathlib.Core.List.{List, [], _∷_, map, flatMap}
-use mathlib.Core.Bool.{Bool, true, false, cond}
-use Prim.Native.Nat.{ℕ, zero, suc}
-use lib.Dec.{eqb}
-use lib.ListN.{replicate}
 use Rattle.laws.specs.Lists.{All}
 use Rattle.laws.proofs.Lists.{All-append}
 use Rattle.grid.specs.Cut.{Range}
 use Rattle.definition.specs.Rule.{State, Span, Rule}
-use Rattle.definition.specs.Point.{dimensions, selector, combinations, replaces, after, listFrom, listAt}
+use Rattle.definition.specs.Point.{listAt}
 use Rattle.definition.specs.Day.{stated, flattened, plainSpan, entryOf}
 use Rattle.definition.specs.Group.{dayAt, pages}
 use Rattle.definition.proofs.PaintedShows.{ProperRun}
 use Rattle.definition.proofs.DayHolds.{InDay, InList, day-holds}
 use Rattle.definition.proofs.Groups.{pages-each}
-
--- the list at a point has none but the rules
-list-from : (P : Rule → Type 0) (l rs : List Rule) (p : List ℕ) → All P l → All P rs → All P (listFrom l rs p)
-unfolding listFrom
-list-from P l [] p k h = k
-list-from P l (r ∷ rs) p k h = list-from P (after r (combinations (selector dimensions r) p) l) rs p (next (replaces r) refl) (h .1)
-  where
-    n : ℕ
-    n = combinations (selector dimensions r) p
-
-    copies : (n : ℕ) → All P (replicate n r)
-    copies zero = tt
-    copies (suc n) = (h .0, copies n)
-
-    either : (c : Bool) → All P (cond c l (r ∷ []))
-    either true = k
-    either false = (h .0, tt)
-
-    next : (b : Bool) → replaces r ≡ b → All P (after r n l)
-    next true e = unfold after in rw (e, after) (either (eqb n 0))
-    next false e = unfold after in rw (e, after) (All-append P l (replicate n r) k (copies n))
+use Rattle.definition.proofs.Counts.{list-from}
 
 module _ (P : State → Type 0) (Q : Span → Type 0) where
   -- of a rule's state and all its spans

@@ -88,7 +88,8 @@ module _ (form : Form) (limits : Limits) where
   unfolding encode rules rule head title counts body tagged via _then_ several field
   same-bits ws = refl
 
-  module _ (roomy : Roomy form limits) (sheet : List ℕ) (whole : Bytes sheet) (rs : List Rule) (q : ℕ) (e : decode form limits sheet ≡ got rs q) (f : drain limits (drained rs) ≡ fine) where
+  module _ (roomy : Roomy form limits) (sheet : List ℕ) (whole : Bytes sheet) (rs : List Rule) (q : ℕ) (e : decode form limits sheet ≡ got rs q)
+      (f : drain limits (drained rs) ≡ fine) where
     abbrev ws : List Rule
     ws = folded (drained rs) ++ left rs
 

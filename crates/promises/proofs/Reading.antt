@@ -24,7 +24,8 @@ row true f g x = f refl x
 row false f g x = g x
 
 -- a sheet is read in one way
-pub accepted-once : (form : Form) (limits : Limits) (sheet : List ℕ) (rs qs : List Rule) → Accepted form limits sheet rs → Accepted form limits sheet qs → rs ≡ qs
+pub accepted-once : (form : Form) (limits : Limits) (sheet : List ℕ) (rs qs : List Rule) → Accepted form limits sheet rs → Accepted form limits sheet qs
+    → rs ≡ qs
 accepted-once form limits sheet rs qs a b =
     let e : got rs (a .0) ≡ got qs (b .0) = sym (a .1) ∙ b .1 in
     let z : rs ≡ qs = cc in z

@@ -83,7 +83,8 @@ module _ {P : List ℕ → ℕ → ℕ → Type 0} where
       both : A → ℕ → Read (List A)
       both x j = andThen (more x) (readAll (L .read) n s j)
 
-      behind : (x : A) (j : ℕ) → (readAll (L .read) n s j ≡ refused c q → P s c q) → (readAll (L .read) n s j ≡ refused c q) ⊎ Later (more x) c q (readAll (L .read) n s j) → P s c q
+      behind : (x : A) (j : ℕ) → (readAll (L .read) n s j ≡ refused c q → P s c q)
+          → (readAll (L .read) n s j ≡ refused c q) ⊎ Later (more x) c q (readAll (L .read) n s j) → P s c q
       behind x j ih (inl h) = ih h
       behind x j ih (inr k) = unread (x ∷ k .0) (k .1) c q (k .3)
 
@@ -109,7 +110,8 @@ module _ (form : Form) (limits : Limits) where
   unfolding field readField
   kind k = record { tells = λ s p c q e. past s p c q e (leb (p + width form k) (length s)) refl }
     where
-      fails : (s : List ℕ) (p c q : ℕ) → readField (codeOf k) (passes limits k) (width form k) s p ≡ refused c q → p + width form k ≤ length s → leb (p + width form k) (length s) ≡ true
+      fails : (s : List ℕ) (p c q : ℕ) → readField (codeOf k) (passes limits k) (width form k) s p ≡ refused c q → p + width form k ≤ length s
+          → leb (p + width form k) (length s) ≡ true
           → (b : Bool) → passes limits k (fieldAt s p (width form k)) ≡ b → Named s c q
       fails s p c q e l t true f = unread (fieldAt s p (width form k)) (p + width form k) c q (rw (t, f, readField) at e)
       fails s p c q e l t false f =
@@ -118,7 +120,8 @@ module _ (form : Form) (limits : Limits) where
           let z : p ≡ q = cc in
           subst (λ i. Named s c i) z (k, inr (sym d, l, f))
 
-      past : (s : List ℕ) (p c q : ℕ) → readField (codeOf k) (passes limits k) (width form k) s p ≡ refused c q → (b : Bool) → leb (p + width form k) (length s) ≡ b → Named s c q
+      past : (s : List ℕ) (p c q : ℕ) → readField (codeOf k) (passes limits k) (width form k) s p ≡ refused c q → (b : Bool)
+          → leb (p + width form k) (length s) ≡ b → Named s c q
       past s p c q e true t = fails s p c q e (leb-true (p + width form k) (length s) t) t (passes limits k (fieldAt s p (width form k))) refl
       past s p c q e false t =
           let g : refused pastEnd p ≡ refused c q = rw (t, readField) at e in
@@ -134,7 +137,8 @@ module _ (form : Form) (limits : Limits) where
   unfolding monthdayRange monthdayOf
   month-refuses = tagged-refuses _ (kind choiceOfThree) (λ t.
       either-refuses (eqb t 0) _ _ (via-refuses _ _ (then-refuses (kind aMonth) (kind aMonth)))
-      (either-refuses (eqb t 1) _ _ (via-refuses _ _ (then-refuses (kind aMonth) (then-refuses (kind aMonth) (kind aYear)))) (via-refuses _ _ (kind aReference))))
+      (either-refuses (eqb t 1) _ _ (via-refuses _ _ (then-refuses (kind aMonth) (then-refuses (kind aMonth) (kind aYear))))
+      (via-refuses _ _ (kind aReference))))
 
   week-refuses : Refuses Named weekRange
   unfolding weekRange
@@ -144,7 +148,8 @@ module _ (form : Form) (limits : Limits) where
   unfolding weekDayRange weekdayOf
   weekday-refuses = tagged-refuses _ (kind aFlag) (λ t.
       either-refuses (eqb t 0) _ _
-      (via-refuses _ _ (then-refuses (kind aWeekday) (then-refuses (kind aWeekday) (then-refuses (kind anOffset) (then-refuses (kind anNthSet) (kind anNthSet))))))
+      (via-refuses _ _
+      (then-refuses (kind aWeekday) (then-refuses (kind aWeekday) (then-refuses (kind anOffset) (then-refuses (kind anNthSet) (kind anNthSet))))))
       (via-refuses _ _ (then-refuses (kind aFlag) (kind anOffset))))
 
   time-refuses : Refuses Named time
@@ -161,13 +166,15 @@ module _ (form : Form) (limits : Limits) where
   unfolding head title counts
   head-refuses =
       then-refuses (then-refuses (via-refuses _ _ (kind choiceOfThree)) (then-refuses (via-refuses _ _ (kind choiceOfThree)) (kind aComment)))
-      (then-refuses (kind countOfItems) (then-refuses (kind countOfItems) (then-refuses (kind countOfItems) (then-refuses (kind countOfItems) (kind countOfSpans)))))
+      (then-refuses (kind countOfItems)
+      (then-refuses (kind countOfItems) (then-refuses (kind countOfItems) (then-refuses (kind countOfItems) (kind countOfSpans)))))
 
   body-refuses : (n : Counts) → Refuses Named (body form limits n)
   unfolding body
   body-refuses n =
       then-refuses (several-refuse year-refuses (n .0)) (then-refuses (several-refuse month-refuses (n .1 .0))
-      (then-refuses (several-refuse week-refuses (n .1 .1 .0)) (then-refuses (several-refuse weekday-refuses (n .1 .1 .1 .0)) (several-refuse span-refuses (n .1 .1 .1 .1)))))
+      (then-refuses (several-refuse week-refuses (n .1 .1 .0))
+      (then-refuses (several-refuse weekday-refuses (n .1 .1 .1 .0)) (several-refuse span-refuses (n .1 .1 .1 .1)))))
 
   rules-refuse : Refuses Named (rules form limits)
   unfolding rules rule

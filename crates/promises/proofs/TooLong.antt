@@ -81,7 +81,11 @@ module _ (limit : ℕ) (ds : List Rule) where
       over k = somewhere points (tooLong limit ds k)
 
       go : FirstBelow over (length ds) ⊎ ((j : ℕ) → j < length ds → over j ≡ false) → LongCases
-      go (inl k) = inl (k .0, (k .1, long (k .0) (k .2), λ j l. short j (k .3 j l)), first-at over (k .0) 0 (length ds) (omega arith) (omega (arith, k .1)) (λ j l m. k .3 j m) (k .2))
+      go (inl k) = inl (
+        k .0,
+        (k .1, long (k .0) (k .2), λ j l. short j (k .3 j l)),
+        first-at over (k .0) 0 (length ds) (omega arith) (omega (arith, k .1)) (λ j l m. k .3 j m) (k .2),
+      )
       go (inr h) = inr (λ j l. short j (h j l), first-none over 0 (length ds) (λ j l m. h j (omega arith)))
 
   -- a list can't be long and short after one rule

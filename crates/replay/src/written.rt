@@ -1,8 +1,8 @@
 // Does an entry that writes, writing back or the line, do what a record tells? Told: CODE BYTES PLACE ROOM, and the bytes at the front of the
 // buffer.
 use crate::buffer;
+use answers::Written;
 use records::number;
-use sheet::back::Written;
 ghost use Prim.Native.Nat.{_≤_};
 ghost use lib.ListN.{length};
 

@@ -6,13 +6,14 @@ use Prim.Native.Nat.{ℕ, _+_, _*_, _-_, _/_, _%_, _≤_, _<_, _^_}
 use native.Mathlib.Nat.{mul-le-mul-right}
 use native.Mathlib.Omega.{arith}
 use lib.ListN.{length, getD, length-append}
-use Rattle.definition.specs.Field.{bits, Layout, field, _then_, via, tagged}
+use Rattle.definition.specs.Field.{bits, field, _then_, via, tagged}
 use Rattle.definition.specs.Range.{Ends}
 use Rattle.definition.specs.Sheet.{yearRange, monthdayOf, monthdayRange, weekRange, time, repeatsLayout, span, form1, limits1, title, counts}
 use Rattle.definition.proofs.Bits.{length-bits}
 use Rattle.span_number.specs.Number.{timeAt, repeatsAt, spanAt}
 use Rattle.item_writer.proofs.Items.{days-bits, fixed-bits, variable-bits, no-repeats, repeats-bits, span-bits}
-use Rattle.rule_writer.specs.Rows.{itemBits, endsAt, rowBits, rowPlace, rowsBits, spansAt, titleOf, countsOf}
+use Rattle.rule_writer.specs.Rows.{itemBits, rowBits, rowsBits, spansAt, titleOf, countsOf}
+use Rattle.tables.specs.Items.{endsAt, rowPlace}
 use Rattle.rule_writer.specs.Written.{ruleBits}
 use Rattle.rule_writer.proofs.Items.{as-years, as-months, as-weeks, as-weekdays}
 use Rattle.rule_writer.proofs.Rows.{rows-none, rows-more, ends-length, row-inside, spans-none, spans-more}
@@ -42,7 +43,12 @@ module _ (sort : ℕ) (e : Ends) where
   pub weekdays-size : 3 ≤ sort → length (itemBits sort e) ≡ 33
   weekdays-size k =
       ap length (as-weekdays sort e k .0 ∙ days-bits (e .0) (e .1))
-      ∙ omega (arith, length-append (bits 1 0 ++ (bits 3 (e .0) ++ bits 3 (e .1))) (bits 16 0 ++ (bits 5 31 ++ bits 5 31)), three 1 3 3 0 (e .0) (e .1), three 16 5 5 0 31 31)
+      ∙ omega (
+        arith,
+        length-append (bits 1 0 ++ (bits 3 (e .0) ++ bits 3 (e .1))) (bits 16 0 ++ (bits 5 31 ++ bits 5 31)),
+        three 1 3 3 0 (e .0) (e .1),
+        three 16 5 5 0 31 31,
+      )
 
 -- ## Rows
 flat-size : {A B : Type 0} (f : A → List B) (n : ℕ) → ((x : A) → length (f x) ≡ n) → (xs : List A) → length (flatMap f xs) ≡ length xs * n
@@ -58,7 +64,8 @@ module _ (ends rowCounts : List ℕ) where
   pub no-rows : (sort : ℕ) → sort ≡ 4 → length (rowsBits ends rowCounts sort) ≡ 0
   no-rows sort e = ap length (rows-none ends rowCounts sort e)
 
-  pub rows-size : (sort many n behind : ℕ) → sort < 4 → rowPlace rowCounts 4 ≤ length ends → many ≡ getD rowCounts sort 0 → ((e : Ends) → length (itemBits sort e) ≡ n)
+  pub rows-size : (sort many n behind : ℕ) → sort < 4 → rowPlace rowCounts 4 ≤ length ends → many ≡ getD rowCounts sort 0
+      → ((e : Ends) → length (itemBits sort e) ≡ n)
       → length (rowsBits ends rowCounts (sort + 1)) ≡ behind → length (rowsBits ends rowCounts sort) ≡ many * n + behind
   unfolding rowBits
   rows-size sort many n behind l h e k b =
@@ -82,7 +89,8 @@ module _ (n : ℕ) where
   repeats-size : (n ≡ 0 → ⊥) → length (repeatsLayout .write (repeatsAt n)) ≡ 13
   repeats-size some = ap length (repeats-bits n some) ∙ two 1 12 1 _
 
-module _ (n s e : ℕ) (starts : s ≡ n / 8589934592) (ends : e ≡ n / 16384 % 524288) (a b : ℕ) (first : length (time .write (timeAt s)) ≡ a) (second : length (time .write (timeAt e)) ≡ b) where
+module _ (n s e : ℕ) (starts : s ≡ n / 8589934592) (ends : e ≡ n / 16384 % 524288) (a b : ℕ) (first : length (time .write (timeAt s)) ≡ a)
+    (second : length (time .write (timeAt e)) ≡ b) where
   span-size : (c : ℕ) → length (repeatsLayout .write (repeatsAt (n % 8192))) ≡ c → length (span .write (spanAt n)) ≡ a + b + 1 + c
   span-size c k =
       ap length (span-bits n s e starts ends)
@@ -133,7 +141,8 @@ counts-size rowCounts many =
       three 10 10 10 (getD rowCounts 2 0) (getD rowCounts 3 0) many,
     )
 
-pub rule-size : (operator state : ℕ) (ends rowCounts spans : List ℕ) (first many rows times : ℕ) → rowPlace rowCounts 4 ≤ length ends → first + many ≤ length spans
+pub rule-size : (operator state : ℕ) (ends rowCounts spans : List ℕ) (first many rows times : ℕ) → rowPlace rowCounts 4 ≤ length ends
+    → first + many ≤ length spans
     → length (rowsBits ends rowCounts 0) ≡ rows → length (flatMap (span .write) (spansAt spans first many)) ≡ times
     → length (ruleBits operator state ends rowCounts (spansAt spans first many)) ≡ 70 + rows + times
 rule-size operator state ends rowCounts spans first many rows times h k r t =

@@ -9,7 +9,8 @@ ghost use Rattle.definition.specs.Field.{Layout};
 ghost use Rattle.definition.specs.Range.{Ends};
 ghost use Rattle.definition.specs.Sheet.{time, span};
 ghost use Rattle.span_number.specs.Number.{timeAt, spanAt};
-ghost use Rattle.rule_writer.specs.Rows.{itemBits, rowPlace, rowsBits, spansAt};
+ghost use Rattle.rule_writer.specs.Rows.{itemBits, rowsBits, spansAt};
+ghost use Rattle.tables.specs.Items.{rowPlace};
 ghost use Rattle.rule_writer.specs.Written.{ruleBits};
 
 // An item of a sort, whatever its ends.

@@ -23,11 +23,14 @@ module _ (s : List ℕ) (p : ℕ) (readable : Readable s p) (n : Counts) (q : �
   counts-few = counts-low s (p + 20) n q e
 
   pub days-told : daysTold (n .0) (n .1 .0) (n .1 .1 .0) (n .1 .1 .1 .0) s q
-      ≡ tale (daysText (ruleAt s p)) (anyOf monthdayStops ((ruleAt s p) .monthdays) || anyOf weekdayStops ((ruleAt s p) .weekdays)) ((parts s p readable) .spans-at)
+      ≡ tale (daysText (ruleAt s p)) (anyOf monthdayStops ((ruleAt s p) .monthdays) || anyOf weekdayStops ((ruleAt s p) .weekdays))
+      ((parts s p readable) .spans-at)
   days-told =
       let same = counts-same s p readable n q e in
-      ap₂ (λ m j. daysTold (m .0) (m .1 .0) (m .1 .1 .0) (m .1 .1 .1 .0) s j) (same .0) (same .1) ∙ days-read s p (ruleAt s p) (readable .end) (parts s p readable)
+      ap₂ (λ m j. daysTold (m .0) (m .1 .0) (m .1 .1 .0) (m .1 .1 .1 .0) s j) (same .0) (same .1) ∙ days-read s p (ruleAt s p) (readable .end)
+      (parts s p readable)
 
   pub spans-told : (j : ℕ) → j ≡ (parts s p readable) .spans-at
-      → itemsTold 4 (n .1 .1 .1 .1) s j ≡ tale ((several "," spanText) .write ((ruleAt s p) .spans)) (anyOf (λ x. not (isPlain x)) ((ruleAt s p) .spans)) (readable .end)
+      → itemsTold 4 (n .1 .1 .1 .1) s j
+      ≡ tale ((several "," spanText) .write ((ruleAt s p) .spans)) (anyOf (λ x. not (isPlain x)) ((ruleAt s p) .spans)) (readable .end)
   spans-told j f = ap₂ (λ m i. itemsTold 4 m s i) (counts-same s p readable n q e .2) f ∙ spans-read s p (ruleAt s p) (readable .end) (parts s p readable)

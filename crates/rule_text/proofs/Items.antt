@@ -79,7 +79,8 @@ module _ (first last o s t : ℕ) where
     pub weekdays-moved : r ≡ false → weekdayStops (fixedDays first last o s t) ≡ true
     weekdays-moved e = stands ∙ ap not (sym h ∙ e)
 
-  pub weekday-item : weekdayStops (fixedDays first last o s t) ≡ false → (itemText 3) .write (first, (last, 1)) ≡ weekdayText .write (fixedDays first last o s t)
+  pub weekday-item : weekdayStops (fixedDays first last o s t) ≡ false
+      → (itemText 3) .write (first, (last, 1)) ≡ weekdayText .write (fixedDays first last o s t)
   unfolding itemText endText weekdayText only of
   weekday-item e = sym (rw e refl)
 

@@ -23,7 +23,8 @@ use Rattle.rule_text.proofs.Rows.{opening-none, part-some}
 use Rattle.rule_text.proofs.Rules.{days-parts}
 
 -- ## Over the layout
-module _ {A : Type 0} (L : Layout A) (T : Text A) (wordless : A → Bool) (sort : ℕ) (same : (s : List ℕ) (p : ℕ) → told T wordless p (L .read s p) ≡ itemTold sort s p) where
+module _ {A : Type 0} (L : Layout A) (T : Text A) (wordless : A → Bool) (sort : ℕ)
+    (same : (s : List ℕ) (p : ℕ) → told T wordless p (L .read s p) ≡ itemTold sort s p) where
   item-read : (s : List ℕ) (p : ℕ) (x : A) (q : ℕ) → L .read s p ≡ got x q → itemTold sort s p ≡ tale (T .write x) (wordless x) q
   item-read s p x q e = sym (same s p) ∙ ap (told T wordless p) e
 
@@ -54,7 +55,8 @@ module _ {A : Type 0} (L : Layout A) (T : Text A) (wordless : A → Bool) (sort 
       ∙ ap (λ ys. tale ((several "," T) .write ys) (anyOf wordless ys) q) (w .5)
 
   -- a part, U being the text of its items with what stands before them
-  pub part-read : (U : Text (List A)) → ((xs : List A) → opening sort ++ (several "," T) .write xs ≡ U .write xs) → (n : ℕ) (s : List ℕ) (p : ℕ) (xs : List A) (q : ℕ)
+  pub part-read : (U : Text (List A)) → ((xs : List A) → opening sort ++ (several "," T) .write xs ≡ U .write xs)
+      → (n : ℕ) (s : List ℕ) (p : ℕ) (xs : List A) (q : ℕ)
       → readAll (L .read) n s p ≡ got xs q → partTold sort n s p ≡ tale ((part U) .write xs) (anyOf wordless xs) q
   unfolding partTold readAll anyOf part unless _then_ word ascii
   part-read U h zero s p xs q e =
@@ -64,7 +66,8 @@ module _ {A : Type 0} (L : Layout A) (T : Text A) (wordless : A → Bool) (sort 
   part-read U h (suc n) s p xs q e =
       let w = all-parts (L .read) n s p xs q e in
       let row = (several "," T) .write xs in
-      sym (part-some sort s p (suc n) (λ z. omega arith)) ∙ ap (λ x. tale (opening sort ++ (x .text ++ ascii " ")) (x .wordless) (x .next)) (items-read (suc n) s p xs q e)
+      sym (part-some sort s p (suc n) (λ z. omega arith)) ∙ ap (λ x. tale (opening sort ++ (x .text ++ ascii " ")) (x .wordless) (x .next))
+      (items-read (suc n) s p xs q e)
       ∙ ap (λ t. tale t (anyOf wordless xs) q) (sym (append-assoc (opening sort) row (ascii " ")) ∙ ap (_++ ascii " ") (h xs) ∙ filled xs (w .0) (w .2) (w .5))
     where
       filled : (xs : List A) (x : A) (ys : List A) → x ∷ ys ≡ xs → U .write xs ++ ascii " " ≡ (part U) .write xs
@@ -87,15 +90,20 @@ module _ (s : List ℕ) (p : ℕ) (r : Rule) (q : ℕ) (w : RuleParts s p r q) w
   pub days-read : daysTold (w .many .0) (w .many .1 .0) (w .many .1 .1 .0) (w .many .1 .1 .1 .0) s (p + 70)
       ≡ tale (daysText r) (anyOf monthdayStops (r .monthdays) || anyOf weekdayStops (r .weekdays)) (w .spans-at)
   days-read =
-      let y = part-read yearRange yearText (λ y. false) 0 (λ s p. as-years 0 s p refl) (several "," yearText) (spaceless yearText 0 (λ e. omega arith)) _ s _ _ _ (w .years-read) in
-      let m = part-read monthdayRange monthText monthdayStops 1 (λ s p. as-months 1 s p refl refl) (several "," monthText) (spaceless monthText 1 (λ e. omega arith)) _ s _ _ _ (w .monthdays-read) in
-      let k = part-read weekRange weekText (λ x. false) 2 (λ s p. as-weeks 2 s p refl refl refl) (word "week " then several "," weekText) weeks-open _ s _ _ _ (w .weeks-read) in
-      let d = part-read weekDayRange weekdayText weekdayStops 3 (λ s p. as-weekdays 3 s p refl refl refl refl) (several "," weekdayText) (spaceless weekdayText 3 (λ e. omega arith)) _ s _ _ _ (w .weekdays-read) in
+      let y = part-read yearRange yearText (λ y. false) 0 (λ s p. as-years 0 s p refl) (several "," yearText)
+      (spaceless yearText 0 (λ e. omega arith)) _ s _ _ _ (w .years-read) in
+      let m = part-read monthdayRange monthText monthdayStops 1 (λ s p. as-months 1 s p refl refl) (several "," monthText)
+      (spaceless monthText 1 (λ e. omega arith)) _ s _ _ _ (w .monthdays-read) in
+      let k = part-read weekRange weekText (λ x. false) 2 (λ s p. as-weeks 2 s p refl refl refl) (word "week " then several "," weekText) weeks-open _
+      s _ _ _ (w .weeks-read) in
+      let d = part-read weekDayRange weekdayText weekdayStops 3 (λ s p. as-weekdays 3 s p refl refl refl refl) (several "," weekdayText)
+      (spaceless weekdayText 3 (λ e. omega arith)) _ s _ _ _ (w .weekdays-read) in
       let m′ = ap (λ x. partTold 1 (w .many .1 .0) s (x .next)) y ∙ m in
       let k′ = ap (λ x. partTold 2 (w .many .1 .1 .0) s (x .next)) m′ ∙ k in
       let d′ = ap (λ x. partTold 3 (w .many .1 .1 .1 .0) s (x .next)) k′ ∙ d in
       sym (days-parts _ _ _ _ _ _) ∙ ap₂ followed y (ap₂ followed m′ (ap₂ followed k′ d′))
-      ∙ ap₂ (λ a b. tale (daysText r) (a || (anyOf monthdayStops (r .monthdays) || (b || anyOf weekdayStops (r .weekdays)))) (w .spans-at)) (none-lack (r .years)) (none-lack (r .weeks))
+      ∙ ap₂ (λ a b. tale (daysText r) (a || (anyOf monthdayStops (r .monthdays) || (b || anyOf weekdayStops (r .weekdays)))) (w .spans-at))
+      (none-lack (r .years)) (none-lack (r .weeks))
 
   pub spans-read : itemsTold 4 (length (r .spans)) s (w .spans-at) ≡ tale ((several "," spanText) .write (r .spans)) (anyOf (λ x. not (isPlain x)) (r .spans)) q
   spans-read = items-read span spanText (λ x. not (isPlain x)) 4 (λ s p. as-spans 4 s p refl refl refl refl) _ s _ _ _ (w .spans-read)

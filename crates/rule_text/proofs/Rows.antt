@@ -23,7 +23,8 @@ use Rattle.rule_text.proofs.Telling.{shows-as}
 use Rattle.rule_text.specs.Row.{followed, nothing, othersTold, itemsTold, opening, partTold}
 
 -- ## How far an item reaches
-told-near : {A : Type 0} (L : Layout A) (T : Text A) (wordless : A → Bool) (n : ℕ) → Short L n → n ≤ 52 → (s : List ℕ) (p : ℕ) → (told T wordless p (L .read s p)) .next ≤ p + 52
+told-near : {A : Type 0} (L : Layout A) (T : Text A) (wordless : A → Bool) (n : ℕ) → Short L n → n ≤ 52 → (s : List ℕ) (p : ℕ)
+    → (told T wordless p (L .read s p)) .next ≤ p + 52
 told-near L T wordless n short l s p = go (L .read s p) refl
   where
     go : (r : Read _) → L .read s p ≡ r → (told T wordless p r) .next ≤ p + 52
@@ -51,12 +52,14 @@ pub record Ahead (whole : Tale) (sort : ℕ) (s l : List ℕ) (place at to : ℕ
 pub ahead-start : (sort n : ℕ) (s : List ℕ) (p : ℕ) (l : List ℕ) (place : ℕ) → Ahead (othersTold sort n s p) sort s l place p place false n l
 ahead-start sort n s p l place = record { done = []; put = put-none l place; rest = refl }
 
-module _ {whole : Tale} {sort : ℕ} {s l : List ℕ} {place at to : ℕ} {wordless : Bool} {left : ℕ} {m : List ℕ} (ahead : Ahead whole sort s l place at to wordless left m) where
+module _ {whole : Tale} {sort : ℕ} {s l : List ℕ} {place at to : ℕ} {wordless : Bool} {left : ℕ} {m : List ℕ}
+    (ahead : Ahead whole sort s l place at to wordless left m) where
   abbrev next : Tale
   next = itemTold sort s at
 
   -- one item more
-  rest-next : (n : ℕ) → left ≡ suc n → followed (tale (ahead .done ++ ((44 ∷ []) ++ next .text)) (wordless || next .wordless) (next .next)) (othersTold sort n s (next .next)) ≡ whole
+  rest-next : (n : ℕ) → left ≡ suc n
+      → followed (tale (ahead .done ++ ((44 ∷ []) ++ next .text)) (wordless || next .wordless) (next .next)) (othersTold sort n s (next .next)) ≡ whole
   unfolding othersTold ascii
   rest-next n e =
       let R = othersTold sort n s (next .next) in
@@ -71,9 +74,16 @@ module _ {whole : Tale} {sort : ℕ} {s l : List ℕ} {place at to : ℕ} {wordl
       go (suc n) e =
           let front = ahead .done ++ (44 ∷ next .text) in
           let R = othersTold sort n s (next .next) in
-          omega (arith, ap (λ x. length (x .text)) (rest-next n e), length-append front (R .text), length-append (ahead .done) (44 ∷ next .text), ahead .put .ends)
+          omega (
+            arith,
+            ap (λ x. length (x .text)) (rest-next n e),
+            length-append front (R .text),
+            length-append (ahead .done) (44 ∷ next .text),
+            ahead .put .ends,
+          )
 
-  pub ahead-next : 0 < left → {comma : ℕ} {m₁ m₂ : List ℕ} {r : Shown} → Put m to (44 ∷ []) comma m₁ → Shows next m₁ comma r m₂ → (b : Bool) → b ≡ wordless || r .wordless
+  pub ahead-next : 0 < left → {comma : ℕ} {m₁ m₂ : List ℕ} {r : Shown} → Put m to (44 ∷ []) comma m₁ → Shows next m₁ comma r m₂ → (b : Bool)
+      → b ≡ wordless || r .wordless
       → Ahead whole sort s l place (r .at) (r .to) b (left - 1) m₂
   ahead-next h {comma} {m₁} {m₂} {r} put shows b e = go left refl
     where
@@ -93,7 +103,8 @@ module _ {whole : Tale} {sort : ℕ} {s l : List ℕ} {place at to : ℕ} {wordl
   unfolding othersTold
   ahead-end e =
       let same : tale (ahead .done) wordless at ≡ whole =
-      ap₂ (λ t b. tale t b at) (sym (append-nil (ahead .done))) (sym (or-false wordless)) ∙ sym (ap (λ k. followed (tale (ahead .done) wordless at) (othersTold sort k s at)) e) ∙ ahead .rest
+      ap₂ (λ t b. tale t b at) (sym (append-nil (ahead .done))) (sym (or-false wordless))
+      ∙ sym (ap (λ k. followed (tale (ahead .done) wordless at) (othersTold sort k s at)) e) ∙ ahead .rest
       in
       shows-as same (record { read-to = refl; lacks = refl; put = ahead .put })
 
@@ -124,7 +135,8 @@ module _ (sort : ℕ) (s : List ℕ) (p : ℕ) where
   unfolding partTold
   part-none n e = sym (rw (eq-eqb n 0 e))
 
-  pub part-some : (n : ℕ) → (n ≡ 0 → ⊥) → let x = itemsTold sort n s p in tale (opening sort ++ (x .text ++ (32 ∷ []))) (x .wordless) (x .next) ≡ partTold sort n s p
+  pub part-some : (n : ℕ) → (n ≡ 0 → ⊥) → let x = itemsTold sort n s p in
+      tale (opening sort ++ (x .text ++ (32 ∷ []))) (x .wordless) (x .next) ≡ partTold sort n s p
   unfolding partTold ascii
   part-some n e = sym (rw (ne-eqb n 0 e))
 

@@ -39,7 +39,8 @@ module _ (years monthdays weeks weekdays : ℕ) (s : List ℕ) (p : ℕ) where
   unfolding daysTold
   days-parts = refl
 
-  pub days-long : length ((daysTold years monthdays weeks weekdays s p) .text) ≡ length (yearsPart .text) + (length (monthsPart .text) + (length (weeksPart .text) + length (weekdaysPart .text)))
+  pub days-long : length ((daysTold years monthdays weeks weekdays s p) .text)
+      ≡ length (yearsPart .text) + (length (monthsPart .text) + (length (weeksPart .text) + length (weekdaysPart .text)))
   days-long =
       let w = weeksPart .text ++ weekdaysPart .text in
       omega (
@@ -78,7 +79,8 @@ rule-text r = simp append-assoc
 pub state-same : (r : Rule) (k : Kind) (n : ℕ) → k ≡ r .state .kind → n ≡ r .state .comment → record { kind = k; comment = n } ≡ r .state
 state-same r k n = ap₂ (λ k n. record { kind = k; comment = n })
 
-pub shown-text : (first : Bool) (r : Rule) (o : Operator) (S : State) → o ≡ r .operator → S ≡ r .state → startText first o ++ (bodyText r ++ stateText .write S) ≡ shownText first r
+pub shown-text : (first : Bool) (r : Rule) (o : Operator) (S : State) → o ≡ r .operator → S ≡ r .state
+    → startText first o ++ (bodyText r ++ stateText .write S) ≡ shownText first r
 unfolding shownText
 shown-text first r o S e f = ap₂ (λ p Q. startText first p ++ (bodyText r ++ stateText .write Q)) e f ∙ ap (startText first (r .operator) ++_) (rule-text r)
 
@@ -87,10 +89,16 @@ unfolding lacksWords
 lacks-words first r o e = ap (λ p. first && not (isNormal p) || wordless r) e
 
 -- before it, days and spans, kind and comment: how long they are together
-pub shown-long : (first : Bool) (r : Rule) → length (shownText first r) ≡ length (startText first (r .operator)) + (length (bodyText r) + length (stateText .write (r .state)))
+pub shown-long : (first : Bool) (r : Rule)
+    → length (shownText first r) ≡ length (startText first (r .operator)) + (length (bodyText r) + length (stateText .write (r .state)))
 unfolding shownText
 shown-long first r =
-    omega (arith, length-append (startText first (r .operator)) (ruleText .write r), ap length (rule-text r), length-append (bodyText r) (stateText .write (r .state)))
+    omega (
+      arith,
+      length-append (startText first (r .operator)) (ruleText .write r),
+      ap length (rule-text r),
+      length-append (bodyText r) (stateText .write (r .state)),
+    )
 
 pub body-text : (r : Rule) → daysText r ++ (several "," spanText) .write (r .spans) ≡ bodyText r
 unfolding bodyText
@@ -105,7 +113,8 @@ pub lacks-either : (r : Rule) (n : ℕ) → n ≡ length (r .spans)
 unfolding wordless
 lacks-either r n e =
     or-assoc (anyOf monthdayStops (r .monthdays)) (anyOf weekdayStops (r .weekdays)) _
-    ∙ ap (λ b. anyOf monthdayStops (r .monthdays) || (anyOf weekdayStops (r .weekdays) || (anyOf (λ x. not (isPlain x)) (r .spans) || b))) (ap (λ k. eqb k 0) e ∙ none (r .spans))
+    ∙ ap (λ b. anyOf monthdayStops (r .monthdays) || (anyOf weekdayStops (r .weekdays) || (anyOf (λ x. not (isPlain x)) (r .spans) || b)))
+    (ap (λ k. eqb k 0) e ∙ none (r .spans))
   where
     none : (xs : List Span) → eqb (length xs) 0 ≡ isNone xs
     none [] = refl

@@ -22,7 +22,8 @@ shows-as {x} {y} {l} {m} {place} {r} e h = subst (λ z. Shows z l place r m) e h
 pub shows-nothing : (p place : ℕ) (l : List ℕ) → Shows (nothing p) l place (record { at = p; to = place; wordless = false }) l
 shows-nothing p place l = record { read-to = refl; lacks = refl; put = put-none l place }
 
-pub shows-then : {x y : Tale} {l m n : List ℕ} {place : ℕ} {r q : Shown} → Shows x l place r m → Shows y m (r .to) q n → (b : Bool) → b ≡ r .wordless || q .wordless
+pub shows-then : {x y : Tale} {l m n : List ℕ} {place : ℕ} {r q : Shown} → Shows x l place r m → Shows y m (r .to) q n → (b : Bool)
+    → b ≡ r .wordless || q .wordless
     → Shows (followed x y) l place (record { at = q .at; to = q .to; wordless = b }) n
 shows-then g h b e = record { read-to = h .read-to; lacks = e ∙ ap₂ _||_ (g .lacks) (h .lacks); put = put-then (g .put) (h .put) }
 
@@ -36,7 +37,8 @@ module _ {A : Type 0} (T : Text A) (wordless : A → Bool) (p : ℕ) (read : Rea
   got-shows x q to b e f put = rw e (record { read-to = refl; lacks = f; put = put })
 
   -- one that has no words
-  pub got-silent : (x : A) (q : ℕ) (r : Shown) {l : List ℕ} → read ≡ got x q → wordless x ≡ true → T .write x ≡ [] → r ≡ silent q place → Shows (told T wordless p read) l place r l
+  pub got-silent : (x : A) (q : ℕ) (r : Shown) {l : List ℕ} → read ≡ got x q → wordless x ≡ true → T .write x ≡ [] → r ≡ silent q place
+      → Shows (told T wordless p read) l place r l
   got-silent x q r {l} e f g h = rw (h, e) (record { read-to = refl; lacks = sym f; put = put-as (sym g) (put-none l place) })
 
   -- and one that could not be read

@@ -3,18 +3,21 @@
 use mathlib.Core.Path.{_≡_, refl, sym, ap, ap₂, _∙_}
 use mathlib.Core.Bool.{Bool, true, false}
 use mathlib.Core.List.{List, _++_, append-assoc}
-use Prim.Native.Nat.{ℕ, zero, suc, _-_, _%_, _≤_, _<_}
+use Prim.Native.Nat.{ℕ, _%_, _≤_, _<_}
 use native.Mathlib.Omega.{arith}
 use lib.Dec.{ltb}
 use lib.ListN.{getD}
 use borrow.Author.Tests.{ltb-true, ltb-false, ne-eqb}
-use Rattle.definition.specs.Field.{bits, Layout, field, _then_, via}
-use Rattle.definition.specs.Rule.{yearBounds, monthBounds, weekBounds, weekdayBounds, months, operatorNumber, operatorOf, kindNumber}
+use Rattle.definition.specs.Field.{bits, field, _then_, via}
+use Rattle.definition.specs.Rule.{yearBounds, monthBounds, weekBounds, weekdayBounds, months, kindNumber}
+use Rattle.definition.specs.Rule.{yearBounds, monthBounds, weekBounds, weekdayBounds, months, kindNumber}
 use Rattle.definition.specs.Range.{Ends}
 use Rattle.definition.specs.Sheet.{yearRange, monthdayRange, weekRange, weekDayRange, form1, limits1, title, counts}
+use Rattle.definition.proofs.Items.{operator-number}
 use Rattle.span_number.specs.Number.{stateAt}
 use Rattle.item_writer.specs.Written.{yearsFrom, weeksFrom, daysFrom}
-use Rattle.rule_writer.specs.Rows.{itemBits, upperOf, titleOf, countsOf}
+use Rattle.rule_writer.specs.Rows.{itemBits, titleOf, countsOf}
+use Rattle.tables.specs.Items.{upperOf}
 
 -- ## Items
 module _ (sort : ℕ) (e : Ends) where
@@ -39,12 +42,6 @@ module _ (sort : ℕ) (e : Ends) where
       (rw (not0, not1, not2) refl, rw (not0, not1, not2) refl)
 
 -- ## A head
-operator-number : (n : ℕ) → n < 3 → operatorNumber (operatorOf n) ≡ n
-operator-number zero l = refl
-operator-number (suc zero) l = refl
-operator-number (suc (suc zero)) l = refl
-operator-number (suc (suc (suc n))) l = absurd (omega arith)
-
 comment-number : (state : ℕ) → state < 196608 → stateAt state .comment ≡ state % 65536
 unfolding stateAt
 comment-number state l = go (ltb state 65536) refl (ltb state 131072) refl

@@ -17,8 +17,9 @@ use Rattle.definition.specs.Sheet.{yearRange, monthdayRange, weekRange, weekDay
 use Rattle.definition.specs.Point.{Dimension}
 use Rattle.definition.specs.Group.{itemsOf, laidOver}
 use Rattle.item_writer.specs.Written.{yearsFrom, weeksFrom, daysFrom}
-use Rattle.rule_writer.specs.Rows.{itemBits, rowBits, rowPlace, row, rowsBits, spansAt, titleOf, countsOf}
-use Rattle.rule_writer.specs.Written.{overItems, itemsIn, rowsBelow, ruleBits}
+use Rattle.rule_writer.specs.Rows.{itemBits, rowBits, rowsBits, spansAt, titleOf, countsOf}
+use Rattle.tables.specs.Items.{rowPlace, row, overItems, rowsBelow}
+use Rattle.rule_writer.specs.Written.{itemsIn, ruleBits}
 use Rattle.rule_writer.proofs.Rows.{row-length, spans-length}
 
 -- items of one sort, one behind the other
@@ -30,7 +31,8 @@ as-row L make sort h es = flatMap-map (L .write) (itemBits sort) make es (All-ea
 module _ (ends rowCounts : List ℕ) where
   -- what stands behind four rows
   four-rows : (rest : List ℕ) → rowsBits ends rowCounts 0 ++ rest
-      ≡ rowBits 0 (row ends rowCounts 0) ++ (rowBits 1 (row ends rowCounts 1) ++ (rowBits 2 (row ends rowCounts 2) ++ (rowBits 3 (row ends rowCounts 3) ++ rest)))
+      ≡ rowBits 0 (row ends rowCounts 0) ++
+      (rowBits 1 (row ends rowCounts 1) ++ (rowBits 2 (row ends rowCounts 2) ++ (rowBits 3 (row ends rowCounts 3) ++ rest)))
   unfolding rowsBits flatMap from
   four-rows rest =
       append-assoc y (m ++ (w ++ (d ++ []))) rest
@@ -51,12 +53,17 @@ module _ (ends rowCounts : List ℕ) where
   -- THE BITS OF A RULE
   rule-bits : (operator state : ℕ) (spans : List Span) → rowPlace rowCounts 4 ≤ length ends
       → ruleBits operator state ends rowCounts spans
-      ≡ title form1 limits1 .write (titleOf operator state) ++ (counts form1 limits1 .write (countsOf rowCounts (length spans)) ++ (rowsBits ends rowCounts 0 ++ flatMap (span .write) spans))
+      ≡ title form1 limits1 .write (titleOf operator state) ++
+      (counts form1 limits1 .write (countsOf rowCounts (length spans)) ++ (rowsBits ends rowCounts 0 ++ flatMap (span .write) spans))
   unfolding rule head body tagged via _then_ several overItems rowsBelow itemBits
   rule-bits operator state spans h =
-      append-assoc first (counts form1 limits1 .write lengths) (flatMap (yearRange .write) (map asYears y) ++ (flatMap (monthdayRange .write) (map asMonths m) ++ (flatMap (weekRange .write) (map asWeeks w) ++ (flatMap (weekDayRange .write) (map asDays d) ++ flatMap (span .write) spans))))
+      append-assoc first (counts form1 limits1 .write lengths)
+      (flatMap (yearRange .write) (map asYears y) ++
+      (flatMap (monthdayRange .write) (map asMonths m) ++
+      (flatMap (weekRange .write) (map asWeeks w) ++ (flatMap (weekDayRange .write) (map asDays d) ++ flatMap (span .write) spans))))
       ∙ ap₂ (λ n b. first ++ (counts form1 limits1 .write n ++ b)) same
-      (ap₂ _++_ (as-row yearRange asYears 0 (λ e. refl) y) (ap₂ _++_ (as-row monthdayRange asMonths 1 (λ e. refl) m) (ap₂ _++_ (as-row weekRange asWeeks 2 (λ e. refl) w)
+      (ap₂ _++_ (as-row yearRange asYears 0 (λ e. refl) y)
+      (ap₂ _++_ (as-row monthdayRange asMonths 1 (λ e. refl) m) (ap₂ _++_ (as-row weekRange asWeeks 2 (λ e. refl) w)
       (ap (_++ flatMap (span .write) spans) (as-row weekDayRange asDays 3 (λ e. refl) d)))) ∙ sym (four-rows (flatMap (span .write) spans)))
     where
       first : List ℕ
@@ -94,17 +101,24 @@ module _ (ends rowCounts : List ℕ) where
         (length-map y asYears ∙ row-length ends rowCounts 0 (omega arith) h) i,
         (
           (length-map m asMonths ∙ row-length ends rowCounts 1 (omega arith) h) i,
-          ((length-map w asWeeks ∙ row-length ends rowCounts 2 (omega arith) h) i, ((length-map d asDays ∙ row-length ends rowCounts 3 (omega arith) h) i, length spans)),
+          (
+            (length-map w asWeeks ∙ row-length ends rowCounts 2 (omega arith) h) i,
+            ((length-map d asDays ∙ row-length ends rowCounts 3 (omega arith) h) i, length spans),
+          ),
         ),
       )
 
 -- with the spans that lie in a slice
 pub rule-parts : (operator state : ℕ) (ends rowCounts spans : List ℕ) (first many : ℕ) → rowPlace rowCounts 4 ≤ length ends → first + many ≤ length spans
     → ruleBits operator state ends rowCounts (spansAt spans first many)
-    ≡ title form1 limits1 .write (titleOf operator state) ++ (counts form1 limits1 .write (countsOf rowCounts many) ++ (rowsBits ends rowCounts 0 ++ flatMap (span .write) (spansAt spans first many)))
+    ≡ title form1 limits1 .write (titleOf operator state) ++
+    (counts form1 limits1 .write (countsOf rowCounts many) ++ (rowsBits ends rowCounts 0 ++ flatMap (span .write) (spansAt spans first many)))
 rule-parts operator state ends rowCounts spans first many h k =
     rule-bits ends rowCounts operator state (spansAt spans first many) h
-    ∙ ap (λ n. title form1 limits1 .write (titleOf operator state) ++ (counts form1 limits1 .write (countsOf rowCounts n) ++ (rowsBits ends rowCounts 0 ++ flatMap (span .write) (spansAt spans first many))))
+    ∙ ap
+    (λ n.
+    title form1 limits1 .write (titleOf operator state) ++
+    (counts form1 limits1 .write (countsOf rowCounts n) ++ (rowsBits ends rowCounts 0 ++ flatMap (span .write) (spansAt spans first many))))
     (spans-length spans first many k)
 
 -- A RULE LAID OVER RUNS IS THE RULE OVER THEIR ITEMS

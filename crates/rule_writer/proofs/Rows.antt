@@ -8,12 +8,12 @@ use native.Mathlib.Omega.{arith}
 use lib.ListN.{length, take, drop, getD, length-map, length-drop}
 use lib.Seq.{drop-cons, length-take-le}
 use Rattle.laws.specs.Lists.{from, All}
-use Rattle.definition.specs.Field.{Layout}
 use Rattle.definition.specs.Rule.{Span}
 use Rattle.definition.specs.Range.{Ends}
 use Rattle.definition.specs.Sheet.{span}
 use Rattle.span_number.specs.Number.{spanAt}
-use Rattle.rule_writer.specs.Rows.{itemBits, pairs, endsAt, rowBits, rowPlace, row, rowsBits, spansAt}
+use Rattle.rule_writer.specs.Rows.{itemBits, rowBits, rowsBits, spansAt}
+use Rattle.tables.specs.Items.{pairs, endsAt, rowPlace, row}
 
 -- ## A row of pairs
 ends-next : (ends : List ℕ) (place many : ℕ) → place + 2 * suc many ≤ length ends
@@ -24,7 +24,8 @@ ends-next ends place many h =
     let one : suc place ≡ place + 1 = omega arith in
     let more : suc (place + 1) ≡ place + 2 = omega arith in
     ap₂ (λ n l. pairs (take n l)) two
-    (drop-cons ends place 0 (omega arith) ∙ ap (λ j. getD ends place 0 ∷ drop j ends) one ∙ ap (getD ends place 0 ∷_) (drop-cons ends (place + 1) 0 (omega arith)))
+    (drop-cons ends place 0 (omega arith) ∙ ap (λ j. getD ends place 0 ∷ drop j ends) one ∙ ap (getD ends place 0 ∷_)
+    (drop-cons ends (place + 1) 0 (omega arith)))
     ∙ ap (λ j. (getD ends place 0, getD ends (place + 1) 0) ∷ pairs (take (2 * many) (drop j ends))) more
 
 module _ (ends : List ℕ) (place many : ℕ) where
@@ -32,7 +33,8 @@ module _ (ends : List ℕ) (place many : ℕ) where
   unfolding endsAt pairs
   ends-none e = rw e refl
 
-  ends-more : (many ≡ 0 → ⊥) → place + 2 * many ≤ length ends → endsAt ends place many ≡ (getD ends place 0, getD ends (place + 1) 0) ∷ endsAt ends (place + 2) (many - 1)
+  ends-more : (many ≡ 0 → ⊥) → place + 2 * many ≤ length ends
+      → endsAt ends place many ≡ (getD ends place 0, getD ends (place + 1) 0) ∷ endsAt ends (place + 2) (many - 1)
   ends-more some h =
       let e : many ≡ suc (many - 1) = omega arith in
       ap (endsAt ends place) e ∙ ends-next ends place (many - 1) (omega arith)
@@ -47,7 +49,8 @@ module _ (ends : List ℕ) (place many : ℕ) where
   unfolding rowBits flatMap
   row-none sort e = ap (rowBits sort) (ends-none ends place many e)
 
-  module _ (some : many ≡ 0 → ⊥) (inside : place + 2 * many ≤ length ends) (a b : ℕ) (first : a ≡ getD ends place 0) (second : b ≡ getD ends (place + 1) 0) where
+  module _ (some : many ≡ 0 → ⊥) (inside : place + 2 * many ≤ length ends) (a b : ℕ) (first : a ≡ getD ends place 0)
+      (second : b ≡ getD ends (place + 1) 0) where
     ends-cons : endsAt ends place many ≡ (a, b) ∷ endsAt ends (place + 2) (many - 1)
     ends-cons = ends-more ends place many some inside ∙ ap (_∷ endsAt ends (place + 2) (many - 1)) (λ i. (sym first i, sym second i))
 
@@ -111,9 +114,11 @@ module _ (spans : List ℕ) (first many : ℕ) where
     spans-cons =
         let e : many ≡ suc (many - 1) = omega arith in
         let next : suc first ≡ first + 1 = omega arith in
-        ap₂ (λ n l. map spanAt (take n l)) e (drop-cons spans first 0 (omega arith)) ∙ ap (λ j. spanAt (getD spans first 0) ∷ map spanAt (take (many - 1) (drop j spans))) next
+        ap₂ (λ n l. map spanAt (take n l)) e (drop-cons spans first 0 (omega arith))
+        ∙ ap (λ j. spanAt (getD spans first 0) ∷ map spanAt (take (many - 1) (drop j spans))) next
 
-    pub spans-more : flatMap (span .write) (spansAt spans first many) ≡ span .write (spanAt (getD spans first 0)) ++ flatMap (span .write) (spansAt spans (first + 1) (many - 1))
+    pub spans-more : flatMap (span .write) (spansAt spans first many)
+        ≡ span .write (spanAt (getD spans first 0)) ++ flatMap (span .write) (spansAt spans (first + 1) (many - 1))
     unfolding flatMap
     spans-more = ap (flatMap (span .write)) spans-cons
 

@@ -1,33 +1,21 @@
 -- The rule that is written: an entry's rule laid over rows of items, dimension by dimension, in the definition's words.
 -- Assumes nothing.
 use mathlib.Core.List.{List, [], _∷_}
-use Prim.Native.Nat.{ℕ, zero, suc}
+use Prim.Native.Nat.{ℕ}
 use Rattle.grid.specs.Cut.{Range}
-use Rattle.definition.specs.Field.{Layout}
 use Rattle.definition.specs.Rule.{operatorOf, Rule, Span}
 use Rattle.definition.specs.Range.{Ends}
 use Rattle.definition.specs.Sheet.{form1, limits1, rule}
 use Rattle.definition.specs.Point.{Dimension, dimensions}
 use Rattle.definition.specs.Group.{itemsOf, asRule}
 use Rattle.span_number.specs.Number.{stateAt}
-use Rattle.rule_writer.specs.Rows.{row}
-
--- a rule with given items in each dimension
-unfoldable pub overItems : List Dimension → List (List Ends) → Rule → Rule
-overItems [] Es r = r
-overItems (d ∷ ds) [] r = r
-overItems (d ∷ ds) (E ∷ Es) r = overItems ds Es (d .over E r)
+use Rattle.tables.specs.Items.{overItems, rowsBelow}
 
 -- the items of runs, dimension by dimension
 unfoldable pub itemsIn : List Dimension → List (List Range) → List (List Ends)
 itemsIn [] Rs = []
 itemsIn (d ∷ ds) [] = []
 itemsIn (d ∷ ds) (R ∷ Rs) = itemsOf (d .bounds) R ∷ itemsIn ds Rs
-
--- the rows below a sort, the last first: dimensions go from weekdays to years
-unfoldable pub rowsBelow : List ℕ → List ℕ → ℕ → List (List Ends)
-rowsBelow ends counts zero = []
-rowsBelow ends counts (suc sort) = row ends counts sort ∷ rowsBelow ends counts sort
 
 -- the rule, and its bits
 abbrev pub ruleOf : ℕ → ℕ → List ℕ → List ℕ → List Span → Rule

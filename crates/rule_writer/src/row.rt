@@ -12,7 +12,9 @@ ghost use Rattle.laws.specs.Lists.{All};
 ghost use Rattle.definition.specs.Field.{Layout};
 ghost use Rattle.definition.specs.Sheet.{span};
 ghost use Rattle.item_writer.specs.Written.{Room, Wrote};
-ghost use Rattle.rule_writer.specs.Rows.{itemBits, upperOf, Below, endsAt, rowBits, Rows, rowPlace, rowsBits, spansAt, FitsSpan};
+ghost use Rattle.rule_writer.specs.Rows.{itemBits, rowBits, rowsBits, spansAt};
+ghost use Rattle.tables.specs.Items.{upperOf, Below, endsAt, Rows, rowPlace};
+ghost use Rattle.tables.specs.Days.{FitsSpan};
 
 pub fn wide(x: u16) -> u64
     ensures { λ r. ⌜ r ≡ x ⌝ }

@@ -7,7 +7,9 @@ ghost use Prim.Native.Nat.{_+_, _≤_, _<_, _^_};
 ghost use lib.ListN.{length};
 ghost use Rattle.laws.specs.Lists.{All};
 ghost use Rattle.item_writer.specs.Written.{Room, Wrote};
-ghost use Rattle.rule_writer.specs.Rows.{Rows, spansAt, FitsSpan};
+ghost use Rattle.rule_writer.specs.Rows.{spansAt};
+ghost use Rattle.tables.specs.Items.{Rows};
+ghost use Rattle.tables.specs.Days.{FitsSpan};
 ghost use Rattle.rule_writer.specs.Written.{ruleBits};
 
 // The operator's number, the state's, the rows of ends, and so many spans, their numbers from a place on.

@@ -1,16 +1,16 @@
 -- A full dimension has no items; any other has its runs as items. Rests on the runs of columns.
 -- Assumes nothing.
 use mathlib.Core.Path.{_≡_, refl, ap, _∙_}
-use mathlib.Core.Bool.{Bool, true, false, _&&_}
+use mathlib.Core.Bool.{Bool, true, false}
 use mathlib.Core.List.{List, [], _∷_, map}
-use Prim.Native.Nat.{ℕ, zero, suc, _+_, _-_, _≤_, _<_}
+use Prim.Native.Nat.{ℕ, zero, suc, _+_, _-_, _<_}
 use native.Mathlib.Omega.{arith}
 use lib.Dec.{eqb}
-use lib.ListN.{length, length-map}
 use borrow.Author.Tests.{eq-eqb, ne-eqb}
 use Rattle.grid.specs.Cut.{Range, glue}
 use Rattle.definition.specs.Group.{itemsOf}
-use Rattle.runs.specs.Runs.{intervalAt, runsOf, runEnd, asItem}
+use Rattle.runs.specs.Runs.{runsOf, runEnd, asItem}
+use Rattle.tables.specs.Cuts.{intervalAt}
 use Rattle.runs.proofs.Joining.{Rises, runs-none, runs-out, runs-in, runs-run, end-within}
 
 -- ## The first run decides
@@ -34,16 +34,6 @@ items-glued b j (k ∷ rs) h = go (eqb (j .1) (k .0)) refl
     go : (t : Bool) → eqb (j .1) (k .0) ≡ t → itemsOf b (glue j (k ∷ rs)) ≡ map asItem (glue j (k ∷ rs))
     go true e = rw (e, glue) (items-late b (j .0, k .1) rs h)
     go false e = rw (e, glue) (items-late b j (k ∷ rs) h)
-
--- there are no more items than runs
-pub items-few : (b : Range) (rs : List Range) → length (itemsOf b rs) ≤ length rs
-unfolding itemsOf
-items-few b [] = omega arith
-items-few b (r ∷ rs) = go (eqb (r .0) (b .0) && eqb (r .1) (b .1)) refl
-  where
-    go : (t : Bool) → (eqb (r .0) (b .0) && eqb (r .1) (b .1)) ≡ t → length (itemsOf b (r ∷ rs)) ≤ length (r ∷ rs)
-    go true e = rw (e, itemsOf) (omega arith)
-    go false e = rw (e, itemsOf) (omega (arith, length-map rs asItem))
 
 module _ (cut : ℕ → ℕ) (t : ℕ → Bool) where
   rises-far : (d x : ℕ) → Rises cut x (suc d) → cut x < cut (suc x + d)
@@ -73,7 +63,8 @@ module _ (cut : ℕ → ℕ) (t : ℕ → Bool) where
           let q : runEnd t 1 w ≡ suc w = rw (e, runEnd) at h in
           let z : suc w - suc w ≡ 0 = omega arith in
           ap (itemsOf (cut 0, cut (suc w))) (runs-run cut t w 0 (suc w) (omega arith) up e ∙ ap (λ x. (cut 0, cut x) ∷ runsOf cut t x (suc w - x)) q
-          ∙ ap (λ n. (cut 0, cut (suc w)) ∷ runsOf cut t (suc w) n) z ∙ ap ((cut 0, cut (suc w)) ∷_) (runs-none cut t (suc w))) ∙ items-full (cut 0, cut (suc w))
+          ∙ ap (λ n. (cut 0, cut (suc w)) ∷ runsOf cut t (suc w) n) z ∙ ap ((cut 0, cut (suc w)) ∷_) (runs-none cut t (suc w)))
+          ∙ items-full (cut 0, cut (suc w))
       go false e = let q : 0 ≡ suc w = rw (e, runEnd) at h in absurd (omega arith)
 
   -- some column fails

@@ -15,7 +15,9 @@ use Rattle.laws.proofs.Spread.{flatMap-map}
 use Rattle.grid.specs.Cut.{Range, glue, joined, runs}
 use Rattle.grid.proofs.Interval.{block, Rising, rising-from, runs-joined}
 use Rattle.grid.proofs.Number.{interval}
-use Rattle.runs.specs.Runs.{intervalAt, runsOf, runEnd}
+use Rattle.runs.specs.Runs.{runsOf, runEnd}
+use Rattle.tables.specs.Cuts.{intervalAt}
+use Rattle.grid.proofs.Count.{glue-more}
 
 -- ## Touching and apart
 glue-touch : (a b c : ℕ) (rs : List Range) → glue (a, b) ((b, c) ∷ rs) ≡ (a, c) ∷ rs
@@ -44,21 +46,6 @@ glue-same a b c (k ∷ rs) = go (eqb c (k .0)) refl
     go : (t : Bool) → eqb c (k .0) ≡ t → length (glue (a, b) (glue (b, c) (k ∷ rs))) ≡ length (glue (b, c) (k ∷ rs))
     go true e = rw (e, glue, eq-eqb b b refl)
     go false e = rw (e, glue, eq-eqb b b refl)
-
-glue-one : (i : Range) (rs : List Range) → length (glue i rs) ≤ suc (length rs)
-unfolding glue
-glue-one i [] = omega arith
-glue-one i (k ∷ rs) = go (eqb (i .1) (k .0)) refl
-  where
-    go : (t : Bool) → eqb (i .1) (k .0) ≡ t → length (glue i (k ∷ rs)) ≤ suc (length (k ∷ rs))
-    go true e = rw (e, glue) (omega arith)
-    go false e = rw (e, glue) (omega arith)
-
--- ranges, joined, are no more
-pub joined-few : (D : List Range) → length (joined D) ≤ length D
-unfolding joined
-joined-few [] = omega arith
-joined-few (i ∷ D) = omega (arith, glue-one i (joined D), joined-few D)
 
 -- cuts that rise over n columns from x on
 abbrev pub Rises : (ℕ → ℕ) → ℕ → ℕ → Type 0
@@ -103,7 +90,8 @@ module _ (cut : ℕ → ℕ) (t : ℕ → Bool) where
       Goal e = runsOf cut t x (suc (suc n)) ≡ (cut x, cut e) ∷ runsOf cut t e (w - e)
 
       go : (b : Bool) → t (suc x) ≡ b
-          → (t (suc x) ≡ true → runsOf cut t (suc x) (suc n) ≡ (cut (suc x), cut (runEnd t (suc (suc x)) n)) ∷ runsOf cut t (runEnd t (suc (suc x)) n) (w - runEnd t (suc (suc x)) n))
+          → (t (suc x) ≡ true → runsOf cut t (suc x) (suc n)
+          ≡ (cut (suc x), cut (runEnd t (suc (suc x)) n)) ∷ runsOf cut t (runEnd t (suc (suc x)) n) (w - runEnd t (suc (suc x)) n))
           → Goal (runEnd t (suc x) (suc n))
       go true e ih =
           rw (e, runEnd) (runs-in x (suc n) h ∙ ap (glue (intervalAt cut x)) (ih e)
@@ -130,7 +118,7 @@ module _ (cut : ℕ → ℕ) (t : ℕ → Bool) where
   runs-few (suc zero) x = go (t x) refl
     where
       go : (b : Bool) → t x ≡ b → 2 * length (runsOf cut t x 1) ≤ 2
-      go true e = omega (arith, ap length (runs-in x 0 e), glue-one (intervalAt cut x) (runsOf cut t (suc x) 0), ap length (runs-none (suc x)))
+      go true e = omega (arith, ap length (runs-in x 0 e), glue-more (intervalAt cut x) (runsOf cut t (suc x) 0), ap length (runs-none (suc x)))
       go false e = omega (arith, ap length (runs-out x 0 e), ap length (runs-none (suc x)))
   runs-few (suc (suc n)) x = go (t x) refl (t (suc x)) refl (runs-few (suc n) (suc x)) (runs-few n (suc (suc x)))
     where
@@ -149,7 +137,7 @@ module _ (cut : ℕ → ℕ) (t : ℕ → Bool) where
           omega (
             arith,
             ap length (runs-in x (suc n) e ∙ ap (glue (intervalAt cut x)) (runs-out (suc x) n f)),
-            glue-one (intervalAt cut x) (runsOf cut t (suc (suc x)) n),
+            glue-more (intervalAt cut x) (runsOf cut t (suc (suc x)) n),
             later,
           )
 
@@ -162,7 +150,8 @@ module _ (cut : ℕ → ℕ) (t : ℕ → Bool) where
       step : cut x < cut (suc x)
       step = up x (omega arith) (omega arith)
 
-      go : (b : Bool) → t x ≡ b → Rising (cut (suc x)) (map (intervalAt cut) (keep t (from (suc x) n))) → Rising lo (map (intervalAt cut) (keep t (from x (suc n))))
+      go : (b : Bool) → t x ≡ b → Rising (cut (suc x)) (map (intervalAt cut) (keep t (from (suc x) n)))
+          → Rising lo (map (intervalAt cut) (keep t (from x (suc n))))
       go true e ih = rw (e, keep) (l, step, ih)
       go false e ih = rw (e, keep) (rising-from lo (cut (suc x)) (map (intervalAt cut) (keep t (from (suc x) n))) (omega (arith, step)) ih)
 

@@ -1,4 +1,4 @@
 pub mod Joining
 pub mod Filling
-pub mod Ways
+pub mod Returns
 pub mod Within

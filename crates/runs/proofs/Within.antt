@@ -12,7 +12,8 @@ use Rattle.laws.proofs.Lists.{All-map, All-image}
 use Rattle.grid.specs.Cut.{Range, glue}
 use Rattle.definition.specs.Range.{Ends}
 use Rattle.definition.specs.Group.{itemsOf}
-use Rattle.runs.specs.Runs.{intervalAt, runsOf, cutOf, Cuts, asItem}
+use Rattle.runs.specs.Runs.{runsOf, cutOf, Cuts, asItem}
+use Rattle.tables.specs.Cuts.{intervalAt}
 use Rattle.runs.proofs.Joining.{Rises, runs-none, runs-in, runs-out}
 
 -- ## Runs below a top
@@ -48,7 +49,8 @@ module _ (cut : ℕ → ℕ) (t : ℕ → Bool) where
       go : (b : Bool) → t x ≡ b → All (Inside top) (runsOf cut t (suc x) n) → All (Inside top) (runsOf cut t x (suc n))
       go true e ih =
           subst (All (Inside top)) (sym (runs-in cut t x n e))
-          (glue-inside top (intervalAt cut x) (runsOf cut t (suc x) n) (up x (omega arith) (omega arith), omega (arith, h, ap cut next, rises-top n (suc x) later)) ih)
+          (glue-inside top (intervalAt cut x) (runsOf cut t (suc x) n)
+          (up x (omega arith) (omega arith), omega (arith, h, ap cut next, rises-top n (suc x) later)) ih)
       go false e ih = subst (All (Inside top)) (sym (runs-out cut t x n e)) ih
 
 -- ## Items

@@ -2,7 +2,7 @@
 -- runs .. a full dimension has no items".
 -- Assumes nothing.
 use mathlib.Core.Bool.{Bool, true, false}
-use mathlib.Core.List.{List, [], _∷_, map}
+use mathlib.Core.List.{List, map}
 use Prim.Native.Nat.{ℕ, zero, suc, _+_, _-_, _<_}
 use lib.Dec.{eqb}
 use lib.ListN.{length, getD}
@@ -11,10 +11,7 @@ use Rattle.grid.specs.Cut.{Range, joined}
 use Rattle.definition.specs.Range.{Ends}
 use Rattle.definition.specs.Group.{itemsOf}
 use Rattle.paving.specs.Grid.{marksFrom}
-
--- ## Columns between cuts
-abbrev pub intervalAt : (ℕ → ℕ) → ℕ → Range
-intervalAt cut x = (cut x, cut (suc x))
+use Rattle.tables.specs.Cuts.{intervalAt}
 
 -- the runs of those of n columns from x on that pass a test
 unfoldable pub runsOf : (ℕ → ℕ) → (ℕ → Bool) → ℕ → ℕ → List Range
@@ -45,10 +42,6 @@ runsFrom marks base width cuts row x = joined (map (intervalAt (cutOf cuts row))
 -- a run as an item, and items as numbers
 abbrev pub asItem : Range → Ends
 asItem q = (q .0, q .1 - 1)
-
-unfoldable pub numbers : List Ends → List ℕ
-numbers [] = []
-numbers (e ∷ es) = e .0 ∷ e .1 ∷ numbers es
 
 -- the items of a dimension
 abbrev pub itemsAt : List ℕ → ℕ → ℕ → List ℕ → ℕ → List Ends

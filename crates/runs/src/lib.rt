@@ -6,7 +6,8 @@ ghost use mathlib.Core.List.{map};
 ghost use Prim.Native.Nat.{_+_, _-_, _*_, _≤_};
 ghost use lib.ListN.{length};
 ghost use lib.Seq.{sets};
-ghost use Rattle.runs.specs.Runs.{markAt, runEnd, Cuts, runsFrom, asItem, numbers, itemsAt};
+ghost use Rattle.runs.specs.Runs.{markAt, runEnd, Cuts, runsFrom, asItem, itemsAt};
+ghost use Rattle.tables.specs.Items.{numbers};
 
 // The first column from one on that isn't marked, or the width.
 fn run_end(marks: &[u8], base: usize, width: usize, column: usize) -> usize

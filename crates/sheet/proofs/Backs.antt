@@ -30,6 +30,7 @@ module _ (room : ℕ) (sheet : List ℕ) where
   unfolding checked writeBack
   back-copied b n q e = go (decode form1 limits1 sheet) refl e
     where
-      go : (w : Read (List Rule)) → decode form1 limits1 sheet ≡ w → andThen (λ rs q. got (length rs) q) w ≡ got n q → writeBack form1 limits1 room sheet ≡ writtenInto room sheet
+      go : (w : Read (List Rule)) → decode form1 limits1 sheet ≡ w → andThen (λ rs q. got (length rs) q) w ≡ got n q
+          → writeBack form1 limits1 room sheet ≡ writtenInto room sheet
       go (refused c p) h g = clash c p n q g
       go (got rs p) h g = rw (h, writeBack) (ap (writtenInto room) (encode-decoded form1 limits1 sheet b rs p h .1))

@@ -13,7 +13,7 @@ use lib.Seq.{getD-set-same, getD-set-other, ext-getD}
 use Rattle.laws.specs.Lists.{from}
 use Rattle.laws.proofs.Numbers.{length-from}
 use Rattle.definition.specs.Field.{Read, got, refused, andThen, badEnd, bytesFor, sheetBits, counted, readAll, several}
-use Rattle.definition.specs.Rule.{Rule}
+use Rattle.definition.specs.Rule.{Rule, noRule}
 use Rattle.definition.specs.Sheet.{form1, limits1, rule, rules, firstSet, ended, decode}
 use Rattle.definition.proofs.Bits.{Bits, Bytes, sheet-bits}
 use Rattle.definition.proofs.Faithful.{Stand, clash, several-faithful}
@@ -22,7 +22,7 @@ use Rattle.definition.proofs.Lengths.{rule-short}
 use Rattle.definition.proofs.SheetRead.{rule-faithful}
 use Rattle.sheet.specs.End.{ends}
 use Rattle.sheet.specs.Rules.{ruleEnds, noted, begun, checked, rulesAt, AllBegin}
-use Rattle.sheet.specs.Begin.{noRule, ruleOf, ruleAt, Readable}
+use Rattle.sheet.specs.Begin.{ruleOf, ruleAt, Readable}
 use Rattle.sheet.proofs.RuleRows.{noted-goes}
 use Rattle.sheet.proofs.Whole.{count-begun, none-begun, count-low}
 
@@ -59,13 +59,15 @@ unfolding noted
 noted-length s zero i p begins = refl
 noted-length s (suc n) i p begins = go (ruleEnds s p) refl (λ q bs. noted-length s n (i + 1) q bs)
   where
-    go : (w : Read (Unit {0})) → ruleEnds s p ≡ w → ((q : ℕ) (bs : List ℕ) → length (noted s n (i + 1) q bs) ≡ length bs) → length (noted s (suc n) i p begins) ≡ length begins
+    go : (w : Read (Unit {0})) → ruleEnds s p ≡ w → ((q : ℕ) (bs : List ℕ) → length (noted s n (i + 1) q bs) ≡ length bs)
+        → length (noted s (suc n) i p begins) ≡ length begins
     go (got u q) h ih = rw (h, noted) (ih q (set begins i p) ∙ length-set begins i p)
     go (refused c q) h ih = rw (h, noted) (length-set begins i p)
 
 module _ (s : List ℕ) (bits : Bits s) (q : ℕ) where
   -- the rule noted first, and one that is noted later
-  first-begin : (n : ℕ) (rs : List Rule) (i p : ℕ) (begins : List ℕ) → i < length begins → p < 2 ^ 25 → readAll ((rule form1 limits1) .read) (suc n) s p ≡ got rs q
+  first-begin : (n : ℕ) (rs : List Rule) (i p : ℕ) (begins : List ℕ) → i < length begins → p < 2 ^ 25
+      → readAll ((rule form1 limits1) .read) (suc n) s p ≡ got rs q
       → Begins s q rs 0 (getD (noted s (suc n) i p begins) (i + 0) 0)
   unfolding several
   first-begin n rs i p begins room low e =
@@ -84,15 +86,19 @@ module _ (s : List ℕ) (bits : Bits s) (q : ℕ) where
       })
 
   later-begin : (n : ℕ) (r : Rule) (rs : List Rule) (i p j : ℕ) (begins : List ℕ) → (rule form1 limits1) .read s p ≡ got r j → (k : ℕ)
-      → Begins s q rs k (getD (noted s n (i + 1) j (set begins i p)) (i + 1 + k) 0) → Begins s q (r ∷ rs) (suc k) (getD (noted s (suc n) i p begins) (i + suc k) 0)
+      → Begins s q rs k (getD (noted s n (i + 1) j (set begins i p)) (i + 1 + k) 0)
+      → Begins s q (r ∷ rs) (suc k) (getD (noted s (suc n) i p begins) (i + suc k) 0)
   later-begin n r rs i p j begins e k later =
       let z : i + 1 + k ≡ i + suc k = omega arith in
       let place : getD (noted s n (i + 1) j (set begins i p)) (i + 1 + k) 0 ≡ getD (noted s (suc n) i p begins) (i + suc k) 0 =
-      ap (λ m. getD (noted s n (i + 1) j (set begins i p)) m 0) z ∙ ap (λ bs. getD bs (i + suc k) 0) (sym (noted-goes s p i begins (suc n) n j refl (ap ends e)))
+      ap (λ m. getD (noted s n (i + 1) j (set begins i p)) m 0) z ∙ ap (λ bs. getD bs (i + suc k) 0)
+      (sym (noted-goes s p i begins (suc n) n j refl (ap ends e)))
       in
-      subst (Begins s q (r ∷ rs) (suc k)) place (record { readable = later .readable; begun-rule = later .begun-rule; low = later .low; stands = later .stands })
+      subst (Begins s q (r ∷ rs) (suc k)) place
+      (record { readable = later .readable; begun-rule = later .begun-rule; low = later .low; stands = later .stands })
 
-  noted-begin : (n : ℕ) (rs : List Rule) (i p : ℕ) (begins : List ℕ) → i + n ≤ length begins → p + n * 2998 < 2 ^ 25 → readAll ((rule form1 limits1) .read) n s p ≡ got rs q
+  noted-begin : (n : ℕ) (rs : List Rule) (i p : ℕ) (begins : List ℕ) → i + n ≤ length begins → p + n * 2998 < 2 ^ 25
+      → readAll ((rule form1 limits1) .read) n s p ≡ got rs q
       → (k : ℕ) → k < n → Begins s q rs k (getD (noted s n i p begins) (i + k) 0)
   noted-begin zero rs i p begins room low e k l = absurd (omega arith)
   noted-begin (suc n) rs i p begins room low e zero l = first-begin n rs i p begins (omega arith) (omega arith) e
@@ -100,7 +106,8 @@ module _ (s : List ℕ) (bits : Bits s) (q : ℕ) where
       let w = all-parts ((rule form1 limits1) .read) n s p rs q e in
       subst (λ xs. Begins s q xs (suc k) (getD (noted s (suc n) i p begins) (i + suc k) 0)) (w .5)
       (later-begin n (w .0) (w .2) i p (w .1) begins (w .3) k
-      (noted-begin n (w .2) (i + 1) (w .1) (set begins i p) (omega (arith, length-set begins i p)) (omega (arith, rule-short s p (w .0) (w .1) (w .3))) (w .4) k (omega arith)))
+      (noted-begin n (w .2) (i + 1) (w .1) (set begins i p) (omega (arith, length-set begins i p))
+      (omega (arith, rule-short s p (w .0) (w .1) (w .3))) (w .4) k (omega arith)))
 
 -- ## A whole sheet
 -- what is known to end well was read
@@ -126,7 +133,8 @@ begun-length sheet begins = go ((counted (form1 .ruleCount) (limits1 .rules)) .r
 module _ (sheet : List ℕ) (rs : List Rule) (q : ℕ) where
   -- a count of rules, and as many rules
   decode-parts : decode form1 limits1 sheet ≡ got rs q
-      → (n : ℕ) × (p : ℕ) × ((counted (form1 .ruleCount) (limits1 .rules)) .read (sheetBits sheet) 0 ≡ got n p) × (readAll ((rule form1 limits1) .read) n (sheetBits sheet) p ≡ got rs q)
+      → (n : ℕ) × (p : ℕ) × ((counted (form1 .ruleCount) (limits1 .rules)) .read (sheetBits sheet) 0 ≡ got n p) ×
+      (readAll ((rule form1 limits1) .read) n (sheetBits sheet) p ≡ got rs q)
   unfolding decode rules several
   decode-parts e = tagged-parts _ _ _ (sheetBits sheet) 0 rs q (go ((rules form1 limits1) .read (sheetBits sheet) 0) refl e)
     where
@@ -185,7 +193,8 @@ module _ (s begins : List ℕ) (n : ℕ) where
       getD-from (λ k. ruleAt s (getD begins k 0)) noRule 0 n k l ∙ ap (λ j. ruleAt s (getD begins j 0)) z
 
 -- the rules of a sheet that was read, each where its beginning is noted
-module _ (sheet : List ℕ) (b : Bytes sheet) (rs : List Rule) (q : ℕ) (e : decode form1 limits1 sheet ≡ got rs q) (begins : List ℕ) (room : 64 ≤ length begins) where
+module _ (sheet : List ℕ) (b : Bytes sheet) (rs : List Rule) (q : ℕ) (e : decode form1 limits1 sheet ≡ got rs q) (begins : List ℕ)
+    (room : 64 ≤ length begins) where
   pub all-begin : AllBegin (sheetBits sheet) (begun sheet begins) (length rs)
   all-begin i l = let w = rules-begin sheet rs q b e begins room i l in (w .readable, w .low)
 

@@ -91,7 +91,8 @@ skip-keeps r s I step (suc n) p q i e = go (r s p) refl e (skip-keeps r s I step
     go (got u j) h g ih = ih j q (step n p j i h) g
 
 -- a row takes at most as often as many bits as one
-pub skip-short : (r : List ℕ → ℕ → End) (m : ℕ) (s : List ℕ) → ((p q : ℕ) → r s p ≡ got tt q → q ≤ p + m) → (n p q : ℕ) → skipAll r n s p ≡ got tt q → q ≤ p + n * m
+pub skip-short : (r : List ℕ → ℕ → End) (m : ℕ) (s : List ℕ) → ((p q : ℕ) → r s p ≡ got tt q → q ≤ p + m) → (n p q : ℕ) → skipAll r n s p ≡ got tt q
+    → q ≤ p + n * m
 skip-short r m s short n p q e =
     let end = skip-keeps r s (λ k j. j + k * m ≤ p + n * m) (λ k j i l h. omega (arith, short j i h)) n p q (omega arith) e in
     omega (arith, end)

@@ -1,4 +1,4 @@
--- The ways out of the readers of a rule's head.
+-- One lemma for each return of the readers of a rule's head.
 -- Assumes nothing.
 use mathlib.Core.Path.{_≡_, sym, ap, _∙_}
 use Prim.Native.Nat.{ℕ}

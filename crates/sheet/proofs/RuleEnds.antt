@@ -14,7 +14,7 @@ use Rattle.sheet.specs.End.{ends}
 use Rattle.sheet.specs.Head.{asTitle, asCounts}
 use Rattle.sheet.specs.Rules.{countedEnds}
 
--- ## The ways out
+-- ## One lemma for each return
 module _ (s : List ℕ) (p : ℕ) where
   pub counted-goes : (n : Counts) (q : ℕ) → (counts form1 limits1) .read s p ≡ got n q → countedEnds s p ≡ ends ((body form1 limits1 n) .read s q)
   unfolding countedEnds
@@ -32,7 +32,8 @@ module _ (s : List ℕ) (p : ℕ) where
       items n (got b j) = refl
       items n (refused c j) = refl
 
-      go : (w : Read Counts) → ends (andThen (λ h j. andThen (λ b i. got (ruleWith h b) i) ((body form1 limits1 (h .1)) .read s j)) (andThen (λ n i. got (t, n) i) w))
+      go : (w : Read Counts) → ends
+          (andThen (λ h j. andThen (λ b i. got (ruleWith h b) i) ((body form1 limits1 (h .1)) .read s j)) (andThen (λ n i. got (t, n) i) w))
           ≡ andThen (λ n i. ends ((body form1 limits1 n) .read s i)) w
       go (got n i) = items n ((body form1 limits1 n) .read s i)
       go (refused c i) = refl

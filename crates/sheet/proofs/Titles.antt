@@ -26,11 +26,13 @@ module _ (s : List ℕ) (p : ℕ) (readable : Readable s p) where
   pub title-refused : {G : Type 0} (c q : ℕ) → (title form1 limits1) .read s p ≡ refused c q → G
   title-refused c q e = clash c q (headOf (ruleAt s p) .0) (p + 20) (sym e ∙ parts .titled)
 
-  pub counts-same : (n : Counts) (q : ℕ) → (counts form1 limits1) .read s (p + 20) ≡ got n q → (n ≡ parts .many) × (q ≡ p + 70) × (n .1 .1 .1 .1 ≡ length ((ruleAt s p) .spans))
+  pub counts-same : (n : Counts) (q : ℕ) → (counts form1 limits1) .read s (p + 20) ≡ got n q
+      → (n ≡ parts .many) × (q ≡ p + 70) × (n .1 .1 .1 .1 ≡ length ((ruleAt s p) .spans))
   counts-same n q e =
       let g : _≡_ {A = Read Counts} (got n q) (got (parts .many) (p + 70)) = sym e ∙ parts .counted in
       let same : n ≡ parts .many = cc in
-      let spans : _≡_ {A = Read ℕ} (got (n .1 .1 .1 .1) (p + 20 + 40 + 10)) (got (length ((ruleAt s p) .spans)) (p + 20 + 40 + 10)) = sym (counts-parts s (p + 20) n q e .4) ∙ parts .count-spans in
+      let spans : _≡_ {A = Read ℕ} (got (n .1 .1 .1 .1) (p + 20 + 40 + 10)) (got (length ((ruleAt s p) .spans)) (p + 20 + 40 + 10)) =
+      sym (counts-parts s (p + 20) n q e .4) ∙ parts .count-spans in
       let z : q ≡ p + 70 = cc in
       let long : n .1 .1 .1 .1 ≡ length ((ruleAt s p) .spans) = cc in
       (same, z, long)

@@ -42,7 +42,8 @@ ended-any s x q = go (firstSet (take (8 * bytesFor q - q) (drop q s)) q) refl (l
     go none h false k = rw (h, k, ended) refl
 
 -- the rules' reading, less the values
-rules-read : (s : List ℕ) → Bits s → (n p : ℕ) → andThen (λ rs q. got (length rs) q) (andThen (ended s) ((several n (rule form1 limits1)) .read s p)) ≡ checkedFrom s n p
+rules-read : (s : List ℕ) → Bits s → (n p : ℕ)
+    → andThen (λ rs q. got (length rs) q) (andThen (ended s) ((several n (rule form1 limits1)) .read s p)) ≡ checkedFrom s n p
 unfolding several checkedFrom
 rules-read s h n p = go ((several n (rule form1 limits1)) .read s p) refl
   where
@@ -51,15 +52,19 @@ rules-read s h n p = go ((several n (rule form1 limits1)) .read s p) refl
     go (refused c q) e = rw e (sym (rules-stop s n p c q (sym (ends-all _ n s p) ∙ ap ends e)))
     go (got rs q) e =
         let long = (several-faithful (rule-faithful form1 limits1) n) .written s h p rs q e .0 in
-        rw e (ap (andThen (λ rs q. got (length rs) q)) (ended-any s rs q) ∙ counted-ends (ended s (tt {0}) q) rs long ∙ sym (rules-go s n p q (sym (ends-all _ n s p) ∙ ap ends e)))
+        rw e
+        (ap (andThen (λ rs q. got (length rs) q)) (ended-any s rs q) ∙ counted-ends (ended s (tt {0}) q) rs long
+        ∙ sym (rules-go s n p q (sym (ends-all _ n s p) ∙ ap ends e)))
       where
-        counted-ends : (w : Read (Unit {0})) (rs : List Rule) → length rs ≡ n → andThen (λ rs q. got (length rs) q) (andThen (λ u e. got rs e) w) ≡ andThen (λ u e. got n e) w
+        counted-ends : (w : Read (Unit {0})) (rs : List Rule) → length rs ≡ n
+            → andThen (λ rs q. got (length rs) q) (andThen (λ u e. got rs e) w) ≡ andThen (λ u e. got n e) w
         counted-ends (got u e) rs l = ap (λ k. got k e) l
         counted-ends (refused c e) rs l = refl
 
 -- ## From the count on
 module _ (sheet : List ℕ) where
-  pub count-goes : Bytes sheet → (n q : ℕ) → (counted (form1 .ruleCount) (limits1 .rules)) .read (sheetBits sheet) 0 ≡ got n q → checked sheet ≡ checkedFrom (sheetBits sheet) n q
+  pub count-goes : Bytes sheet → (n q : ℕ) → (counted (form1 .ruleCount) (limits1 .rules)) .read (sheetBits sheet) 0 ≡ got n q
+      → checked sheet ≡ checkedFrom (sheetBits sheet) n q
   unfolding checked decode rules tagged
   count-goes h n q e = rw e (rules-read (sheetBits sheet) (sheet-bits sheet h) n q)
 
@@ -72,7 +77,8 @@ module _ (sheet : List ℕ) where
   unfolding begun
   count-begun n q e begins = rw (e, begun) refl
 
-  pub none-begun : (c q : ℕ) → (counted (form1 .ruleCount) (limits1 .rules)) .read (sheetBits sheet) 0 ≡ refused c q → (begins : List ℕ) → begun sheet begins ≡ begins
+  pub none-begun : (c q : ℕ) → (counted (form1 .ruleCount) (limits1 .rules)) .read (sheetBits sheet) 0 ≡ refused c q → (begins : List ℕ)
+      → begun sheet begins ≡ begins
   unfolding begun
   none-begun c q e begins = rw (e, begun) refl
 

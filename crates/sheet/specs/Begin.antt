@@ -1,15 +1,11 @@
 -- The rule that begins at a bit.
 -- Assumes nothing.
 use mathlib.Core.Path.{_≡_}
-use mathlib.Core.List.{List, []}
+use mathlib.Core.List.{List}
 use Prim.Native.Nat.{ℕ}
 use Rattle.definition.specs.Field.{Read, got, refused}
-use Rattle.definition.specs.Rule.{Normal, closed, Rule}
+use Rattle.definition.specs.Rule.{Rule, noRule}
 use Rattle.definition.specs.Sheet.{form1, limits1, rule}
-
--- what stands for a rule where none is read
-abbrev pub noRule : Rule
-noRule = record { operator = Normal; state = closed; years = []; monthdays = []; weeks = []; weekdays = []; spans = [] }
 
 abbrev pub ruleOf : Read Rule → Rule
 ruleOf (got r q) = r

@@ -2,4 +2,4 @@ pub mod End
 pub mod Head
 pub mod Rules
 pub mod Begin
-pub mod Back
+pub mod Parts

@@ -1,22 +1,16 @@
 // Writing back: an accepted sheet's rules, written again. Reading and writing are inverse, so they are the sheet's own bytes: these are
 // copied, and no rule is taken apart.
 use crate::check::Checked;
+use answers::Written;
 ghost use mathlib.Core.Path.{_≡_};
 ghost use lib.ListN.{length};
 ghost use Rattle.definition.specs.Sheet.{form1, limits1};
 ghost use Rattle.definition.specs.Fold.{buffer, writtenNumbers, writtenInto, writeBack};
-ghost use Rattle.sheet.specs.Back.{answered};
-
-// "code, bytes written and place".
-pub struct Written {
-    pub code: u8,
-    pub bytes: usize,
-    pub place: usize,
-}
+ghost use Rattle.answers.specs.Numbers.{writeNumbers};
 
 // The sheet's bytes at the front of the buffer, where they have room.
 fn copy_back(sheet: &[u8], out: &mut [u8]) -> Written
-    ensures { λ r. ⌜ (answered r ≡ writtenNumbers (writtenInto (length (now (out .entry))) (now (sheet .entry))))
+    ensures { λ r. ⌜ (writeNumbers r ≡ writtenNumbers (writtenInto (length (now (out .entry))) (now (sheet .entry))))
         × (now (out .exit) ≡ buffer ((writtenInto (length (now (out .entry))) (now (sheet .entry))) .result) (now (out .entry))) ⌝ }
 {
     if out.len() < sheet.len() {
@@ -36,7 +30,7 @@ fn copy_back(sheet: &[u8], out: &mut [u8]) -> Written
 
 // "Writing back refuses by 1 to 4 and 7 only, in the order below."
 pub fn write_back(sheet: &[u8], out: &mut [u8]) -> Written
-    ensures { λ r. ⌜ (answered r ≡ writtenNumbers (writeBack form1 limits1 (length (now (out .entry))) (now (sheet .entry))))
+    ensures { λ r. ⌜ (writeNumbers r ≡ writtenNumbers (writeBack form1 limits1 (length (now (out .entry))) (now (sheet .entry))))
         × (now (out .exit) ≡ buffer ((writeBack form1 limits1 (length (now (out .entry))) (now (sheet .entry))) .result) (now (out .entry))) ⌝ }
 {
     let mut begins = [0usize; 64];

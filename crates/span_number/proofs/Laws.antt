@@ -6,7 +6,7 @@ use Prim.Native.Nat.{ℕ, _-_, _/_, _%_, _≤_, _<_}
 use native.Mathlib.Omega.{arith}
 use lib.Dec.{eqb, leb, ltb}
 use borrow.Author.Tests.{ltb-true, ltb-false, leb-true, lt-ltb, le-ltb, eqb-true, eqb-false, eq-eqb, ne-eqb}
-use Rattle.laws.proofs.Flags.{not-true, split-and}
+use Rattle.laws.proofs.Flags.{not-true, split-and, and-true, and-false}
 use Rattle.definition.specs.Rule.{kindNumber}
 use Rattle.definition.specs.Day.{simple, noRepeats, fixedWithinDay, stateClass}
 use Rattle.definition.specs.Stop.{staysToday, spanStops}
@@ -25,17 +25,14 @@ within-numbers a b = go (ltb a 262144) refl (ltb b 262144) refl
     go true p false q = rw (p, q, lt-ltb a b (omega (arith, ltb-true a 262144 p, ltb-false b 262144 q))) (sym (too-late b (ltb-false b 262144 q)))
     go false p true q = rw (p, le-ltb a b (omega (arith, ltb-false a 262144 p, ltb-true b 262144 q)))
     go false p false q = rw (p, too-late b (ltb-false b 262144 q)) (sym (and-false (ltb a b)))
-      where
-        and-false : (v : Bool) → v && false ≡ false
-        and-false true = refl
-        and-false false = refl
 
 -- neither `open_end` nor repeats
 plain-number : (n : ℕ) → not (eqb (n / 8192 % 2) 1) && noRepeats (repeatsAt (n % 8192)) ≡ eqb (n % 16384) 0
 unfolding repeatsAt
 plain-number n = go (eqb (n / 8192 % 2) 1) refl (eqb (n % 8192) 0) refl
   where
-    go : (s : Bool) → eqb (n / 8192 % 2) 1 ≡ s → (t : Bool) → eqb (n % 8192) 0 ≡ t → not (eqb (n / 8192 % 2) 1) && noRepeats (repeatsAt (n % 8192)) ≡ eqb (n % 16384) 0
+    go : (s : Bool) → eqb (n / 8192 % 2) 1 ≡ s → (t : Bool) → eqb (n % 8192) 0 ≡ t
+        → not (eqb (n / 8192 % 2) 1) && noRepeats (repeatsAt (n % 8192)) ≡ eqb (n % 16384) 0
     go true p t q = let e = eqb-true (n / 8192 % 2) 1 p in rw (p, ne-eqb (n % 16384) 0 (omega arith))
     go false p true q = let e = eqb-false (n / 8192 % 2) 1 p in let f = eqb-true (n % 8192) 0 q in rw (p, q, eq-eqb (n % 16384) 0 (omega arith))
     go false p false q = let f = eqb-false (n % 8192) 0 q in rw (p, q, ne-eqb (n % 16384) 0 (omega arith))
@@ -48,7 +45,8 @@ stays-numbers : (a b : ℕ) → staysToday (timeAt a) (timeAt b) ≡ cond (ltb a
 unfolding timeAt
 stays-numbers a b = go (ltb a 262144) refl (ltb b 262144) refl
   where
-    go : (s : Bool) → ltb a 262144 ≡ s → (t : Bool) → ltb b 262144 ≡ t → staysToday (timeAt a) (timeAt b) ≡ cond (ltb a 262144) (ltb a b && leb b 1440) (eqb b 1440)
+    go : (s : Bool) → ltb a 262144 ≡ s → (t : Bool) → ltb b 262144 ≡ t
+        → staysToday (timeAt a) (timeAt b) ≡ cond (ltb a 262144) (ltb a b && leb b 1440) (eqb b 1440)
     go true p true q = rw (p, q)
     go true p false q = rw (p, q, lt-ltb a b (omega (arith, ltb-true a 262144 p, ltb-false b 262144 q))) (sym (too-late b (ltb-false b 262144 q)))
     go false p true q = rw (p, q)
@@ -67,11 +65,9 @@ module _ (n s e : ℕ) (hs : s ≡ n / 8589934592) (he : e ≡ n / 16384 % 52428
   pub simple-plain : n % 16384 ≡ 0 → s < e → leb e 1440 ≡ simple (spanAt n)
   simple-plain p l =
       ap (λ v. leb v 1440) he
-      ∙ sym (simple-number n ∙ rw (lt-ltb (n / 8589934592) (n / 16384 % 524288) (omega arith), eq-eqb (n % 16384) 0 p) (and-true (leb (n / 16384 % 524288) 1440)))
-    where
-      and-true : (v : Bool) → v && true ≡ v
-      and-true true = refl
-      and-true false = refl
+      ∙ sym
+      (simple-number n ∙ rw (lt-ltb (n / 8589934592) (n / 16384 % 524288) (omega arith), eq-eqb (n % 16384) 0 p)
+      (and-true (leb (n / 16384 % 524288) 1440)))
 
   pub simple-late : e ≤ s → false ≡ simple (spanAt n)
   simple-late l = sym (simple-number n ∙ rw (le-ltb (n / 8589934592) (n / 16384 % 524288) (omega arith)))
@@ -89,10 +85,6 @@ module _ (n s e : ℕ) (hs : s ≡ n / 8589934592) (he : e ≡ n / 16384 % 52428
 
 pub simple-open : (n : ℕ) → (n % 16384 ≡ 0 → ⊥) → false ≡ simple (spanAt n)
 simple-open n p = sym (simple-number n ∙ rw (ne-eqb (n % 16384) 0 p) (and-false (ltb (n / 8589934592) (n / 16384 % 524288) && leb (n / 16384 % 524288) 1440)))
-  where
-    and-false : (v : Bool) → v && false ≡ false
-    and-false true = refl
-    and-false false = refl
 
 -- a simple span lies within the day, by its number
 pub simple-bounds : (n : ℕ) → simple (spanAt n) ≡ true

@@ -8,7 +8,7 @@ use Prim.Native.Nat.{ℕ, suc, _+_, _*_, _-_, _/_, _%_, _<_}
 use native.Mathlib.Omega.{arith}
 use lib.Dec.{eqb, leb, ltb}
 use borrow.Author.Tests.{ltb-true, ltb-false, lt-ltb, le-ltb, eqb-true, eqb-false, eq-eqb, ne-eqb}
-use Rattle.laws.proofs.Flags.{same-flag}
+use Rattle.laws.proofs.Flags.{same-flag, bit-flag}
 use Rattle.definition.specs.Rule.{Kind, Open, Closed, Unknown, State, sameState, Time, fixed, variable, Span, bySize, timeKey, repeatsKey, spanKey, notAbove}
 use Rattle.definition.proofs.Same.{exact-state}
 use Rattle.span_number.specs.Number.{stateNumber, stateAt, NumberedState, timeNumber, timeAt, NumberedTime, partsNumber, spanNumber, repeatsAt, spanAt, Numbered}
@@ -34,10 +34,12 @@ number-state S h = go (S .kind) refl
         rw (e, lt-ltb (0 * 65536 + S .comment) 65536 (omega arith)) (λ i. record { kind = Open; comment = c i })
     go Closed e =
         let c : 1 * 65536 + S .comment - 65536 ≡ S .comment = omega arith in
-        rw (e, le-ltb (1 * 65536 + S .comment) 65536 (omega arith), lt-ltb (1 * 65536 + S .comment) 131072 (omega arith)) (λ i. record { kind = Closed; comment = c i })
+        rw (e, le-ltb (1 * 65536 + S .comment) 65536 (omega arith), lt-ltb (1 * 65536 + S .comment) 131072 (omega arith))
+        (λ i. record { kind = Closed; comment = c i })
     go Unknown e =
         let c : 2 * 65536 + S .comment - 131072 ≡ S .comment = omega arith in
-        rw (e, le-ltb (2 * 65536 + S .comment) 65536 (omega arith), le-ltb (2 * 65536 + S .comment) 131072 (omega arith)) (λ i. record { kind = Unknown; comment = c i })
+        rw (e, le-ltb (2 * 65536 + S .comment) 65536 (omega arith), le-ltb (2 * 65536 + S .comment) 131072 (omega arith))
+        (λ i. record { kind = Unknown; comment = c i })
 
 -- equal numbers, equal states
 pub same-states : (m n : ℕ) → sameState (stateAt m) (stateAt n) ≡ eqb m n
@@ -77,18 +79,28 @@ time-key : (t u : Time) → NumberedTime t → NumberedTime u → (ks ls : List 
 unfolding timeNumber notAbove
 time-key (fixed m) (fixed n) h k ks ls = refl
 time-key (fixed m) (variable e o) h k ks ls = rw (lt-ltb m (262144 + e * 65536 + bySize o) (omega arith))
-time-key (variable e o) (fixed n) h k ks ls = rw (le-ltb (262144 + e * 65536 + bySize o) n (omega arith), ne-eqb (262144 + e * 65536 + bySize o) n (omega arith))
-time-key (variable e o) (variable f p) h k ks ls = sym (ap₂ (λ a b. a || (b && notAbove ks ls)) less same ∙ digit-step 65536 e f (bySize o) (bySize p) (notAbove ks ls) (omega arith) (omega arith))
+time-key (variable e o) (fixed n) h k ks ls =
+    rw (le-ltb (262144 + e * 65536 + bySize o) n (omega arith), ne-eqb (262144 + e * 65536 + bySize o) n (omega arith))
+time-key (variable e o) (variable f p) h k ks ls =
+    sym (ap₂ (λ a b. a || (b && notAbove ks ls)) less same ∙ digit-step 65536 e f (bySize o) (bySize p) (notAbove ks ls) (omega arith) (omega arith))
   where
     less : ltb (262144 + e * 65536 + bySize o) (262144 + f * 65536 + bySize p) ≡ ltb (e * 65536 + bySize o) (f * 65536 + bySize p)
     less = same-flag _ _
-        (λ h. let m = ltb-true (262144 + e * 65536 + bySize o) (262144 + f * 65536 + bySize p) h in lt-ltb (e * 65536 + bySize o) (f * 65536 + bySize p) (omega arith))
-        (λ h. let m = ltb-true (e * 65536 + bySize o) (f * 65536 + bySize p) h in lt-ltb (262144 + e * 65536 + bySize o) (262144 + f * 65536 + bySize p) (omega arith))
+        (λ h.
+        let m = ltb-true (262144 + e * 65536 + bySize o) (262144 + f * 65536 + bySize p) h in
+        lt-ltb (e * 65536 + bySize o) (f * 65536 + bySize p) (omega arith))
+        (λ h.
+        let m = ltb-true (e * 65536 + bySize o) (f * 65536 + bySize p) h in
+        lt-ltb (262144 + e * 65536 + bySize o) (262144 + f * 65536 + bySize p) (omega arith))
 
     same : eqb (262144 + e * 65536 + bySize o) (262144 + f * 65536 + bySize p) ≡ eqb (e * 65536 + bySize o) (f * 65536 + bySize p)
     same = same-flag _ _
-        (λ h. let m = eqb-true (262144 + e * 65536 + bySize o) (262144 + f * 65536 + bySize p) h in eq-eqb (e * 65536 + bySize o) (f * 65536 + bySize p) (omega arith))
-        (λ h. let m = eqb-true (e * 65536 + bySize o) (f * 65536 + bySize p) h in eq-eqb (262144 + e * 65536 + bySize o) (262144 + f * 65536 + bySize p) (omega arith))
+        (λ h.
+        let m = eqb-true (262144 + e * 65536 + bySize o) (262144 + f * 65536 + bySize p) h in
+        eq-eqb (e * 65536 + bySize o) (f * 65536 + bySize p) (omega arith))
+        (λ h.
+        let m = eqb-true (e * 65536 + bySize o) (f * 65536 + bySize p) h in
+        eq-eqb (262144 + e * 65536 + bySize o) (262144 + f * 65536 + bySize p) (omega arith))
 
 -- ## Spans
 repeats-number : (k : ℕ) → repeatsKey (repeatsAt k) ≡ k
@@ -114,10 +126,6 @@ flag-number n = go (eqb (n % 2) 1) refl
 flag-below : (v : Bool) → cond v 1 0 < 2
 flag-below true = omega arith
 flag-below false = omega arith
-
-number-flag : (b : Bool) → eqb (cond b 1 0) 1 ≡ b
-number-flag true = refl
-number-flag false = refl
 
 pub span-number : (n : ℕ) → spanNumber (spanAt n) ≡ n
 unfolding spanNumber spanAt partsNumber
@@ -147,7 +155,7 @@ number-span s h =
     λ i. record {
       start = (ap timeAt p ∙ number-time (s .start) (h .starts)) i;
       end = (ap timeAt q ∙ number-time (s .end) (h .ends)) i;
-      openEnd = (ap (λ v. eqb v 1) f ∙ number-flag (s .openEnd)) i;
+      openEnd = (ap (λ v. eqb v 1) f ∙ bit-flag (s .openEnd)) i;
       repeats = (ap repeatsAt r ∙ number-repeats (s .repeats)) i;
     }
 

@@ -15,11 +15,11 @@ use Rattle.definition.specs.Day.{Stated, simple, within, stated, flattened, las
 use Rattle.definition.specs.Lookup.{Looked, refusal, found, stateAt}
 use Rattle.span_number.specs.Number as number
 use Rattle.words.specs.Words.{part}
-use Rattle.paving_update.specs.Update.{listPlaces, listLimit}
-use Rattle.paving_update.specs.Boxes.{listOf}
-use Rattle.paving_points.specs.Listed.{noRule, ruleAt}
-use Rattle.phases.specs.Phases.{Entries}
-use Rattle.phases.proofs.Entries.{entryAt, entry-back}
+use Rattle.tables.specs.Sizes.{listPlaces, listLimit}
+use Rattle.tables.specs.Lists.{listOf}
+use Rattle.definition.specs.Rule.{noRule}
+use Rattle.tables.specs.Rules.{ruleAt, RuleTimes}
+use Rattle.tables.proofs.Times.{entryAt, entry-back}
 use Rattle.state_at.specs.Found.{looked, overSpans, onward, InTables, overRule, overList, numbersFrom}
 use Rattle.state_at.specs.declared.StateFound.{StateFound}
 
@@ -67,7 +67,7 @@ module _ (states counts spans : List ℕ) where
   list-looked m shown (k ∷ ks) =
       spans-looked m (getD states k 0) shown (part spans (k * 16) (getD counts k 0)) (λ n. overList states counts spans m n ks) (flattened (map (entryAt states counts spans) ks)) (λ n. list-looked m n ks)
 
-  module _ (rs : List rule.Rule) (tables : Entries states counts spans rs) where
+  module _ (rs : List rule.Rule) (tables : RuleTimes states counts spans rs) where
     entries-there : (ks : List ℕ) → All (λ k. k < length rs) ks → All (InTables states counts spans) ks
     entries-there ks h = All-map each ks h
       where

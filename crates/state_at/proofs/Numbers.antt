@@ -6,7 +6,8 @@ use native.Mathlib.Omega.{arith}
 use borrow.Author.Tests.{lt-ltb, le-ltb}
 use Rattle.definition.specs.Rule.{kindNumber}
 use Rattle.span_number.specs.Number.{stateAt}
-use Rattle.state_at.specs.Found.{looked, answered}
+use Rattle.state_at.specs.Found.{looked}
+use Rattle.answers.specs.Numbers.{lookedUp}
 use Rattle.state_at.specs.declared.StateFound.{StateFound}
 use Rattle.state_at.specs.declared.StateFound.the-variants.{State, Unsettled}
 
@@ -26,9 +27,9 @@ unknown-comment n h = rw (le-ltb n 65536 (omega arith), le-ltb n 131072 h)
 -- ## Numbers
 pub state-numbers : (found : StateFound) (state number kind comment : ℕ) → found ≡ State state → number ≡ state
     → kind ≡ kindNumber (stateAt number .kind) → comment ≡ stateAt number .comment
-    → answered (record { code = 0; kind = kind; comment = comment; place = 0 }) ≡ looked found
+    → lookedUp (record { code = 0; kind = kind; comment = comment; place = 0 }) ≡ looked found
 state-numbers found state number kind comment e n k c =
-    ap₂ (λ x y. answered (record { code = 0; kind = x; comment = y; place = 0 })) k c ∙ ap (λ s. looked (State s)) n ∙ sym (ap looked e)
+    ap₂ (λ x y. lookedUp (record { code = 0; kind = x; comment = y; place = 0 })) k c ∙ ap (λ s. looked (State s)) n ∙ sym (ap looked e)
 
-pub unsettled-numbers : (found : StateFound) → found ≡ Unsettled → answered (record { code = 9; kind = 0; comment = 0; place = 0 }) ≡ looked found
+pub unsettled-numbers : (found : StateFound) → found ≡ Unsettled → lookedUp (record { code = 9; kind = 0; comment = 0; place = 0 }) ≡ looked found
 unsettled-numbers found e = sym (ap looked e)

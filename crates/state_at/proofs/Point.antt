@@ -17,11 +17,11 @@ use Rattle.definition.specs.Point.{dimensions, allBounds, listAt}
 use Rattle.definition.proofs.Lawful.{Lawful}
 use Rattle.definition.proofs.FoldBox.{list-all}
 use Rattle.paving.proofs.Points.{coordinatesOf}
-use Rattle.paving_update.specs.Update.{listPlaces, listLimit, cutOf}
-use Rattle.paving_update.specs.Boxes.{listOf, Within, startOf}
-use Rattle.paving_points.specs.Listed.{ruleAt}
+use Rattle.tables.specs.Sizes.{listPlaces, listLimit}
+use Rattle.tables.specs.Cuts.{cutOf, Cut}
+use Rattle.tables.specs.Lists.{listOf, Within, startOf, Boxed}
+use Rattle.tables.specs.Rules.{ruleAt}
 use Rattle.paving_points.proofs.Boxes.{Under, lawful-bounded, cuts-points, box-marks}
-use Rattle.phases.specs.Phases.{Cut, Boxed}
 use Rattle.state_at.specs.Boxes.{InBounds, AllFramed, AllHold, Gridded, BoxAt}
 
 -- ## Rows around a point

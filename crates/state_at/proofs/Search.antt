@@ -8,8 +8,8 @@ use lib.ListN.{length, getD}
 use Rattle.definition.specs.Sheet.{limits1}
 use Rattle.paving.specs.Grid.{sizeOf, Node}
 use Rattle.paving.proofs.Room.{node-in, node-child}
-use Rattle.paving_update.specs.Update.{cutOf}
-use Rattle.paving_update.specs.Boxes.{boxOf}
+use Rattle.tables.specs.Cuts.{cutOf}
+use Rattle.tables.specs.Lists.{boxOf}
 use Rattle.state_at.specs.Boxes.{Framed, ChildAt, BoxAt}
 
 -- ## An interval

@@ -1,5 +1,4 @@
 -- The box that holds a point: between which cuts each number of the point lies.
--- Assumes nothing.
 use mathlib.Core.Path.{_≡_}
 use mathlib.Core.List.{List, [], _∷_}
 use Prim.Native.Nat.{ℕ, zero, suc, _+_, _*_, _≤_, _<_}
@@ -7,8 +6,13 @@ use lib.ListN.{length, getD}
 use Rattle.grid.specs.Cut.{Range}
 use Rattle.definition.specs.Sheet.{limits1}
 use Rattle.paving.specs.Grid.{sizeOf, Node}
-use Rattle.paving_update.specs.Update.{cutOf}
-use Rattle.paving_update.specs.Boxes.{boxOf}
+use Rattle.tables.specs.Cuts.{cutOf}
+use Rattle.tables.specs.Lists.{boxOf}
+use Rattle.state_at.specs.declared.Moment.{Moment}
+
+-- the point of a moment, weekdays first
+abbrev pub momentPoint : Moment → List ℕ
+momentPoint m = m .weekday ∷ m .week ∷ m .month ∷ m .year ∷ []
 
 -- each number of a point lies in its dimension's bounds
 abbrev pub InBounds : List Range → List ℕ → Type 0

@@ -10,7 +10,6 @@ use Rattle.definition.specs.Day.{simple, within}
 use Rattle.definition.specs.Lookup.{Looked, refusal, found}
 use Rattle.span_number.specs.Number.{stateAt, spanAt}
 use Rattle.words.specs.Words.{part}
-use Rattle.state_at.specs.declared.answer.Answer.{Answer}
 use Rattle.state_at.specs.declared.StateFound.{StateFound}
 use Rattle.state_at.specs.declared.StateFound.the-variants.{State, Unsettled}
 
@@ -18,10 +17,6 @@ use Rattle.state_at.specs.declared.StateFound.the-variants.{State, Unset
 abbrev pub looked : StateFound → Looked
 looked (State n) = found (stateAt n)
 looked Unsettled = refusal unsettled 0
-
--- and what the numbers of an answer say
-abbrev pub answered : Answer → Looked
-answered a = record { code = a .code; kind = a .kind; comment = a .comment; place = a .place }
 
 -- ## Spans
 -- from a state that is shown so far, the one after some spans of state S

@@ -1,19 +1,14 @@
 // What is found, in the numbers of the answer: code, kind, comment and the table's place.
 use super::StateFound;
+use answers::Answer;
 use span_number::kind_of;
 use words::wide;
 ghost use mathlib.Core.Path.{_≡_};
 ghost use Rattle.span_number.specs.Number.{stateAt};
-ghost use Rattle.state_at.specs.Found.{looked, answered};
+ghost use Rattle.state_at.specs.Found.{looked};
+ghost use Rattle.answers.specs.Numbers.{lookedUp};
 
 const UNSETTLED: u64 = 9;
-
-pub struct Answer {
-    pub code: u64,
-    pub kind: u64,
-    pub comment: u64,
-    pub place: u64,
-}
 
 // The comment of a state.
 fn comment_of(state: u64) -> u64
@@ -28,7 +23,7 @@ fn comment_of(state: u64) -> u64
 
 // The numbers of what is found.
 pub fn numbers_of(found: StateFound) -> Answer
-    ensures { λ r. ⌜ answered r ≡ looked found ⌝ }
+    ensures { λ r. ⌜ lookedUp r ≡ looked found ⌝ }
 {
     match found {
         StateFound::State(state) => {

@@ -6,13 +6,14 @@ pub mod list;
 use boxes::box_at;
 use list::list_state;
 ghost use mathlib.Core.Path.{_≡_};
-ghost use mathlib.Core.List.{List, [], _∷_};
+ghost use mathlib.Core.List.{List, []};
 ghost use Rattle.definition.specs.Rule.{Rule};
 ghost use Rattle.definition.specs.Point.{allBounds, listAt};
 ghost use Rattle.definition.specs.Lookup.{stateAt};
-ghost use Rattle.phases.specs.Phases.{Entries, Boxed};
+ghost use Rattle.tables.specs.Rules.{RuleTimes};
+ghost use Rattle.tables.specs.Lists.{Boxed};
 ghost use Rattle.state_at.specs.Found.{looked};
-ghost use Rattle.state_at.specs.Boxes.{InBounds};
+ghost use Rattle.state_at.specs.Boxes.{InBounds, momentPoint};
 
 // A state by its number, or that a span which is not simple leaves it unsettled.
 pub enum StateFound {
@@ -20,7 +21,16 @@ pub enum StateFound {
     Unsettled,
 }
 
-// The state at a point and minute, by drained rules in tables and the lists of their boxes.
+// A point in numbers, and a minute of its days.
+pub struct Moment {
+    pub weekday: u8,
+    pub week: u8,
+    pub month: u8,
+    pub year: u16,
+    pub minute: u16,
+}
+
+// The state at a moment, by drained rules in tables and the lists of their boxes.
 pub fn look(
     states: &[u32],
     span_counts: &[u8],
@@ -29,18 +39,22 @@ pub fn look(
     rows: &[u16],
     sizes: &[u16],
     cuts: &[u16],
-    weekday: u8,
-    week: u8,
-    month: u8,
-    year: u16,
-    minute: u16,
+    moment: Moment,
 ) -> StateFound
-    requires { ⌜ ((rs : List Rule) × Entries (now states) (now «span_counts») (now spans) rs × Boxed (now rows) (now sizes) (now cuts) (now lists) rs) ⌝ }
-    requires { ⌜ InBounds allBounds (weekday ∷ week ∷ month ∷ year ∷ []) ⌝ }
-    ensures { λ r. ⌜ ((rs : List Rule) → Entries (now (states .entry)) (now («span_counts» .entry)) (now (spans .entry)) rs
+    requires { ⌜ ((rs : List Rule) × RuleTimes (now states) (now «span_counts») (now spans) rs × Boxed (now rows) (now sizes) (now cuts) (now lists) rs) ⌝ }
+    requires { ⌜ InBounds allBounds (momentPoint moment) ⌝ }
+    ensures { λ r. ⌜ ((rs : List Rule) → RuleTimes (now (states .entry)) (now («span_counts» .entry)) (now (spans .entry)) rs
         → Boxed (now (rows .entry)) (now (sizes .entry)) (now (cuts .entry)) (now (lists .entry)) rs
-        → looked r ≡ stateAt [] (listAt rs (weekday ∷ week ∷ month ∷ year ∷ [])) minute) ⌝ }
+        → looked r ≡ stateAt [] (listAt rs (momentPoint moment)) (moment .minute)) ⌝ }
 {
-    let node = box_at(rows, sizes, cuts, weekday, week, month, year);
-    list_state(states, span_counts, spans, lists, node, minute)
+    let node = box_at(
+        rows,
+        sizes,
+        cuts,
+        moment.weekday,
+        moment.week,
+        moment.month,
+        moment.year,
+    );
+    list_state(states, span_counts, spans, lists, node, moment.minute)
 }

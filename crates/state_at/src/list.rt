@@ -16,10 +16,9 @@ ghost use Rattle.definition.specs.Day.{simple, within};
 ghost use Rattle.definition.specs.Lookup.{stateAt};
 ghost use Rattle.span_number.specs.Number.{spanAt};
 ghost use Rattle.words.specs.Words.{part};
-ghost use Rattle.paving_update.specs.Update.{listPlaces, listLimit};
-ghost use Rattle.paving_update.specs.Boxes.{listOf};
-ghost use Rattle.paving_points.specs.Listed.{ruleAt};
-ghost use Rattle.phases.specs.Phases.{Entries};
+ghost use Rattle.tables.specs.Sizes.{listPlaces, listLimit};
+ghost use Rattle.tables.specs.Lists.{listOf};
+ghost use Rattle.tables.specs.Rules.{ruleAt, RuleTimes};
 ghost use Rattle.state_at.specs.Found.{overSpans, overRule, overList, InTables, numbersFrom, looked};
 
 const LIST_PLACES: usize = 33;
@@ -135,9 +134,9 @@ pub fn list_state(
     node: usize,
     minute: u16,
 ) -> StateFound
-    requires { ⌜ ((rs : List Rule) × Entries (now states) (now «span_counts») (now spans) rs × All (λ k. k < length rs) (listOf (now lists) node)) ⌝ }
+    requires { ⌜ ((rs : List Rule) × RuleTimes (now states) (now «span_counts») (now spans) rs × All (λ k. k < length rs) (listOf (now lists) node)) ⌝ }
     requires { ⌜ (node * listPlaces + listPlaces ≤ length (now lists)) × (getD (now lists) (node * listPlaces) 0 ≤ listLimit) ⌝ }
-    ensures { λ r. ⌜ ((rs : List Rule) → Entries (now (states .entry)) (now («span_counts» .entry)) (now (spans .entry)) rs → All (λ k. k < length rs) (listOf (now (lists .entry)) node)
+    ensures { λ r. ⌜ ((rs : List Rule) → RuleTimes (now (states .entry)) (now («span_counts» .entry)) (now (spans .entry)) rs → All (λ k. k < length rs) (listOf (now (lists .entry)) node)
         → looked r ≡ stateAt [] (map (ruleAt rs) (listOf (now (lists .entry)) node)) minute) ⌝ }
 {
     let at = node * LIST_PLACES;

@@ -3,7 +3,7 @@
 use mathlib.Core.Path.{_≡_, refl, sym, ap, ap₂, _∙_}
 use mathlib.Core.List.{List, [], _∷_, _++_}
 use mathlib.Core.Bool.{Bool, true, false}
-use Prim.Native.Nat.{ℕ, zero, suc, _+_, _-_, _/_, _%_, _^_, _≤_, _<_}
+use Prim.Native.Nat.{ℕ, zero, suc, _+_, _-_, _/_, _%_, _≤_, _<_}
 use native.Mathlib.Omega.{arith}
 use lib.Dec.{ltb}
 use native.Mathlib.Numerals.{add-one}
@@ -49,19 +49,16 @@ word-next l m n p word i q h a b =
     let both = put-as (sym (take-suc word i 0 h) ∙ ap (λ j. take j word) (sym (add-one i))) (put-then a b) in
     record { ends = omega (arith, length-take-le (i + 1) word (omega arith)); stored = both .stored }
 
-pub word-all : (l m : List ℕ) (p : ℕ) (word : List ℕ) (i : ℕ) → i ≤ length word → length word ≤ i → Put l p (take i word) (p + i) m → Put l p word (p + length word) m
+pub word-all : (l m : List ℕ) (p : ℕ) (word : List ℕ) (i : ℕ) → i ≤ length word → length word ≤ i → Put l p (take i word) (p + i) m
+    → Put l p word (p + length word) m
 word-all l m p word i h k a = record { ends = refl; stored = a .stored ∙ ap (sets l p) (take-all i word k) }
 
 -- a part of some names, from a start to an end that lies the width behind it
-pub name-put : (l m names : List ℕ) (p q start width : ℕ) → Put l p (take (start + width - start) (drop start names)) q m → Put l p (take width (drop start names)) q m
+pub name-put : (l m names : List ℕ) (p q start width : ℕ) → Put l p (take (start + width - start) (drop start names)) q m
+    → Put l p (take width (drop start names)) q m
 name-put l m names p q start width = put-as (let z : start + width - start ≡ width = omega arith in ap (λ n. take n (drop start names)) z)
 
 -- ## Digits
-pub length-digits : (w v : ℕ) → length (digits w v) ≡ w
-unfolding digits
-length-digits zero v = refl
-length-digits (suc w) v = ap suc (length-digits w (v % 10 ^ w))
-
 pub two-digits : (v : ℕ) → (48 + v / 10) ∷ (48 + v % 10) ∷ [] ≡ digits 2 v
 unfolding digits
 two-digits v = let z : v % 10 ≡ v % 10 / 1 = omega arith in ap (λ d. (48 + v / 10) ∷ (48 + d) ∷ []) z

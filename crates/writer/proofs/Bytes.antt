@@ -37,18 +37,21 @@ byte-set : (s : List ℕ) (i y : ℕ) → i < length s → sheetBits (set s i y)
 unfolding sheetBits flatMap
 byte-set s i y h =
     let e : 8 * suc i ≡ 8 * i + length (bits 8 y) = omega (arith, length-bits 8 y) in
-    ap sheetBits (set-split s i y h) ∙ flatMap-append (bits 8) (take i s) (y ∷ drop (suc i) s) ∙ sym (append-assoc (sheetBits (take i s)) (bits 8 y) (sheetBits (drop (suc i) s)))
+    ap sheetBits (set-split s i y h) ∙ flatMap-append (bits 8) (take i s) (y ∷ drop (suc i) s)
+    ∙ sym (append-assoc (sheetBits (take i s)) (bits 8 y) (sheetBits (drop (suc i) s)))
     ∙ sym (sets-eq (bits 8 y) (sheetBits s) (8 * i) (omega (arith, length-bits 8 y, length-sheetBits s))
     ∙ ap₂ (λ u v. u ++ bits 8 y ++ v) (take-bytes s i (omega arith)) (ap (λ n. drop n (sheetBits s)) (sym e) ∙ drop-bytes s (suc i) (omega arith)))
 
 -- the last byte of a number stored, and the rest of the number still to be stored before it
 pub last-byte : (s : List ℕ) (first index rest : ℕ) → first < index → index ≤ length s → rest < 2 ^ (8 * (index - first))
-    → sets (sheetBits (set s (index - 1) (rest % 256))) (8 * first) (bits (8 * (index - 1 - first)) (rest / 256)) ≡ sets (sheetBits s) (8 * first) (bits (8 * (index - first)) rest)
+    → sets (sheetBits (set s (index - 1) (rest % 256))) (8 * first) (bits (8 * (index - 1 - first)) (rest / 256))
+    ≡ sets (sheetBits s) (8 * first) (bits (8 * (index - first)) rest)
 last-byte s first index rest l h few =
     let front = 8 * (index - 1 - first) in
     let n : 8 * (index - first) ≡ 8 * (index - 1 - first) + 8 = omega arith in
     let p : 8 * (index - 1) ≡ 8 * first + length (bits front (rest / 256)) = omega (arith, length-bits (8 * (index - 1 - first)) (rest / 256)) in
-    ap (λ u. sets u (8 * first) (bits front (rest / 256))) (byte-set s (index - 1) (rest % 256) (omega arith) ∙ ap (λ q. sets (sheetBits s) q (bits 8 (rest % 256))) p)
+    ap (λ u. sets u (8 * first) (bits front (rest / 256)))
+    (byte-set s (index - 1) (rest % 256) (omega arith) ∙ ap (λ q. sets (sheetBits s) q (bits 8 (rest % 256))) p)
     ∙ sets-behind (sheetBits s) (8 * first) (bits front (rest / 256)) (bits 8 (rest % 256))
     ∙ ap (sets (sheetBits s) (8 * first)) (sym (ap (λ k. bits k rest) n ∙ bits-split front 8 rest (subst (λ k. rest < 2 ^ k) n few)))
 
@@ -82,14 +85,30 @@ module _ (s : List ℕ) (o : Bits s) (p before width behind value : ℕ) (h : p 
   after-length = field-length s (p + before + width) behind (omega arith)
 
   row-length : length (kept ++ (stored ++ after)) ≡ before + (width + behind)
-  row-length = omega (arith, length-append kept (stored ++ after), length-append stored after, field-length s p before (omega arith), length-bits width value, after-length)
+  row-length = omega (
+    arith,
+    length-append kept (stored ++ after),
+    length-append stored after,
+    field-length s p before (omega arith),
+    length-bits width value,
+    after-length,
+  )
 
   row-number : number (kept ++ (stored ++ after)) ≡ new
   unfolding fieldAt numberWith
   row-number =
-      let back = sym (mod-mod-pow old width behind) ∙ ap (_% 2 ^ behind) (field-back s o p before (width + behind) h) ∙ field-back s o (p + before) width behind (omega arith) in
+      let back = sym (mod-mod-pow old width behind) ∙ ap (_% 2 ^ behind) (field-back s o p before (width + behind) h) ∙ field-back s o (p + before)
+      width behind (omega arith) in
       number-append kept (stored ++ after)
-      ∙ rw (number-append stored after, length-append stored after, length-bits width value, after-length, number-bits width value fits, field-front s o p before (width + behind) h, back)
+      ∙ rw (
+        number-append stored after,
+        length-append stored after,
+        length-bits width value,
+        after-length,
+        number-bits width value fits,
+        field-front s o p before (width + behind) h,
+        back,
+      )
 
   with-parts : (bits (before + (width + behind)) new ≡ kept ++ (stored ++ after)) × (new < 2 ^ (before + (width + behind)))
   with-parts =
@@ -107,15 +126,18 @@ module _ (s : List ℕ) (o : Bits s) (p before width behind value : ℕ) (h : p 
       let f : p + before + width ≡ p + before + length (bits width value) = omega (arith, length-bits width value) in
       let tail : after ++ rest ≡ drop (p + before + length stored) s =
       ap (after ++_) (sym (drop-drop behind (p + before + width) s)) ∙ take-append-drop behind (drop (p + before + width) s) ∙ ap (λ n. drop n s) f in
-      sets-eq (bits (before + (width + behind)) new) s p (omega (arith, length-bits (before + (width + behind)) new)) ∙ ap₂ (λ x n. front ++ x ++ drop n s) (with-parts .0) e
-      ∙ ap (_++ rest) (sym (append-assoc front kept (stored ++ after)) ∙ sym (append-assoc (front ++ kept) stored after)) ∙ append-assoc (front ++ kept ++ stored) after rest
+      sets-eq (bits (before + (width + behind)) new) s p (omega (arith, length-bits (before + (width + behind)) new))
+      ∙ ap₂ (λ x n. front ++ x ++ drop n s) (with-parts .0) e
+      ∙ ap (_++ rest) (sym (append-assoc front kept (stored ++ after)) ∙ sym (append-assoc (front ++ kept) stored after))
+      ∙ append-assoc (front ++ kept ++ stored) after rest
       ∙ ap₂ (λ u v. u ++ stored ++ v) (sym (take-add p before s)) tail
       ∙ sym (sets-eq stored s (p + before) (omega (arith, length-bits width value)))
 
 -- ## In the bytes that a field spans, in the code's numbers: `old` is taken from them, `number` is made of it
 module _ (s : List ℕ) (o : Bytes s) (at width value : ℕ) (h : at + width ≤ 8 * length s) (fits : value < 2 ^ width)
     (old number : ℕ) (taken : old ≡ spelled at width s) (made : number ≡ numberWith old (behind at width + width) (behind at width) value) where
-  in-parts : number ≡ numberWith (fieldAt (sheetBits s) (8 * first at width) (at % 8 + (width + behind at width))) (width + behind at width) (behind at width) value
+  in-parts : number ≡ numberWith (fieldAt (sheetBits s) (8 * first at width) (at % 8 + (width + behind at width))) (width + behind at width)
+      (behind at width) value
   in-parts =
       let from : behind at width + width ≡ width + behind at width = omega arith in
       made ∙ ap₂ (λ n k. numberWith n k (behind at width) value) (taken ∙ ap (fieldAt (sheetBits s) (8 * first at width)) (sym (spanned-bits at width))) from

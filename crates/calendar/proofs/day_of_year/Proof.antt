@@ -19,9 +19,15 @@ abbrev μ-loop : tie.MeasureT-loop
 
 loop-again : tie.Need-loop-again Inv-loop μ-loop
 loop-again c =
-    let at = c .before .before .loop in
-    let index-in = date-month _ _ _ (c .before .before .before .before .pre) in
-    (omega arith, omega arith, days-next (monthLengths (c .before .before .before .is-leap .result)) (at .index) _ _ _ (omega arith) (at .inv .2) (c .month-length .ensures))
+    let loop = c .before .before in
+    let is-leap = loop .before in
+    let entry = is-leap .before in
+    let at = loop .loop in
+    let index-in = date-month _ _ _ (entry .pre) in (
+      omega arith,
+      omega arith,
+      days-next (monthLengths (is-leap .is-leap .result)) (at .index) _ _ _ (omega arith) (at .inv .2) (c .month-length .ensures),
+    )
 
 pub day-of-year-spec : {M : Type 1} → statement M
 day-of-year-spec =

@@ -12,16 +12,25 @@ use Rattle.calendar.proofs.is_date.Tie as tie
 returns : tie.Need-returns
 unfolding isDate monthLength
 returns c =
-    let a = c .before .before .before .before .before .before .before .args in
-    simp
-    (in-holds (a .year) yearBounds (omega arith) (omega arith), in-holds (a .month) monthBounds (omega arith) (omega arith), le-leb 1 (a .day) (omega arith))
-    (rw (c .before .month-length .ensures, c .before .before .is-leap .ensures))
+    let is-leap = c .before .before in
+    let entry = is-leap .before .before .before .before .before in
+    let a = entry .args in
+    simp (
+      in-holds (a .year) yearBounds (omega arith) (omega arith),
+      in-holds (a .month) monthBounds (omega arith) (omega arith),
+      le-leb 1 (a .day) (omega arith),
+    ) (rw (c .before .month-length .ensures, is-leap .is-leap .ensures))
 
 returns-2 : tie.Need-returns-2
 unfolding isDate
 returns-2 c =
-    let a = c .before .before .before .before .before .before .before .args in
-    simp (in-holds (a .year) yearBounds (omega arith) (omega arith), in-holds (a .month) monthBounds (omega arith) (omega arith), lt-leb 1 (a .day) (omega arith))
+    let entry = c .before .before .before .before .before .before .before in
+    let a = entry .args in
+    simp (
+      in-holds (a .year) yearBounds (omega arith) (omega arith),
+      in-holds (a .month) monthBounds (omega arith) (omega arith),
+      lt-leb 1 (a .day) (omega arith),
+    )
 
 returns-3 : tie.Need-returns-3
 unfolding isDate

@@ -23,6 +23,9 @@ point-of-spec =
     (λ c. let known = c .before .before .before in omega (arith, date-month _ _ _ (sym (known .before .is-date .ensures) ∙ known .if1 .taken)))
     (λ c. let known = c .before .before .before in omega (arith, date-year _ _ _ (sym (known .before .is-date .ensures) ∙ known .if1 .taken)))
     (λ c.
-    let known = c .before .before .before in
-    point-some _ _ _ _ _ _ (sym (known .before .is-date .ensures) ∙ known .if1 .taken) (c .before .before .day-of-year .ensures) (c .before .weekday-of .ensures) (c .week-of .ensures))
+    let day-of-year = c .before .before in
+    let known = day-of-year .before in
+    let is-date = known .before in
+    point-some _ _ _ _ _ _ (sym (is-date .is-date .ensures) ∙ known .if1 .taken) (day-of-year .day-of-year .ensures) (c .before .weekday-of .ensures)
+    (c .week-of .ensures))
     (λ c. point-none _ _ _ (sym (c .before .is-date .ensures) ∙ c .if1 .left)))

@@ -1,7 +1,7 @@
 -- `canonical_time::normalize_time_rules` meets its contract.
 use native.Mathlib.Omega.{arith}
 use borrow.Author.Needs.{needs}
-use Rattle.canonical_time.proofs.FoldWays.{few-strokes, cuts-bounded, painted-laid, grouped-laid}
+use Rattle.canonical_time.proofs.FoldReturns.{few-strokes, cuts-bounded, painted-laid, grouped-laid}
 use Rattle.canonical_time.proofs.normalize_time_rules.Statement.{statement}
 use Rattle.canonical_time.proofs.normalize_time_rules.Tie as tie
 
@@ -15,7 +15,8 @@ write-pieces-requires : tie.Need-write-pieces-requires
 write-pieces-requires c κs =
     let stroked = c .before .before .before .before .before in
     let flat = stroked .before .before .before .before .before .before .before .before in
-    let room = flat .before .before .before .before .before .before .before .before .before .before .before .before .before .pre .1 in
+    let entry = flat .before .before .before .before .before .before .before .before .before .before .before .before .before in
+    let room = entry .pre .1 in
     let few = few-strokes _ _ _ _ (stroked .write-strokes .ensures .1) in
     let spans = flat .flatten .ensures .3 in
     (omega (arith, few, room, spans, stroked .write-strokes .kept .0), omega (arith, few, room, spans), omega (arith, few, room, spans))
@@ -25,7 +26,8 @@ sweep-classes-requires c κs =
     let pieced = c .before .before .before .before .before .before .before .before in
     let stroked = pieced .before .before .before .before .before .before in
     let flat = stroked .before .before .before .before .before .before .before .before in
-    let room = flat .before .before .before .before .before .before .before .before .before .before .before .before .before .pre .1 in
+    let entry = flat .before .before .before .before .before .before .before .before .before .before .before .before .before in
+    let room = entry .pre .1 in
     let few = few-strokes _ _ _ _ (stroked .write-strokes .ensures .1) in
     let spans = flat .flatten .ensures .3 in
     let size = pieced .write-pieces .ensures .3 in (
@@ -62,7 +64,8 @@ returns c =
     let pieced = swept .before .before .before .before .before .before .before .before .before in
     let stroked = pieced .before .before .before .before .before .before in
     let flat = stroked .before .before .before .before .before .before .before .before in
-    let room = flat .before .before .before .before .before .before .before .before .before .before .before .before .before .pre .1 in
+    let entry = flat .before .before .before .before .before .before .before .before .before .before .before .before .before in
+    let room = entry .pre .1 in
     painted-laid _ _ _ _ _ _ _ _ _ _ _ _ _ _ _ _ _ _ _ _ _ (flat .flatten .ensures) (stroked .write-strokes .ensures) (pieced .write-pieces .ensures)
     (swept .sweep-classes .ensures .0, swept .sweep-classes .ensures .1) (room .1, room .2, room .3, room .4, room .5) (omega arith)
 
@@ -71,7 +74,8 @@ groups-requires c κs =
     let swept = c .before .before .before .before .before .before .before .before .before .before .before in
     let stroked = swept .before .before .before .before .before .before .before .before .before .before .before .before .before .before .before in
     let flat = stroked .before .before .before .before .before .before .before .before in
-    let room = flat .before .before .before .before .before .before .before .before .before .before .before .before .before .pre .1 in
+    let entry = flat .before .before .before .before .before .before .before .before .before .before .before .before .before in
+    let room = entry .pre .1 in
     let spans = flat .flatten .ensures .3 in (
       omega (arith, room, spans, flat .flatten .kept .0),
       omega (arith, room, spans, flat .flatten .kept .1 .0),
@@ -86,13 +90,15 @@ same-length-8 : tie.Need-same-length-8
 same-length-8 c =
     let swept = c .before .before .before .before .before .before .before .before .before .before .before .before .before .before .before .before in
     let stroked = swept .before .before .before .before .before .before .before .before .before .before .before .before .before .before .before in
-    stroked .before .before .before .before .before .before .before .before .flatten .kept .0
+    let flat = stroked .before .before .before .before .before .before .before .before in
+    flat .flatten .kept .0
 
 same-length-9 : tie.Need-same-length-9
 same-length-9 c =
     let swept = c .before .before .before .before .before .before .before .before .before .before .before .before .before .before .before .before in
     let stroked = swept .before .before .before .before .before .before .before .before .before .before .before .before .before .before .before in
-    stroked .before .before .before .before .before .before .before .before .flatten .kept .1 .0
+    let flat = stroked .before .before .before .before .before .before .before .before in
+    flat .flatten .kept .1 .0
 
 same-length-10 : tie.Need-same-length-10
 same-length-10 c = search needs
@@ -110,7 +116,8 @@ returns-2 c =
     let pieced = swept .before .before .before .before .before .before .before .before .before in
     let stroked = pieced .before .before .before .before .before .before in
     let flat = stroked .before .before .before .before .before .before .before .before in
-    let room = flat .before .before .before .before .before .before .before .before .before .before .before .before .before .pre .1 in
+    let entry = flat .before .before .before .before .before .before .before .before .before .before .before .before .before in
+    let room = entry .pre .1 in
     grouped-laid _ _ _ _ _ _ _ _ _ _ _ _ _ _ _ _ _ _ _ _ _ (flat .flatten .ensures) (stroked .write-strokes .ensures) (pieced .write-pieces .ensures)
     (swept .sweep-classes .ensures .0, swept .sweep-classes .ensures .1) (room .1, room .2, room .3, room .4, room .5) _ _ (grouped .groups .ensures)
 

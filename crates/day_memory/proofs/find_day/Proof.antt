@@ -7,7 +7,7 @@ use lib.ListN.{length, getD}
 use denote.Ref.{now}
 use borrow.Author.Needs.{needs}
 use Rattle.words.specs.Words.{part}
-use Rattle.box_day.specs.Boxes.{boxWords, Ready}
+use Rattle.tables.specs.Days.{boxWords, Ready}
 use Rattle.box_day.proofs.Kept.{ready-kept, scratch-kept}
 use Rattle.day_memory.proofs.Searching.{Passed, none-left, day-found, first-passed, more-passed}
 use Rattle.day_memory.proofs.find_day.Statement.{statement}

@@ -1,7 +1,7 @@
 -- `day_paint::stroke` meets its contract.
 -- Assumes nothing.
 use borrow.Author.Needs.{needs}
-use Rattle.day_paint.proofs.StrokeWays.{stroke-made}
+use Rattle.day_paint.proofs.StrokeReturns.{stroke-made}
 use Rattle.day_paint.proofs.stroke.Statement.{statement}
 use Rattle.day_paint.proofs.stroke.Tie as tie
 

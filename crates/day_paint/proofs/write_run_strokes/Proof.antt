@@ -7,12 +7,13 @@ use native.Mathlib.Omega.{arith}
 use lib.ListN.{length, length-set}
 use borrow.Author.Needs.{needs}
 use Rattle.day_paint.specs.Stroke.{strokesOfRun}
-use Rattle.day_paint.proofs.StrokeWays.{Finishes, run-paints, run-skips, run-over, run-ends}
+use Rattle.day_paint.proofs.StrokeReturns.{Finishes, run-paints, run-skips, run-over, run-ends}
 use Rattle.day_paint.proofs.write_run_strokes.Statement.{statement}
 use Rattle.day_paint.proofs.write_run_strokes.Tie as tie
 
 abbrev Inv-loop : tie.InvT-loop
-Inv-loop strokes₀ k states spans s i n next₀ place₀ strokes next place = (place + (n - next) ≤ length strokes) × (length strokes ≡ length strokes₀) × Finishes strokes place (strokesOfRun states spans s next (n - next)) strokes₀ k (strokesOfRun states spans s i (n - i))
+Inv-loop strokes₀ k states spans s i n next₀ place₀ strokes next place = (place + (n - next) ≤ length strokes) × (length strokes ≡ length strokes₀) ×
+    Finishes strokes place (strokesOfRun states spans s next (n - next)) strokes₀ k (strokesOfRun states spans s i (n - i))
 
 abbrev μ-loop : tie.MeasureT-loop
 μ-loop strokes₀ k states spans s i n next₀ place₀ strokes next place = n - next
@@ -60,13 +61,36 @@ loop-less : tie.Need-loop-less Inv-loop μ-loop
 loop-less c = search needs
 
 loop-again : tie.Need-loop-again Inv-loop μ-loop
-loop-again c = (simp length-set (omega arith), simp length-set (c .before .before .before .before .before .before .before .loop .inv .1), λ t r l. c .before .before .before .before .before .before .before .loop .inv .2 t r (run-paints (c .before .before .before .before .before .before .before .before .before .before .before .args .states .now) (c .before .before .before .before .before .before .before .before .before .before .before .args .spans .now) (c .before .before .before .before .before .before .before .loop .strokes) t (c .before .before .before .before .before .before .before .loop .place) r (c .before .before .before .before .before .before .before .loop .next) (c .before .before .before .before .before .before .before .before .before .before .before .args .n) (c .before .before .before .before .before .before .before .before .before .before .before .args .s) (omega arith) (c .before .before .before .before .if1 .left) (sym (c .before .before .is-simple .ensures) ∙ c .before .if2 .taken) _ (c .stroke .ensures) l))
+loop-again c =
+    let is-simple = c .before .before in
+    let if1 = is-simple .before .before in
+    let loop = if1 .before .before .before in
+    let entry = loop .before .before .before .before in
+    let args = entry .args in (
+      simp length-set (omega arith),
+      simp length-set (loop .loop .inv .1),
+      λ t r l.
+          loop .loop .inv .2 t r
+          (run-paints (args .states .now) (args .spans .now) (loop .loop .strokes) t (loop .loop .place) r (loop .loop .next) (args .n) (args .s)
+          (omega arith) (if1 .if1 .left) (sym (is-simple .is-simple .ensures) ∙ c .before .if2 .taken) _ (c .stroke .ensures) l),
+    )
 
 loop-less-2 : tie.Need-loop-less-2 Inv-loop μ-loop
 loop-less-2 c = search needs
 
 loop-again-2 : tie.Need-loop-again-2 Inv-loop μ-loop
-loop-again-2 c = (omega arith, c .before .before .before .before .before .before .loop .inv .1, λ t r l. c .before .before .before .before .before .before .loop .inv .2 t r (run-skips (c .before .before .before .before .before .before .before .before .before .before .args .states .now) (c .before .before .before .before .before .before .before .before .before .before .args .spans .now) (c .before .before .before .before .before .before .loop .strokes) t (c .before .before .before .before .before .before .loop .place) r (c .before .before .before .before .before .before .loop .next) (c .before .before .before .before .before .before .before .before .before .before .args .n) (c .before .before .before .before .before .before .before .before .before .before .args .s) (omega arith) (c .before .before .before .if1 .left) (sym (c .before .is-simple .ensures) ∙ c .if2 .left) l))
+loop-again-2 c =
+    let if1 = c .before .before .before in
+    let loop = if1 .before .before .before in
+    let entry = loop .before .before .before .before in
+    let args = entry .args in (
+      omega arith,
+      loop .loop .inv .1,
+      λ t r l.
+          loop .loop .inv .2 t r
+          (run-skips (args .states .now) (args .spans .now) (loop .loop .strokes) t (loop .loop .place) r (loop .loop .next) (args .n) (args .s)
+          (omega arith) (if1 .if1 .left) (sym (c .before .is-simple .ensures) ∙ c .if2 .left) l),
+    )
 
 same-length-2 : tie.Need-same-length-2 Inv-loop μ-loop
 same-length-2 c = c .before .loop .inv .1

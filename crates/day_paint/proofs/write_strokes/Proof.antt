@@ -6,7 +6,7 @@ use native.Mathlib.Omega.{arith}
 use lib.ListN.{length, length-set}
 use borrow.Author.Needs.{needs}
 use Rattle.day_paint.specs.Stroke.{strokesFrom}
-use Rattle.day_paint.proofs.StrokeWays.{Finishes, list-starts, list-paints, list-runs, list-ends}
+use Rattle.day_paint.proofs.StrokeReturns.{Finishes, list-starts, list-paints, list-runs, list-ends}
 use Rattle.day_paint.proofs.write_strokes.Statement.{statement}
 use Rattle.day_paint.proofs.write_strokes.Tie as tie
 
@@ -56,26 +56,36 @@ loop-less c = search needs
 
 loop-again : tie.Need-loop-again Inv-loop μ-loop
 loop-again c =
-    let on = c .before .before .before .before .before .before .loop in
-    let start = c .before .before .before .before .before .before .before .before .before .before in (
+    let is-simple = c .before .before in
+    let loop = is-simple .before .before .before .before in
+    let start = loop .before .before .before .before in
+    let args = start .args in
+    let on = loop .loop in (
       simp length-set (omega arith),
       simp length-set (on .inv .1),
-      λ t r l. on .inv .2 t r (list-paints (start .args .states .now) (start .args .spans .now) (on .strokes) t (on .place) r (on .next) (start .args .n) (omega arith)
-          (sym (c .before .before .is-simple .ensures) ∙ c .before .if1 .taken) _ (c .stroke .ensures) l),
+      λ t r l.
+          on .inv .2 t r
+          (list-paints (args .states .now) (args .spans .now) (on .strokes) t (on .place) r (on .next) (args .n) (omega arith)
+          (sym (is-simple .is-simple .ensures) ∙ c .before .if1 .taken) _ (c .stroke .ensures) l),
     )
 
 write-run-strokes-requires : tie.Need-write-run-strokes-requires Inv-loop μ-loop
 write-run-strokes-requires c κs = search needs
 
 same-length : tie.Need-same-length Inv-loop μ-loop
-same-length c = c .before .before .write-run-strokes .kept .0 ∙ c .before .before .before .before .before .before .before .before .before .loop .inv .1
+same-length c =
+    let write-run-strokes = c .before .before in
+    let loop = write-run-strokes .before .before .before .before .before .before .before in
+    write-run-strokes .write-run-strokes .kept .0 ∙ loop .loop .inv .1
 
 returns : tie.Need-returns Inv-loop μ-loop
 returns c =
     let written = c .before .before in
     let other = written .before .before in
-    let found = sym (other .before .is-simple .ensures) ∙ other .if1 .left in
-    let laid = other .before .before .before .before .before .loop .inv .2 _ _ (list-runs _ _ _ _ _ _ _ _ (omega arith) found (written .write-run-strokes .ensures)) in
+    let is-simple = other .before in
+    let loop = is-simple .before .before .before .before in
+    let found = sym (is-simple .is-simple .ensures) ∙ other .if1 .left in
+    let laid = loop .loop .inv .2 _ _ (list-runs _ _ _ _ _ _ _ _ (omega arith) found (written .write-run-strokes .ensures)) in
     (laid .0, omega (arith, laid .1))
 
 same-length-2 : tie.Need-same-length-2 Inv-loop μ-loop

@@ -4,7 +4,7 @@ use Prim.Native.Nat.{_-_, _≤_}
 use native.Mathlib.Omega.{arith}
 use borrow.Author.Needs.{needs}
 use Rattle.day_row.specs.Row.{allClosed}
-use Rattle.day_row.proofs.RowWays.{closed-start, closed-on, closed-not, closed-end}
+use Rattle.day_row.proofs.RowReturns.{closed-start, closed-on, closed-not, closed-end}
 use Rattle.day_row.proofs.all_closed.Statement.{statement}
 use Rattle.day_row.proofs.all_closed.Tie as tie
 

@@ -6,7 +6,7 @@ use native.Mathlib.Omega.{arith}
 use lib.ListN.{length, length-set}
 use borrow.Author.Needs.{needs}
 use Rattle.day_row.specs.Row.{clearFrom}
-use Rattle.day_row.proofs.RowWays.{clear-hit, clear-miss, clear-end}
+use Rattle.day_row.proofs.RowReturns.{clear-hit, clear-miss, clear-end}
 use Rattle.day_row.proofs.clear.Statement.{statement}
 use Rattle.day_row.proofs.clear.Tie as tie
 
@@ -47,7 +47,9 @@ loop-less-2 : tie.Need-loop-less-2 Inv-loop μ-loop
 loop-less-2 c = search needs
 
 loop-again-2 : tie.Need-loop-again-2 Inv-loop μ-loop
-loop-again-2 c = (simp length-set (c .before .before .before .loop .inv .0), clear-hit _ _ _ _ (omega arith) (c .if1 .left) ∙ c .before .before .before .loop .inv .1)
+loop-again-2 c =
+    let loop = c .before .before .before in
+    (simp length-set (loop .loop .inv .0), clear-hit _ _ _ _ (omega arith) (c .if1 .left) ∙ loop .loop .inv .1)
 
 same-length : tie.Need-same-length Inv-loop μ-loop
 same-length c = c .before .loop .inv .0

@@ -3,7 +3,7 @@ use mathlib.Core.Path.{refl, sym, _∙_}
 use Prim.Native.Nat.{_-_}
 use native.Mathlib.Omega.{arith}
 use borrow.Author.Needs.{needs}
-use Rattle.day_row.proofs.RowWays.{ClassesOn, classes-on, classes-closed, classes-done}
+use Rattle.day_row.proofs.RowReturns.{ClassesOn, classes-on, classes-closed, classes-done}
 use Rattle.day_row.proofs.sweep_classes.Statement.{statement}
 use Rattle.day_row.proofs.sweep_classes.Tie as tie
 
@@ -17,7 +17,10 @@ loop-holds : tie.Need-loop-holds Inv-loop μ-loop
 loop-holds c = record { between = (omega arith, omega arith); room = omega arith; lengths = (refl, refl, refl); finishes = λ t r h. h }
 
 all-closed-requires : tie.Need-all-closed-requires Inv-loop μ-loop
-all-closed-requires c κs = omega (arith, c .before .before .loop .inv .lengths .2, c .before .before .before .before .before .before .before .pre .0)
+all-closed-requires c κs =
+    let loop = c .before .before in
+    let entry = loop .before .before .before .before .before in
+    omega (arith, loop .loop .inv .lengths .2, entry .pre .0)
 
 same-length : tie.Need-same-length Inv-loop μ-loop
 same-length c = c .before .before .before .before .loop .inv .lengths .0
@@ -33,9 +36,12 @@ returns c = classes-closed _ _ _ _ _ _ _ _ _ _ (c .before .before .before .befor
 
 sweep-class-requires : tie.Need-sweep-class-requires Inv-loop μ-loop
 sweep-class-requires c κs =
-    let on = c .before .before .before .before .before .before .before .loop .inv in
-    let pre = c .before .before .before .before .before .before .before .before .before .before .before .before .pre in
-    let more = c .before .before .before .before .before .before .loop-test .taken in (
+    let turn = c .before .before .before .before .before .before in
+    let loop = turn .before in
+    let entry = loop .before .before .before .before .before in
+    let pre = entry .pre in
+    let on = loop .loop .inv in
+    let more = turn .loop-test .taken in (
       (omega arith, omega (arith, pre .0), omega (arith, pre .0, on .room, on .between, more)),
       ((omega (arith, pre .0, on .lengths), omega (arith, pre .0), omega (arith, pre .0, on .lengths)), pre .1),
     )
@@ -48,11 +54,14 @@ loop-less c = search needs
 
 loop-again : tie.Need-loop-again Inv-loop μ-loop
 loop-again c =
-    let swept = c .before .before .before .before .before .before .sweep-class in
-    let more = c .before .before .before .before .before .before .before .before .before .before .before .before .before in
-    let few = more .before .before .before .before .before .before .pre .0 in
-    classes-on _ _ _ _ _ _ _ _ _ _ (more .before .loop .inv) (more .loop-test .taken) (omega (arith, few)) _ _ _ _ (swept .ensures .0, swept .ensures .1, swept .ensures .2) (swept .ensures .3)
-    (swept .kept .0, swept .kept .1 .1 .0, swept .kept .1 .1 .1 .1 .0)
+    let sweep-class = c .before .before .before .before .before .before in
+    let more = sweep-class .before .before .before .before .before .before .before in
+    let loop = more .before in
+    let entry = loop .before .before .before .before .before in
+    let swept = sweep-class .sweep-class in
+    let few = entry .pre .0 in
+    classes-on _ _ _ _ _ _ _ _ _ _ (loop .loop .inv) (more .loop-test .taken) (omega (arith, few)) _ _ _ _
+    (swept .ensures .0, swept .ensures .1, swept .ensures .2) (swept .ensures .3) (swept .kept .0, swept .kept .1 .1 .0, swept .kept .1 .1 .1 .1 .0)
 
 same-length-4 : tie.Need-same-length-4 Inv-loop μ-loop
 same-length-4 c = c .before .loop .inv .lengths .0

@@ -2,7 +2,7 @@
 -- Assumes nothing.
 use native.Mathlib.Omega.{arith}
 use borrow.Author.Needs.{needs}
-use Rattle.day_row.proofs.RowWays.{run-there, run-none}
+use Rattle.day_row.proofs.RowReturns.{run-there, run-none}
 use Rattle.day_row.proofs.write_run.Statement.{statement}
 use Rattle.day_row.proofs.write_run.Tie as tie
 

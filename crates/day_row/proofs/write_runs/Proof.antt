@@ -5,12 +5,13 @@ use Prim.Native.Nat.{_+_, _-_, _≤_, _<_}
 use native.Mathlib.Omega.{arith}
 use lib.ListN.{length}
 use borrow.Author.Needs.{needs}
-use Rattle.day_row.proofs.RowWays.{Going, going-start, going-on, going-break, going-end}
+use Rattle.day_row.proofs.RowReturns.{Going, going-start, going-on, going-break, going-end}
 use Rattle.day_row.proofs.write_runs.Statement.{statement}
 use Rattle.day_row.proofs.write_runs.Tie as tie
 
 abbrev Inv-loop : tie.InvT-loop
-Inv-loop buf₀ at cuts cells s a j n i₀ from₀ written₀ buf i from written = (i ≤ n) × (written + j ≤ i) × (from < 524288) × (length buf ≡ length buf₀) × Going cuts cells s n buf₀ at a j buf written from i
+Inv-loop buf₀ at cuts cells s a j n i₀ from₀ written₀ buf i from written =
+    (i ≤ n) × (written + j ≤ i) × (from < 524288) × (length buf ≡ length buf₀) × Going cuts cells s n buf₀ at a j buf written from i
 
 abbrev μ-loop : tie.MeasureT-loop
 μ-loop buf₀ at cuts cells s a j n i₀ from₀ written₀ buf i from written = n - i
@@ -31,7 +32,14 @@ loop-less : tie.Need-loop-less Inv-loop μ-loop
 loop-less c = search needs
 
 loop-again : tie.Need-loop-again Inv-loop μ-loop
-loop-again c = (omega arith, omega arith, c .before .before .before .loop .inv .2, c .before .before .before .loop .inv .3, going-on _ _ _ _ _ _ _ _ _ _ _ _ (omega arith) (omega arith) (c .before .before .before .loop .inv .4))
+loop-again c =
+    let loop = c .before .before .before in (
+      omega arith,
+      omega arith,
+      loop .loop .inv .2,
+      loop .loop .inv .3,
+      going-on _ _ _ _ _ _ _ _ _ _ _ _ (omega arith) (omega arith) (loop .loop .inv .4),
+    )
 
 add-write-run : tie.Need-add-write-run Inv-loop μ-loop
 add-write-run c = search needs
@@ -43,7 +51,10 @@ shared-slice-read-write-run : tie.Need-shared-slice-read-write-run Inv-loop μ-l
 shared-slice-read-write-run c = search needs
 
 write-run-requires : tie.Need-write-run-requires Inv-loop μ-loop
-write-run-requires c κs = (omega arith, c .before .before .before .before .before .loop .inv .2, c .before .before .before .before .before .before .before .before .before .pre .1 (c .before .before .before .before .before .loop .i) (omega arith))
+write-run-requires c κs =
+    let loop = c .before .before .before .before .before in
+    let entry = loop .before .before .before .before in
+    (omega arith, loop .loop .inv .2, entry .pre .1 (loop .loop .i) (omega arith))
 
 add-written : tie.Need-add-written Inv-loop μ-loop
 add-written c = search needs
@@ -61,7 +72,18 @@ loop-less-2 : tie.Need-loop-less-2 Inv-loop μ-loop
 loop-less-2 c = search needs
 
 loop-again-2 : tie.Need-loop-again-2 Inv-loop μ-loop
-loop-again-2 c = (omega arith, omega (arith, c .before .before .before .write-run .ensures .2), c .before .before .before .before .before .before .before .before .before .before .before .before .before .pre .1 (c .before .before .before .before .before .before .before .before .before .loop .i + 1) (omega arith), c .before .before .before .write-run .kept .0 ∙ c .before .before .before .before .before .before .before .before .before .loop .inv .3, going-break _ _ _ _ _ _ _ _ _ _ _ _ (omega arith) (c .before .before .before .before .before .before .if1 .left) _ _ (c .before .before .before .write-run .ensures .0) (c .before .before .before .write-run .ensures .1) (c .before .before .before .before .before .before .before .before .before .loop .inv .4))
+loop-again-2 c =
+    let write-run = c .before .before .before in
+    let if1 = write-run .before .before .before in
+    let loop = if1 .before .before .before in
+    let entry = loop .before .before .before .before in (
+      omega arith,
+      omega (arith, write-run .write-run .ensures .2),
+      entry .pre .1 (loop .loop .i + 1) (omega arith),
+      write-run .write-run .kept .0 ∙ loop .loop .inv .3,
+      going-break _ _ _ _ _ _ _ _ _ _ _ _ (omega arith) (if1 .if1 .left) _ _ (write-run .write-run .ensures .0) (write-run .write-run .ensures .1)
+          (loop .loop .inv .4),
+    )
 
 add-write-run-2 : tie.Need-add-write-run-2 Inv-loop μ-loop
 add-write-run-2 c = search needs
@@ -73,7 +95,10 @@ shared-slice-read-write-run-2 : tie.Need-shared-slice-read-write-run-2 Inv-loop 
 shared-slice-read-write-run-2 c = search needs
 
 write-run-requires-2 : tie.Need-write-run-requires-2 Inv-loop μ-loop
-write-run-requires-2 c κs = (omega arith, c .before .before .before .loop .inv .2, c .before .before .before .before .before .before .before .pre .1 (c .before .before .before .loop .i) (omega arith))
+write-run-requires-2 c κs =
+    let loop = c .before .before .before in
+    let entry = loop .before .before .before .before in
+    (omega arith, loop .loop .inv .2, entry .pre .1 (loop .loop .i) (omega arith))
 
 add-result : tie.Need-add-result Inv-loop μ-loop
 add-result c = search needs
@@ -82,7 +107,12 @@ same-length : tie.Need-same-length Inv-loop μ-loop
 same-length c = c .before .before .write-run2 .kept .0 ∙ c .before .before .before .before .before .before .loop .inv .3
 
 returns : tie.Need-returns Inv-loop μ-loop
-returns c = let h = going-end _ _ _ _ _ _ _ _ _ _ _ _ (omega arith) _ _ (c .before .before .write-run2 .ensures .0) (c .before .before .write-run2 .ensures .1) (c .before .before .before .before .before .before .loop .inv .4) in (h .0, h .1, omega (arith, c .before .before .write-run2 .ensures .2))
+returns c =
+    let write-run2 = c .before .before in
+    let loop = write-run2 .before .before .before .before in
+    let h = going-end _ _ _ _ _ _ _ _ _ _ _ _ (omega arith) _ _ (write-run2 .write-run2 .ensures .0) (write-run2 .write-run2 .ensures .1)
+    (loop .loop .inv .4) in
+    (h .0, h .1, omega (arith, write-run2 .write-run2 .ensures .2))
 
 pub write-runs-spec : {M : Type 1} → statement M
 write-runs-spec =

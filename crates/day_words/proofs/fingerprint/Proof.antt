@@ -6,7 +6,7 @@ use native.Mathlib.Omega.{arith}
 use borrow.Author.Needs.{needs}
 use Rattle.day_words.specs.Day.{fingerprintOf}
 use Rattle.words.specs.Words.{part}
-use Rattle.day_words.proofs.DayWays.{mixed-start, mixed-step, mixed-end}
+use Rattle.day_words.proofs.DayReturns.{mixed-start, mixed-step, mixed-end}
 use Rattle.day_words.proofs.fingerprint.Statement.{statement}
 use Rattle.day_words.proofs.fingerprint.Tie as tie
 

@@ -7,7 +7,7 @@ use lib.Dec.{eqb}
 use borrow.Author.Needs.{needs}
 use Rattle.laws.specs.Tests.{sameList}
 use Rattle.words.specs.Words.{part}
-use Rattle.day_words.proofs.DayWays.{same-on, same-not, same-end}
+use Rattle.day_words.proofs.DayReturns.{same-on, same-not, same-end}
 use Rattle.day_words.proofs.same_words.Statement.{statement}
 use Rattle.day_words.proofs.same_words.Tie as tie
 

@@ -30,18 +30,86 @@ pub +measure-entries-spec : {M : Type 1} → statement M
     (narrow-reads.Asked, narrow-reads.Learnt, rule-bits-reads.Asked, rule-bits-reads.Learnt, measure-entries-below t, measure-entries.Post)
     (measure-entries-at t)
     measure-entries.Post
-    (λ c. (λ operator ends h. no-size operator ends (c .before .before .before .args .counts .now) (c .before .before .before .args .words .now) (c .before .before .before .args .at) (c .before .before .before .args .rest) (c .if1 .taken), omega arith, omega arith))
-    (λ c. let s = step (c .before .before .before .args .words .now) (c .before .before .before .args .at) (c .before .before .before .args .rest) _ (c .if1 .left) refl (c .before .before .before .pre .1 .1 .0) in omega (arith, s .within, c .before .before .before .pre .1 .1 .0 .inside))
+    (λ c.
+    let entry = c .before .before .before in
+    let args = entry .args in (
+      λ operator ends h. no-size operator ends (args .counts .now) (args .words .now) (args .at) (args .rest) (c .if1 .taken),
+      omega arith,
+      omega arith,
+    ))
+    (λ c.
+    let entry = c .before .before .before in
+    let pre = entry .pre in
+    let s = step _ _ _ _ (c .if1 .left) refl (pre .1 .1 .0) in
+    omega (arith, s .within, pre .1 .1 .0 .inside))
     (λ c. search needs)
-    (λ c. let s = step (c .before .before .before .before .args .words .now) (c .before .before .before .before .args .at) (c .before .before .before .before .args .rest) _ (c .before .if1 .left) refl (c .before .before .before .before .pre .1 .1 .0) in omega (arith, s .within, c .before .before .before .before .pre .1 .1 .0 .inside))
+    (λ c.
+    let entry = c .before .before .before .before in
+    let pre = entry .pre in
+    let s = step _ _ _ _ (c .before .if1 .left) refl (pre .1 .1 .0) in
+    omega (arith, s .within, pre .1 .1 .0 .inside))
     (λ c κs. search needs)
-    (λ c. let s = step (c .before .before .before .before .before .args .words .now) (c .before .before .before .before .before .args .at) (c .before .before .before .before .before .args .rest) _ (c .before .before .if1 .left) (c .narrow .ensures) (c .before .before .before .before .before .pre .1 .1 .0) in omega (arith, s .within, c .before .before .before .before .before .pre .1 .1 .0 .inside))
-    (λ c κs. let s = step (c .before .before .before .before .before .args .words .now) (c .before .before .before .before .before .args .at) (c .before .before .before .before .before .args .rest) _ (c .before .before .if1 .left) (c .narrow .ensures) (c .before .before .before .before .before .pre .1 .1 .0) in (c .before .before .before .before .before .pre .1 .0, (omega (arith, s .within, c .before .before .before .before .before .pre .1 .1 .0 .inside), s .few)))
-    (λ c. let s = step (c .before .before .before .before .before .before .args .words .now) (c .before .before .before .before .before .before .args .at) (c .before .before .before .before .before .before .args .rest) _ (c .before .before .before .if1 .left) (c .before .narrow .ensures) (c .before .before .before .before .before .before .pre .1 .1 .0) in omega (arith, s .within, c .before .before .before .before .before .before .pre .1 .1 .0 .inside))
-    (λ c. let s = step (c .before .before .before .before .before .before .args .words .now) (c .before .before .before .before .before .before .args .at) (c .before .before .before .before .before .before .args .rest) _ (c .before .before .before .if1 .left) (c .before .narrow .ensures) (c .before .before .before .before .before .before .pre .1 .1 .0) in omega (arith, s .within, c .before .before .before .before .before .before .pre .1 .1 .0 .inside))
-    (λ c. let s = step (c .before .before .before .before .before .before .args .words .now) (c .before .before .before .before .before .before .args .at) (c .before .before .before .before .before .before .args .rest) _ (c .before .before .before .if1 .left) (c .before .narrow .ensures) (c .before .before .before .before .before .before .pre .1 .1 .0) in omega (arith, s .within))
-    (λ c. let s = step (c .before .before .before .before .before .before .args .words .now) (c .before .before .before .before .before .before .args .at) (c .before .before .before .before .before .before .args .rest) _ (c .before .before .before .if1 .left) (c .before .narrow .ensures) (c .before .before .before .before .before .before .pre .1 .1 .0) in omega (arith, s .within))
-    (λ c κs. let s = step (c .before .before .before .before .before .before .args .words .now) (c .before .before .before .before .before .before .args .at) (c .before .before .before .before .before .before .args .rest) _ (c .before .before .before .if1 .left) (c .before .narrow .ensures) (c .before .before .before .before .before .before .pre .1 .1 .0) in (omega (arith, c .before .before .before .before .before .before .pre .0, s .within), (c .before .before .before .before .before .before .pre .1 .0, (s .behind, omega (arith, c .before .before .before .before .before .before .pre .1 .1 .1)))))
-    (λ c. omega (arith, c .before .measure-entries .ensures .1, c .before .before .before .before .before .before .before .before .pre .1 .1 .1))
-    (λ c. omega (arith, c .before .before .measure-entries .ensures .2, c .before .before .before .rule-bits .ensures .1, c .before .before .before .before .before .before .before .before .before .pre .1 .1 .1))
-    (λ c. let a = c .before .before .before .before .before .before .before .before .before .args in let s = step (c .before .before .before .before .before .before .before .before .before .args .words .now) (c .before .before .before .before .before .before .before .before .before .args .at) (c .before .before .before .before .before .before .before .before .before .args .rest) _ (c .before .before .before .before .before .before .if1 .left) (c .before .before .before .before .narrow .ensures) (c .before .before .before .before .before .before .before .before .before .pre .1 .1 .0) in (λ operator ends h. (entries-count operator ends (a .counts .now) (a .words .now) (a .at) (a .rest) _ s _ (c .before .before .measure-entries .ensures .0 1 ends h .0), entries-size operator ends (a .counts .now) (a .words .now) (a .at) (a .rest) _ s _ _ (c .before .before .before .rule-bits .ensures .0 operator _ ends h) (c .before .before .measure-entries .ensures .0 1 ends h .1)), omega (arith, s .within, c .before .before .measure-entries .ensures .1), omega (arith, s .within, c .before .before .measure-entries .ensures .2, c .before .before .before .rule-bits .ensures .1)))
+    (λ c.
+    let if1 = c .before .before in
+    let entry = if1 .before .before .before in
+    let pre = entry .pre in
+    let s = step _ _ _ _ (if1 .if1 .left) (c .narrow .ensures) (pre .1 .1 .0) in
+    omega (arith, s .within, pre .1 .1 .0 .inside))
+    (λ c κs.
+    let if1 = c .before .before in
+    let entry = if1 .before .before .before in
+    let pre = entry .pre in
+    let s = step _ _ _ _ (if1 .if1 .left) (c .narrow .ensures) (pre .1 .1 .0) in
+    (pre .1 .0, (omega (arith, s .within, pre .1 .1 .0 .inside), s .few)))
+    (λ c.
+    let if1 = c .before .before .before in
+    let entry = if1 .before .before .before in
+    let pre = entry .pre in
+    let s = step _ _ _ _ (if1 .if1 .left) (c .before .narrow .ensures) (pre .1 .1 .0) in
+    omega (arith, s .within, pre .1 .1 .0 .inside))
+    (λ c.
+    let if1 = c .before .before .before in
+    let entry = if1 .before .before .before in
+    let pre = entry .pre in
+    let s = step _ _ _ _ (if1 .if1 .left) (c .before .narrow .ensures) (pre .1 .1 .0) in
+    omega (arith, s .within, pre .1 .1 .0 .inside))
+    (λ c.
+    let if1 = c .before .before .before in
+    let entry = if1 .before .before .before in
+    let s = step _ _ _ _ (if1 .if1 .left) (c .before .narrow .ensures) (entry .pre .1 .1 .0) in
+    omega (arith, s .within))
+    (λ c.
+    let if1 = c .before .before .before in
+    let entry = if1 .before .before .before in
+    let s = step _ _ _ _ (if1 .if1 .left) (c .before .narrow .ensures) (entry .pre .1 .1 .0) in
+    omega (arith, s .within))
+    (λ c κs.
+    let if1 = c .before .before .before in
+    let entry = if1 .before .before .before in
+    let pre = entry .pre in
+    let s = step _ _ _ _ (if1 .if1 .left) (c .before .narrow .ensures) (pre .1 .1 .0) in
+    (omega (arith, pre .0, s .within), (pre .1 .0, (s .behind, omega (arith, pre .1 .1 .1)))))
+    (λ c.
+    let entry = c .before .before .before .before .before .before .before .before in
+    omega (arith, c .before .measure-entries .ensures .1, entry .pre .1 .1 .1))
+    (λ c.
+    let at-measure-entries = c .before .before in
+    let rule-bits = at-measure-entries .before in
+    let entry = rule-bits .before .before .before .before .before .before in
+    omega (arith, at-measure-entries .measure-entries .ensures .2, rule-bits .rule-bits .ensures .1, entry .pre .1 .1 .1))
+    (λ c.
+    let at-measure-entries = c .before .before in
+    let rule-bits = at-measure-entries .before in
+    let narrow = rule-bits .before in
+    let if1 = narrow .before .before in
+    let entry = if1 .before .before .before in
+    let a = entry .args in
+    let s = step _ _ _ _ (if1 .if1 .left) (narrow .narrow .ensures) (entry .pre .1 .1 .0) in (
+      λ operator ends h. (
+        entries-count operator ends (a .counts .now) (a .words .now) (a .at) (a .rest) _ s _ (at-measure-entries .measure-entries .ensures .0 1 ends h .0),
+        entries-size operator ends (a .counts .now) (a .words .now) (a .at) (a .rest) _ s _ _ (rule-bits .rule-bits .ensures .0 operator _ ends h)
+            (at-measure-entries .measure-entries .ensures .0 1 ends h .1),
+      ),
+      omega (arith, s .within, at-measure-entries .measure-entries .ensures .1),
+      omega (arith, s .within, at-measure-entries .measure-entries .ensures .2, rule-bits .rule-bits .ensures .1),
+    ))

@@ -31,19 +31,94 @@ pub +write-entries-spec : {M : Type 1} → statement M
     (narrow-reads.Asked, narrow-reads.Learnt, put-rule-reads.Asked, put-rule-reads.Learnt, write-entries-below t, write-entries.Post)
     (write-entries-at t)
     write-entries.Post
-    (λ c. wrote-none (no-bits (c .before .before .before .before .before .args .operator) (c .before .before .before .before .before .args .ends .now) (c .before .before .before .before .before .args .counts .now) (c .before .before .before .before .before .args .words .now) (c .before .before .before .before .before .args .next) (c .before .before .before .before .before .args .rest) (c .if1 .taken)))
-    (λ c. let s = step (c .before .before .before .before .before .args .words .now) (c .before .before .before .before .before .args .next) (c .before .before .before .before .before .args .rest) _ (c .if1 .left) refl (c .before .before .before .before .before .pre .1 .1 .0) in omega (arith, s .within, c .before .before .before .before .before .pre .1 .1 .0 .inside))
+    (λ c.
+    let entry = c .before .before .before .before .before in
+    let args = entry .args in
+    wrote-none (no-bits (args .operator) (args .ends .now) (args .counts .now) (args .words .now) (args .next) (args .rest) (c .if1 .taken)))
+    (λ c.
+    let entry = c .before .before .before .before .before in
+    let pre = entry .pre in
+    let s = step _ _ _ _ (c .if1 .left) refl (pre .1 .1 .0) in
+    omega (arith, s .within, pre .1 .1 .0 .inside))
     (λ c. search needs)
-    (λ c. let s = step (c .before .before .before .before .before .before .args .words .now) (c .before .before .before .before .before .before .args .next) (c .before .before .before .before .before .before .args .rest) _ (c .before .if1 .left) refl (c .before .before .before .before .before .before .pre .1 .1 .0) in omega (arith, s .within, c .before .before .before .before .before .before .pre .1 .1 .0 .inside))
+    (λ c.
+    let entry = c .before .before .before .before .before .before in
+    let pre = entry .pre in
+    let s = step _ _ _ _ (c .before .if1 .left) refl (pre .1 .1 .0) in
+    omega (arith, s .within, pre .1 .1 .0 .inside))
     (λ c κs. search needs)
     (λ c. search needs)
-    (λ c. let s = step (c .before .before .before .before .before .before .before .before .before .args .words .now) (c .before .before .before .before .before .before .before .before .before .args .next) (c .before .before .before .before .before .before .before .before .before .args .rest) _ (c .before .before .before .before .if1 .left) (c .before .before .narrow .ensures) (c .before .before .before .before .before .before .before .before .before .pre .1 .1 .0) in omega (arith, s .within, c .before .before .before .before .before .before .before .before .before .pre .1 .1 .0 .inside))
-    (λ c. let s = step (c .before .before .before .before .before .before .before .before .before .args .words .now) (c .before .before .before .before .before .before .before .before .before .args .next) (c .before .before .before .before .before .before .before .before .before .args .rest) _ (c .before .before .before .before .if1 .left) (c .before .before .narrow .ensures) (c .before .before .before .before .before .before .before .before .before .pre .1 .1 .0) in omega (arith, s .within, c .before .before .before .before .before .before .before .before .before .pre .1 .1 .0 .inside))
-    (λ c κs. let s = step (c .before .before .before .before .before .before .before .before .before .args .words .now) (c .before .before .before .before .before .before .before .before .before .args .next) (c .before .before .before .before .before .before .before .before .before .args .rest) _ (c .before .before .before .before .if1 .left) (c .before .before .narrow .ensures) (c .before .before .before .before .before .before .before .before .before .pre .1 .1 .0) in ((c .before .before .before .before .before .before .before .before .before .pre .1 .0, s .state), (c .before .before .before .before .before .before .before .before .before .pre .1 .1 .1 .0, ((omega (arith, s .within, c .before .before .before .before .before .before .before .before .before .pre .1 .1 .0 .inside), s .few, s .first .spanned), room-first _ _ (room-as (entries-bits (c .before .before .before .before .before .before .before .before .before .args .operator) (c .before .before .before .before .before .before .before .before .before .args .ends .now) (c .before .before .before .before .before .before .before .before .before .args .counts .now) (c .before .before .before .before .before .before .before .before .before .args .words .now) (c .before .before .before .before .before .before .before .before .before .args .next) (c .before .before .before .before .before .before .before .before .before .args .rest) _ s) (c .before .before .before .before .before .before .before .before .before .pre .1 .1 .1 .1))))))
-    (λ c. let s = step (c .before .before .before .before .before .before .before .before .before .before .before .before .before .args .words .now) (c .before .before .before .before .before .before .before .before .before .before .before .before .before .args .next) (c .before .before .before .before .before .before .before .before .before .before .before .before .before .args .rest) _ (c .before .before .before .before .before .before .before .before .if1 .left) (c .before .before .before .before .before .before .narrow .ensures) (c .before .before .before .before .before .before .before .before .before .before .before .before .before .pre .1 .1 .0) in omega (arith, s .within, c .before .before .before .before .before .before .before .before .before .before .before .before .before .pre .1 .1 .0 .inside))
-    (λ c. let s = step (c .before .before .before .before .before .before .before .before .before .before .before .before .before .args .words .now) (c .before .before .before .before .before .before .before .before .before .before .before .before .before .args .next) (c .before .before .before .before .before .before .before .before .before .before .before .before .before .args .rest) _ (c .before .before .before .before .before .before .before .before .if1 .left) (c .before .before .before .before .before .before .narrow .ensures) (c .before .before .before .before .before .before .before .before .before .before .before .before .before .pre .1 .1 .0) in omega (arith, s .within, c .before .before .before .before .before .before .before .before .before .before .before .before .before .pre .1 .1 .0 .inside))
-    (λ c. let s = step (c .before .before .before .before .before .before .before .before .before .before .before .before .before .args .words .now) (c .before .before .before .before .before .before .before .before .before .before .before .before .before .args .next) (c .before .before .before .before .before .before .before .before .before .before .before .before .before .args .rest) _ (c .before .before .before .before .before .before .before .before .if1 .left) (c .before .before .before .before .before .before .narrow .ensures) (c .before .before .before .before .before .before .before .before .before .before .before .before .before .pre .1 .1 .0) in omega (arith, s .within))
-    (λ c. let s = step (c .before .before .before .before .before .before .before .before .before .before .before .before .before .args .words .now) (c .before .before .before .before .before .before .before .before .before .before .before .before .before .args .next) (c .before .before .before .before .before .before .before .before .before .before .before .before .before .args .rest) _ (c .before .before .before .before .before .before .before .before .if1 .left) (c .before .before .before .before .before .before .narrow .ensures) (c .before .before .before .before .before .before .before .before .before .before .before .before .before .pre .1 .1 .0) in omega (arith, s .within))
-    (λ c κs. let s = step (c .before .before .before .before .before .before .before .before .before .before .before .before .before .args .words .now) (c .before .before .before .before .before .before .before .before .before .before .before .before .before .args .next) (c .before .before .before .before .before .before .before .before .before .before .before .before .before .args .rest) _ (c .before .before .before .before .before .before .before .before .if1 .left) (c .before .before .before .before .before .before .narrow .ensures) (c .before .before .before .before .before .before .before .before .before .before .before .before .before .pre .1 .1 .0) in (omega (arith, c .before .before .before .before .before .before .before .before .before .before .before .before .before .pre .0, s .within), (omega arith, (s .behind, (c .before .before .before .before .before .before .before .before .before .before .before .before .before .pre .1 .1 .1 .0, room-rest (c .before .before .before .put-rule .ensures) _ (room-as (entries-bits (c .before .before .before .before .before .before .before .before .before .before .before .before .before .args .operator) (c .before .before .before .before .before .before .before .before .before .before .before .before .before .args .ends .now) (c .before .before .before .before .before .before .before .before .before .before .before .before .before .args .counts .now) (c .before .before .before .before .before .before .before .before .before .before .before .before .before .args .words .now) (c .before .before .before .before .before .before .before .before .before .before .before .before .before .args .next) (c .before .before .before .before .before .before .before .before .before .before .before .before .before .args .rest) _ s) (c .before .before .before .before .before .before .before .before .before .before .before .before .before .pre .1 .1 .1 .1)))))))
+    (λ c.
+    let narrow = c .before .before in
+    let if1 = narrow .before .before in
+    let entry = if1 .before .before .before .before .before in
+    let pre = entry .pre in
+    let s = step _ _ _ _ (if1 .if1 .left) (narrow .narrow .ensures) (pre .1 .1 .0) in
+    omega (arith, s .within, pre .1 .1 .0 .inside))
+    (λ c.
+    let narrow = c .before .before in
+    let if1 = narrow .before .before in
+    let entry = if1 .before .before .before .before .before in
+    let pre = entry .pre in
+    let s = step _ _ _ _ (if1 .if1 .left) (narrow .narrow .ensures) (pre .1 .1 .0) in
+    omega (arith, s .within, pre .1 .1 .0 .inside))
+    (λ c κs.
+    let narrow = c .before .before in
+    let if1 = narrow .before .before in
+    let entry = if1 .before .before .before .before .before in
+    let args = entry .args in
+    let pre = entry .pre in
+    let s = step _ _ _ _ (if1 .if1 .left) (narrow .narrow .ensures) (pre .1 .1 .0) in
+    let bits = entries-bits (args .operator) (args .ends .now) (args .counts .now) (args .words .now) (args .next) (args .rest) _ s in (
+      (pre .1 .0, s .state),
+      (pre .1 .1 .1 .0, ((omega (arith, s .within, pre .1 .1 .0 .inside), s .few, s .first .spanned), room-first _ _ (room-as bits (pre .1 .1 .1 .1)))),
+    ))
+    (λ c.
+    let narrow = c .before .before .before .before .before .before in
+    let if1 = narrow .before .before in
+    let entry = if1 .before .before .before .before .before in
+    let pre = entry .pre in
+    let s = step _ _ _ _ (if1 .if1 .left) (narrow .narrow .ensures) (pre .1 .1 .0) in
+    omega (arith, s .within, pre .1 .1 .0 .inside))
+    (λ c.
+    let narrow = c .before .before .before .before .before .before in
+    let if1 = narrow .before .before in
+    let entry = if1 .before .before .before .before .before in
+    let pre = entry .pre in
+    let s = step _ _ _ _ (if1 .if1 .left) (narrow .narrow .ensures) (pre .1 .1 .0) in
+    omega (arith, s .within, pre .1 .1 .0 .inside))
+    (λ c.
+    let narrow = c .before .before .before .before .before .before in
+    let if1 = narrow .before .before in
+    let entry = if1 .before .before .before .before .before in
+    let s = step _ _ _ _ (if1 .if1 .left) (narrow .narrow .ensures) (entry .pre .1 .1 .0) in
+    omega (arith, s .within))
+    (λ c.
+    let narrow = c .before .before .before .before .before .before in
+    let if1 = narrow .before .before in
+    let entry = if1 .before .before .before .before .before in
+    let s = step _ _ _ _ (if1 .if1 .left) (narrow .narrow .ensures) (entry .pre .1 .1 .0) in
+    omega (arith, s .within))
+    (λ c κs.
+    let put-rule = c .before .before .before in
+    let narrow = put-rule .before .before .before in
+    let if1 = narrow .before .before in
+    let entry = if1 .before .before .before .before .before in
+    let args = entry .args in
+    let pre = entry .pre in
+    let s = step _ _ _ _ (if1 .if1 .left) (narrow .narrow .ensures) (pre .1 .1 .0) in
+    let bits = entries-bits (args .operator) (args .ends .now) (args .counts .now) (args .words .now) (args .next) (args .rest) _ s in (
+      omega (arith, pre .0, s .within),
+      (omega arith, (s .behind, (pre .1 .1 .1 .0, room-rest (put-rule .put-rule .ensures) _ (room-as bits (pre .1 .1 .1 .1))))),
+    ))
     (λ c. search needs)
-    (λ c. let s = step (c .before .before .before .before .before .before .before .before .before .before .before .before .before .before .before .before .args .words .now) (c .before .before .before .before .before .before .before .before .before .before .before .before .before .before .before .before .args .next) (c .before .before .before .before .before .before .before .before .before .before .before .before .before .before .before .before .args .rest) _ (c .before .before .before .before .before .before .before .before .before .before .before .if1 .left) (c .before .before .before .before .before .before .before .before .before .narrow .ensures) (c .before .before .before .before .before .before .before .before .before .before .before .before .before .before .before .before .pre .1 .1 .0) in wrote-as (entries-bits (c .before .before .before .before .before .before .before .before .before .before .before .before .before .before .before .before .args .operator) (c .before .before .before .before .before .before .before .before .before .before .before .before .before .before .before .before .args .ends .now) (c .before .before .before .before .before .before .before .before .before .before .before .before .before .before .before .before .args .counts .now) (c .before .before .before .before .before .before .before .before .before .before .before .before .before .before .before .before .args .words .now) (c .before .before .before .before .before .before .before .before .before .before .before .before .before .before .before .before .args .next) (c .before .before .before .before .before .before .before .before .before .before .before .before .before .before .before .before .args .rest) _ s) (wrote-then (c .before .before .before .before .before .before .put-rule .ensures) (c .before .before .write-entries .ensures)))
+    (λ c.
+    let at-write-entries = c .before .before in
+    let put-rule = at-write-entries .before .before .before .before in
+    let narrow = put-rule .before .before .before in
+    let if1 = narrow .before .before in
+    let entry = if1 .before .before .before .before .before in
+    let args = entry .args in
+    let s = step _ _ _ _ (if1 .if1 .left) (narrow .narrow .ensures) (entry .pre .1 .1 .0) in
+    wrote-as (entries-bits (args .operator) (args .ends .now) (args .counts .now) (args .words .now) (args .next) (args .rest) _ s)
+    (wrote-then (put-rule .put-rule .ensures) (at-write-entries .write-entries .ensures)))

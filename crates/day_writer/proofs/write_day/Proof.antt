@@ -4,7 +4,7 @@ use mathlib.Core.Path.{sym, ap}
 use native.Mathlib.Omega.{arith}
 use borrow.Author.Needs.{needs}
 use Rattle.item_writer.proofs.Chain.{room-as, wrote-as}
-use Rattle.rule_writer.specs.Written.{rowsBelow}
+use Rattle.tables.specs.Items.{rowsBelow}
 use Rattle.day_writer.specs.Rules.{rulesBits, dayIn}
 use Rattle.day_writer.proofs.Laid.{entries-day}
 use Rattle.day_writer.proofs.write_day.Statement.{statement}
@@ -12,14 +12,26 @@ use Rattle.day_writer.proofs.write_day.Tie as tie
 
 write-entries-requires : tie.Need-write-entries-requires
 write-entries-requires c κs =
-    let a = c .before .before .before .before .before .args in
-    let pre = c .before .before .before .before .before .pre in
-    (omega arith, (pre .0, (pre .1 .0, room-as (ap rulesBits (sym (entries-day (rowsBelow (a .ends .now) (a .counts .now) 4) (dayIn (a .words .now) 0 (a .count))))) (pre .1 .1))))
+    let entry = c .before .before .before .before .before in
+    let a = entry .args in
+    let pre = entry .pre in (
+      omega arith,
+      (
+        pre .0,
+        (
+          pre .1 .0,
+          room-as (ap rulesBits (sym (entries-day (rowsBelow (a .ends .now) (a .counts .now) 4) (dayIn (a .words .now) 0 (a .count))))) (pre .1 .1),
+        ),
+      ),
+    )
 
 returns : tie.Need-returns
 returns c =
-    let a = c .before .before .before .before .before .before .before .before .args in
-    wrote-as (ap rulesBits (sym (entries-day (rowsBelow (a .ends .now) (a .counts .now) 4) (dayIn (a .words .now) 0 (a .count))))) (c .before .before .write-entries .ensures)
+    let write-entries = c .before .before in
+    let entry = write-entries .before .before .before .before .before .before in
+    let a = entry .args in
+    wrote-as (ap rulesBits (sym (entries-day (rowsBelow (a .ends .now) (a .counts .now) 4) (dayIn (a .words .now) 0 (a .count)))))
+    (write-entries .write-entries .ensures)
 
 pub write-day-spec : {M : Type 1} → statement M
 write-day-spec = tie.close (tie.spec write-entries-requires (λ c. search needs) returns)

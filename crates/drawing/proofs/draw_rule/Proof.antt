@@ -1,22 +1,54 @@
--- `drawing::draw_rule` meets its contract: the ranges are the definition's, and all of them are drawn.
--- Assumes nothing.
+-- `drawing::draw_rule` meets its contract: the rule's rows of the tables are lent.
 use borrow.Author.Needs.{needs}
-use Rattle.drawing.proofs.Drawing.{ranges-found, tables-lawful, all-weekdays, drawn-whole, scratch-kept}
+use Rattle.drawing.proofs.Drawing.{lent-lawful, lent-weekdays, lent-drawn}
 use Rattle.drawing.proofs.draw_rule.Statement.{statement}
 use Rattle.drawing.proofs.draw_rule.Tie as tie
 
 update-requires : tie.Need-update-requires
 update-requires c κs =
-    let pre = c .before .before .before .before .before .before .before .before .before .before .before .before .before .before .before .before .before .before .before .pre in
-    let read = c .before .before .before .before .before .before .before .before .before .rule-ranges in
-    let few = ranges-found _ _ _ _ _ _ (read .result) (read .ensures .1) (pre .0 .passes) .1 in
-    (tables-lawful _ _ _ _ _ _ (pre .1 .0) (scratch-kept _ _ _ _ (read .kept .1 .1 .0) (read .kept .1 .1 .1 .0) (pre .1 .1)) few, (pre .1 .0 .lists, all-weekdays _ _ (c .before .before .before .wide .ensures .0)))
+    let entry = c .before .before .before .before .before .before .before .before .before .before .before in
+    let a = entry .args in
+    let pre = entry .pre in (
+      lent-lawful _ _ _ _ _ (a .rule) (pre .1 .0),
+      (pre .1 .1 .1, lent-weekdays (a .sizes .now) _ (a .rows .now) (a .cuts .now) (a .ranges .now) (a .rule) _ (c .before .before .before .wide .ensures .0)),
+    )
 
 returns : tie.Need-returns
 returns c =
-    let read = c .before .before .before .before .before .before .before .before .before .before .before .before .rule-ranges in
-    let selected = ranges-found _ _ _ _ _ _ (read .result) (read .ensures .1) (c .before .before .before .before .before .before .before .before .before .before .before .before .before .before .before .before .before .before .before .before .before .before .pre .0 .passes) .0 in
-    (selected, drawn-whole _ _ _ _ _ _ _ _ _ _ _ (c .before .before .before .before .before .before .wide .ensures .0) (c .before .before .update .ensures))
+    let wide = c .before .before .before .before .before .before in
+    lent-drawn _ _ _ _ _ _ _ _ _ _ _ (wide .wide .ensures .0) (c .before .before .update .ensures)
 
 pub draw-rule-spec : {M : Type 1} → statement M
-draw-rule-spec = tie.close (tie.spec (λ c κs. search needs) (λ c. search needs) (λ c κs. search needs) update-requires (λ c. search needs) (λ c. search needs) (λ c. search needs) returns)
+draw-rule-spec =
+    tie.close
+    (tie.spec (λ c.
+    let entry = c .before .before .before .before .before .before in
+    search (needs, entry .pre .0))
+    (λ c.
+    let entry = c .before .before .before .before .before .before in
+    search (needs, entry .pre .0))
+    (λ c.
+    let entry = c .before .before .before .before .before .before in
+    search (needs, entry .pre .0))
+    (λ c.
+    let entry = c .before .before .before .before .before .before in
+    search (needs, entry .pre .0))
+    (λ c.
+    let entry = c .before .before .before .before .before .before in
+    search (needs, entry .pre .0))
+    (λ c.
+    let entry = c .before .before .before .before .before .before in
+    search (needs, entry .pre .0))
+    (λ c.
+    let entry = c .before .before .before .before .before .before .before in
+    search (needs, entry .pre .0)) (λ c κs. search needs)
+    (λ c. search needs) (λ c. search needs) (λ c. search needs)
+    (λ c.
+    let entry = c .before .before .before .before .before .before .before .before .before in
+    search (needs, entry .pre .0)) (λ c. search needs) (λ c. search needs) (λ c. search needs)
+    (λ c.
+    let entry = c .before .before .before .before .before .before .before .before .before .before in
+    search (needs, entry .pre .0))
+    (λ c.
+    let entry = c .before .before .before .before .before .before .before .before .before .before .before in
+    search (needs, entry .pre .0)) update-requires (λ c. search needs) returns)

@@ -11,7 +11,8 @@ use Rattle.field.proofs.bytes_at.Statement.{statement}
 use Rattle.field.proofs.bytes_at.Tie as tie
 
 abbrev Inv-loop : tie.InvT-loop
-Inv-loop sheet first past number₀ index₀ number index = (first ≤ index) × (index ≤ past) × (number ≡ fieldAt (sheetBits sheet) (8 * first) (8 * (index - first)))
+Inv-loop sheet first past number₀ index₀ number index =
+    (first ≤ index) × (index ≤ past) × (number ≡ fieldAt (sheetBits sheet) (8 * first) (8 * (index - first)))
 
 abbrev μ-loop : tie.MeasureT-loop
 μ-loop sheet first past number₀ index₀ number index = past - index
@@ -31,17 +32,26 @@ mul-number c =
 
 add-number : tie.Need-add-number Inv-loop μ-loop
 add-number c =
-    let start = c .before .before .before .before .before in
-    let loop = c .before .before .before .loop in
-    let bytes = known-bytes (start .args .sheet .now) (λ j. omega (arith, c .before .before .before .before .shared-slice-known .given j)) in
-    omega (arith, bytes-below (start .args .sheet .now) bytes (start .args .first) (loop .index - start .args .first) 4 (omega arith) (omega arith), c .wide .ensures .1)
+    let at-loop = c .before .before .before in
+    let known = at-loop .before in
+    let start = known .before in
+    let args = start .args in
+    let loop = at-loop .loop in
+    let bytes = known-bytes (args .sheet .now) (λ j. omega (arith, known .shared-slice-known .given j)) in
+    omega (arith, bytes-below (args .sheet .now) bytes (args .first) (loop .index - args .first) 4 (omega arith) (omega arith), c .wide .ensures .1)
 
 loop-again : tie.Need-loop-again Inv-loop μ-loop
 loop-again c =
-    let start = c .before .before .before .before .before in
-    let loop = c .before .before .before .loop in
-    let bytes = known-bytes (start .args .sheet .now) (λ j. omega (arith, c .before .before .before .before .shared-slice-known .given j)) in
-    (omega arith, omega arith, omega (arith, bytes-more (start .args .sheet .now) bytes (start .args .first) (loop .index) (omega arith) (omega arith), loop .inv .2, c .wide .ensures .0))
+    let at-loop = c .before .before .before in
+    let known = at-loop .before in
+    let start = known .before in
+    let args = start .args in
+    let loop = at-loop .loop in
+    let bytes = known-bytes (args .sheet .now) (λ j. omega (arith, known .shared-slice-known .given j)) in (
+      omega arith,
+      omega arith,
+      omega (arith, bytes-more (args .sheet .now) bytes (args .first) (loop .index) (omega arith) (omega arith), loop .inv .2, c .wide .ensures .0),
+    )
 
 returns : tie.Need-returns Inv-loop μ-loop
 returns c =

@@ -20,21 +20,30 @@ above v lowest upper l = not-true (holds v (lowest, upper)) (λ h. let k = holds
 
 too-low : tie.Need-returns-2
 too-low c =
-    let args = c .before .before .before .before .before .before .args in
     let known = c .before .before in
-    test-failed _ _ _ _ _ _ (known .before .before .take-at .ensures) _ _ (known .taken .given .1) (below (known .taken .given .0 .0) (args .lowest) (args .upper) (omega arith))
+    let take = known .before .before in
+    let entry = take .before .before in
+    let args = entry .args in
+    test-failed _ _ _ _ _ _ (take .take-at .ensures) _ _ (known .taken .given .1)
+    (below (known .taken .given .0 .0) (args .lowest) (args .upper) (omega arith))
 
 within : tie.Need-returns-3
 within c =
-    let args = c .before .before .before .before .before .before .before .args in
     let known = c .before .before .before in
-    test-passed _ _ _ _ _ _ (known .before .before .take-at .ensures) _ _ (known .taken .given .1) (in-holds (known .taken .given .0 .0) (args .lowest, args .upper) (omega arith) (omega arith))
+    let take = known .before .before in
+    let entry = take .before .before in
+    let args = entry .args in
+    test-passed _ _ _ _ _ _ (take .take-at .ensures) _ _ (known .taken .given .1)
+    (in-holds (known .taken .given .0 .0) (args .lowest, args .upper) (omega arith) (omega arith))
 
 too-high : tie.Need-returns-4
 too-high c =
-    let args = c .before .before .before .before .before .before .before .args in
     let known = c .before .before .before in
-    test-failed _ _ _ _ _ _ (known .before .before .take-at .ensures) _ _ (known .taken .given .1) (above (known .taken .given .0 .0) (args .lowest) (args .upper) (omega arith))
+    let take = known .before .before in
+    let entry = take .before .before in
+    let args = entry .args in
+    test-failed _ _ _ _ _ _ (take .take-at .ensures) _ _ (known .taken .given .1)
+    (above (known .taken .given .0 .0) (args .lowest) (args .upper) (omega arith))
 
 pub within-at-spec : {M : Type 1} → statement M
 within-at-spec =

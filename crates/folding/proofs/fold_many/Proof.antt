@@ -1,5 +1,4 @@
 -- `folding::fold_many` meets its contract: the buffers are as large as the limits ask for, and a cell for each box is lent.
--- Assumes nothing.
 use mathlib.Core.Path.{sym}
 use native.Mathlib.Omega.{arith}
 use lib.Seq.{length-take-le}
@@ -8,26 +7,43 @@ use Rattle.folding.proofs.fold_many.Statement.{statement}
 use Rattle.folding.proofs.fold_many.Tie as tie
 
 array-borrow-prefix-cells : tie.Need-array-borrow-prefix-cells
-array-borrow-prefix-cells c = let pre = c .before .before .before .before .before .before .before .before .before .before .before .before .before .before .before .before .before .pre in omega (arith, c .before .before .before .before .before .box-numbers2 .ensures, pre .0 .2 .few-boxes, pre .1 .0)
+array-borrow-prefix-cells c =
+    let box-numbers2 = c .before .before .before .before .before in
+    let entry = box-numbers2 .before .before .before .before .before .before .before .before .before .before .before .before in
+    let pre = entry .pre in omega (arith, box-numbers2 .box-numbers2 .ensures, pre .0 .2 .few-boxes, pre .1 .0)
 
 slice-aggregate-fold-in-4 : tie.Need-slice-aggregate-fold-in-4
 slice-aggregate-fold-in-4 c =
-    let pre = c .before .before .before .before .before .before .before .before .before .before .before .before .before .before .before .before .before .before .pre in
-    sym (length-take-le (c .before .before .before .before .before .before .before .before .before .before .before .before .before .before .before .before .before .before .args .boxes) _ (omega (arith, c .before .before .before .before .before .before .box-numbers2 .ensures, pre .0 .2 .few-boxes, pre .1 .0)))
+    let box-numbers2 = c .before .before .before .before .before .before in
+    let entry = box-numbers2 .before .before .before .before .before .before .before .before .before .before .before .before in
+    let pre = entry .pre in
+    sym (length-take-le (entry .args .boxes) _ (omega (arith, box-numbers2 .box-numbers2 .ensures, pre .0 .2 .few-boxes, pre .1 .0)))
 
 fold-in-requires : tie.Need-fold-in-requires
 fold-in-requires c κs =
-    let pre = c .before .before .before .before .before .before .before .before .before .before .before .before .before .before .before .before .before .before .before .before .before .pre in
-    let classes = c .before .before .before .before .before .before .before .before .day-classes .ensures in (
+    let marks = c .before .before .before .before .before .before .before in
+    let day-classes = marks .before in
+    let box-numbers2 = day-classes .before in
+    let box-prints2 = box-numbers2 .before in
+    let box-prints = box-prints2 .before in
+    let box-numbers = box-prints .before in
+    let entry = box-numbers .before .before .before .before .before .before .before .before .before in
+    let pre = entry .pre in
+    let classes = day-classes .day-classes .ensures in (
       pre .0,
       (
-        (pre .1 .0, length-take-le (c .before .before .before .before .before .before .before .before .before .before .before .before .before .before .before .before .before .before .before .before .before .args .boxes) _ (omega (arith, c .before .before .before .before .before .before .before .before .before .box-numbers2 .ensures, pre .0 .2 .few-boxes, pre .1 .0))),
+        (pre .1 .0, length-take-le (entry .args .boxes) _ (omega (arith, box-numbers2 .box-numbers2 .ensures, pre .0 .2 .few-boxes, pre .1 .0))),
         (
-          (omega (arith, classes .0, pre .0 .2 .few-boxes, pre .1 .0), classes .1, omega (arith, c .before .before .before .before .before .before .before .marks .ensures, pre .0 .2 .few-boxes, pre .1 .0), pre .1 .1),
           (
-            omega (arith, c .before .before .before .before .before .before .before .before .before .before .before .before .box-numbers .ensures, pre .0 .2 .few-boxes, pre .1 .0),
-            omega (arith, c .before .before .before .before .before .before .before .before .before .before .before .box-prints .ensures, pre .0 .2 .few-boxes, pre .1 .0),
-            omega (arith, c .before .before .before .before .before .before .before .before .before .before .box-prints2 .ensures, pre .0 .2 .few-boxes, pre .1 .0),
+            omega (arith, classes .0, pre .0 .2 .few-boxes, pre .1 .0),
+            classes .1,
+            omega (arith, marks .marks .ensures, pre .0 .2 .few-boxes, pre .1 .0),
+            pre .1 .1,
+          ),
+          (
+            omega (arith, box-numbers .box-numbers .ensures, pre .0 .2 .few-boxes, pre .1 .0),
+            omega (arith, box-prints .box-prints .ensures, pre .0 .2 .few-boxes, pre .1 .0),
+            omega (arith, box-prints2 .box-prints2 .ensures, pre .0 .2 .few-boxes, pre .1 .0),
           ),
         ),
       ),

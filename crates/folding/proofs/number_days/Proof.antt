@@ -1,10 +1,9 @@
 -- `folding::number_days` meets its contract: the scratch is as large as the limits ask for, and before the first box nothing is known or numbered.
--- Assumes nothing.
 use mathlib.Core.Path.{sym}
 use native.Mathlib.Omega.{arith}
 use borrow.Author.Needs.{needs}
 use denote.Ref.{now}
-use Rattle.paving_map.specs.Boxes.{boxWords}
+use Rattle.tables.specs.Days.{boxWords}
 use Rattle.paving_map.proofs.Mapping.{known-none, mapped-none}
 use Rattle.box_day.proofs.Kept.{ready-kept}
 use Rattle.folding.proofs.number_days.Statement.{statement}
@@ -12,15 +11,26 @@ use Rattle.folding.proofs.number_days.Tie as tie
 
 map-requires : tie.Need-map-requires
 map-requires c κs =
-    let a = c .before .before .before .before .before .before .before .before .before .before .before .before .before .before .before .before .before .before .before .before .before .before .before .before .before .before .before .before .args in
-    let pre = c .before .before .before .before .before .before .before .before .before .before .before .before .before .before .before .before .before .before .before .before .before .before .before .before .before .before .before .before .pre in
-    let words = c .before .before .before .before .before .before .before .before .before .before .before .before .before .before .before .before .before .before .words .ensures in
+    let ends3 = c .before .before .before .before .before .before .before .before .before .before .before .before in
+    let ends2 = ends3 .before in
+    let ends = ends2 .before in
+    let spans = ends .before in
+    let states = spans .before in
+    let words2 = states .before in
+    let words-step = words2 .before in
+    let entry = words-step .before .before .before .before .before .before .before .before .before .before in
+    let a = entry .args in
+    let pre = entry .pre in
+    let words = words-step .words .ensures in
     let days = boxWords (now (a .states)) (now (a .span-counts)) (now (a .spans)) (now (a .lists)) in (
-      (ready-kept (now (a .states)) (now (a .span-counts)) (now (a .spans)) (now (a .lists)) (λ i. i) (a .boxes) _ _ (sym words) (pre .0), omega (arith, words, c .before .before .before .before .before .before .before .before .before .before .before .before .before .before .before .before .before .words2 .ensures)),
+      (
+        ready-kept (now (a .states)) (now (a .span-counts)) (now (a .spans)) (now (a .lists)) (λ i. i) (a .boxes) _ _ (sym words) (pre .0),
+        omega (arith, words, words2 .words2 .ensures),
+      ),
       (
         record {
-          spans = (omega (arith, c .before .before .before .before .before .before .before .before .before .before .before .before .before .before .before .before .states .ensures), omega (arith, c .before .before .before .before .before .before .before .before .before .before .before .before .before .before .before .spans .ensures));
-          ends = (omega (arith, c .before .before .before .before .before .before .before .before .before .before .before .before .before .before .ends .ensures), omega (arith, c .before .before .before .before .before .before .before .before .before .before .before .before .before .ends2 .ensures), omega (arith, c .before .before .before .before .before .before .before .before .before .before .before .before .ends3 .ensures));
+          spans = (omega (arith, states .states .ensures), omega (arith, spans .spans .ensures));
+          ends = (omega (arith, ends .ends .ensures), omega (arith, ends2 .ends2 .ensures), omega (arith, ends3 .ends3 .ensures));
         },
         (
           record { memory = pre .1 .0; answers = (pre .1 .1 .1, pre .1 .1 .2, omega (arith, pre .1 .1 .0)) },

@@ -1,5 +1,4 @@
 -- `hours::line` meets its contract: a refused sheet is refused as the definition refuses it, and of any other the line is shown.
--- Assumes nothing.
 use mathlib.Core.Path.{sym, ap, _∙_}
 use native.Mathlib.Omega.{arith}
 use lib.ListN.{length}
@@ -13,24 +12,38 @@ use Rattle.hours.proofs.line.Tie as tie
 
 line-of-requires : tie.Need-line-of-requires
 line-of-requires c κs =
-    let sheet = c .before .before .before .before .before .before .before .before .before .args .sheet .now in
-    let bytes = known-bytes sheet (λ j. omega (arith, c .before .before .before .before .before .before .before .before .shared-slice-known .given j)) in
-    line-begins sheet _ (c .before .before .before .before .before .check .ensures .0) bytes _ _ (c .before .before .before .before .before .check .ensures .1) (omega arith) _ _ (c .before .before .before .checked .given .1)
+    let checked = c .before .before .before in
+    let check = checked .before .before in
+    let known = check .before .before .before in
+    let entry = known .before in
+    let sheet = entry .args .sheet .now in
+    let bytes = known-bytes sheet (λ j. omega (arith, known .shared-slice-known .given j)) in
+    line-begins sheet _ (check .check .ensures .0) bytes _ _ (check .check .ensures .1) (omega arith) _ _ (checked .checked .given .1)
 
 returns : tie.Need-returns
 returns c =
-    let args = c .before .before .before .before .before .before .before .before .before .before .before .before .args in
-    let bytes = known-bytes (args .sheet .now) (λ j. omega (arith, c .before .before .before .before .before .before .before .before .before .before .before .shared-slice-known .given j)) in
-    let same = line-read (args .sheet .now) _ (c .before .before .before .before .before .before .before .before .check .ensures .0) bytes _ _ (c .before .before .before .before .before .before .before .before .check .ensures .1) (omega arith) _ _ (c .before .before .before .before .before .before .checked .given .1) (length (args .out .now)) in
-    (c .before .before .line-of .ensures .0 ∙ ap writtenNumbers same, c .before .before .line-of .ensures .1 ∙ ap (λ w. buffer (w .result) (args .out .now)) same)
+    let line-of = c .before .before in
+    let checked = line-of .before .before .before .before in
+    let check = checked .before .before in
+    let known = check .before .before .before in
+    let entry = known .before in
+    let args = entry .args in
+    let bytes = known-bytes (args .sheet .now) (λ j. omega (arith, known .shared-slice-known .given j)) in
+    let same = line-read (args .sheet .now) _ (check .check .ensures .0) bytes _ _ (check .check .ensures .1) (omega arith) _ _
+    (checked .checked .given .1) (length (args .out .now)) in
+    (line-of .line-of .ensures .0 ∙ ap writtenNumbers same, line-of .line-of .ensures .1 ∙ ap (λ w. buffer (w .result) (args .out .now)) same)
 
 returns-2 : tie.Need-returns-2
 returns-2 c =
-    let args = c .before .before .before .before .before .before .before .args in
-    let same = line-refused (args .sheet .now) _ (c .before .before .before .check .ensures .0) (length (args .out .now)) _ _ (c .before .checked2 .given .1) in
+    let check = c .before .before .before in
+    let entry = check .before .before .before .before in
+    let args = entry .args in
+    let same = line-refused (args .sheet .now) _ (check .check .ensures .0) (length (args .out .now)) _ _ (c .before .checked2 .given .1) in
     (sym (ap writtenNumbers same), sym (ap (λ w. buffer (w .result) (args .out .now)) same))
 
 pub line-spec : {M : Type 1} → statement M
 line-spec =
     tie.close
-    (tie.spec (λ c κs. search needs) (λ c. search needs) (λ c. sym (ap length (c .before .before .before .before .check .ensures .1) ∙ begun-length _ _)) line-of-requires (λ c. search needs) (λ c. search needs) returns returns-2)
+    (tie.spec (λ c κs. search needs) (λ c. search needs)
+    (λ c. sym (ap length (c .before .before .before .before .check .ensures .1) ∙ begun-length _ _)) line-of-requires (λ c. search needs)
+    (λ c. search needs) returns returns-2)

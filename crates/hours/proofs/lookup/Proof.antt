@@ -1,5 +1,4 @@
 -- `hours::lookup` meets its contract: a refused sheet is refused as the definition refuses it, and else the date is looked up in its rules.
--- Assumes nothing.
 use mathlib.Core.Path.{sym, ap, _∙_}
 use native.Mathlib.Omega.{arith}
 use lib.ListN.{length}
@@ -21,11 +20,15 @@ look-rules-requires c κs =
 
 returns-2 : tie.Need-returns-2
 returns-2 c =
-    let args = c .before .before .before .before .before .before .before .args in
-    let refusal = sheet-refused (args .sheet .now) _ (c .before .before .before .before .check .ensures .0) _ _ (c .before .before .checked2 .given .1) in
-    c .refused .ensures ∙ sym (look-refused (args .sheet .now) (args .year) (args .month) (args .day) (args .minute) _ _ refusal)
+    let checked2 = c .before .before in
+    let check = checked2 .before .before in
+    let entry = check .before .before .before in
+    let args = entry .args in
+    let refusal = sheet-refused (args .sheet .now) _ (check .check .ensures .0) _ _ (checked2 .checked2 .given .1) in
+    c .lookup-refused .ensures ∙ sym (look-refused (args .sheet .now) (args .year) (args .month) (args .day) (args .minute) _ _ refusal)
 
 pub lookup-spec : {M : Type 1} → statement M
 lookup-spec =
     tie.close
-    (tie.spec (λ c κs. search needs) (λ c. search needs) slice-aggregate-look-rules look-rules-requires (λ c. search needs) (λ c. search needs) (λ c κs. search needs) (λ c. search needs) returns-2)
+    (tie.spec (λ c κs. search needs) (λ c. search needs) slice-aggregate-look-rules look-rules-requires (λ c. search needs) (λ c. search needs)
+    (λ c κs. search needs) (λ c. search needs) returns-2)

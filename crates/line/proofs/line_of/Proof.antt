@@ -13,25 +13,38 @@ use Rattle.line.proofs.line_of.Tie as tie
 
 returns : tie.Need-returns
 returns c =
-    let args = c .before .before .before .before .before .before .before .before .args in
-    let same = shown-long (rulesAt (sheetBits (args .sheet .now)) (args .begins .now) (args .count)) _ (c .before .before .before .before .measure .ensures) (length (args .out .now)) _ (c .before .before .measured2 .given .1) (omega arith) in
+    let measured2 = c .before .before in
+    let measure = measured2 .before .before in
+    let entry = measure .before .before .before .before in
+    let args = entry .args in
+    let same = shown-long (rulesAt (sheetBits (args .sheet .now)) (args .begins .now) (args .count)) _ (measure .measure .ensures)
+    (length (args .out .now)) _ (measured2 .measured2 .given .1) (omega arith) in
     (sym (ap writtenNumbers same), sym (ap (λ w. buffer (w .result) (args .out .now)) same))
 
 returns-2 : tie.Need-returns-2
 returns-2 c =
-    let args = c .before .before .before .before .before .before .before .args in
-    let same = shown-not (rulesAt (sheetBits (args .sheet .now)) (args .begins .now) (args .count)) _ (c .before .before .before .measure .ensures) (length (args .out .now)) _ (c .before .measured .given .1) in
+    let measure = c .before .before .before in
+    let entry = measure .before .before .before .before in
+    let args = entry .args in
+    let same = shown-not (rulesAt (sheetBits (args .sheet .now)) (args .begins .now) (args .count)) _ (measure .measure .ensures)
+    (length (args .out .now)) _ (c .before .measured .given .1) in
     (sym (ap writtenNumbers same), sym (ap (λ w. buffer (w .result) (args .out .now)) same))
 
 returns-3 : tie.Need-returns-3
 returns-3 c =
-    let args = c .before .before .before .before .before .before .before .before .before .before .before .before .args in
+    let show-rules = c .before .before in
+    let measured2 = show-rules .before .before .before .before in
+    let measure = measured2 .before .before in
+    let entry = measure .before .before .before .before in
+    let args = entry .args in
     let rs = rulesAt (sheetBits (args .sheet .now)) (args .begins .now) (args .count) in
-    let words = shown-to rs _ (c .before .before .before .before .before .before .before .before .measure .ensures) (length (args .out .now)) _ (c .before .before .before .before .before .before .measured2 .given .1) in
-    let same = shown-fine rs _ (c .before .before .before .before .before .before .before .before .measure .ensures) (length (args .out .now)) _ (c .before .before .before .before .before .before .measured2 .given .1) (omega arith) in (
+    let words = shown-to rs _ (measure .measure .ensures) (length (args .out .now)) _ (measured2 .measured2 .given .1) in
+    let same = shown-fine rs _ (measure .measure .ensures) (length (args .out .now)) _ (measured2 .measured2 .given .1) (omega arith) in (
       sym (ap writtenNumbers same),
-      lines-written _ _ _ _ _ (c .before .before .show-rules .result) (c .before .before .show-rules .ensures) (words .0) (omega (arith, words .1)) ∙ sym (ap (λ w. buffer (w .result) (args .out .now)) same),
+      lines-written _ _ _ _ _ (show-rules .show-rules .result) (show-rules .show-rules .ensures) (words .0) (omega (arith, words .1))
+          ∙ sym (ap (λ w. buffer (w .result) (args .out .now)) same),
     )
 
 pub line-of-spec : {M : Type 1} → statement M
-line-of-spec = tie.close (tie.spec (λ c κs. search needs) (λ c. search needs) (λ c. search needs) returns (λ c κs. search needs) returns-2 (λ c. search needs) returns-3)
+line-of-spec = tie.close
+    (tie.spec (λ c κs. search needs) (λ c. search needs) (λ c. search needs) returns (λ c κs. search needs) returns-2 (λ c. search needs) returns-3)

@@ -21,25 +21,44 @@ abbrev μ-loop : tie.MeasureT-loop
 
 show-rule-requires : tie.Need-show-rule-requires Inv-loop μ-loop
 show-rule-requires c κs =
-    let sheet = c .before .before .before .before .before .before .before .args .sheet .now in
-    let i = c .before .before .before .loop .i in
-    let begin = c .before .before .before .before .before .before .before .pre .0 i (omega arith) in
-    let short = next-short sheet (known-bytes sheet (λ j. omega (arith, c .before .before .before .before .before .before .shared-slice-known .given j))) (getD (c .before .before .before .before .before .before .before .args .begins .now) i 0) (begin .0) (eqb i 0) in
-    (begin .0, (begin .1, omega (arith, short, c .before .before .before .loop .inv .0, c .before .before .before .loop .inv .1 .short, c .before .before .before .before .before .before .before .pre .1)))
+    let loop = c .before .before .before in
+    let known = loop .before .before .before in
+    let entry = known .before in
+    let args = entry .args in
+    let pre = entry .pre in
+    let sheet = args .sheet .now in
+    let i = loop .loop .i in
+    let begin = pre .0 i (omega arith) in
+    let short = next-short sheet (known-bytes sheet (λ j. omega (arith, known .shared-slice-known .given j))) (getD (args .begins .now) i 0)
+    (begin .0) (eqb i 0) in
+    (begin .0, (begin .1, omega (arith, short, loop .loop .inv .0, loop .loop .inv .1 .short, pre .1)))
 
 loop-again : tie.Need-loop-again Inv-loop μ-loop
 loop-again c =
-    let sheet = c .before .before .before .before .before .before .before .before .before .before .before .args .sheet .now in
-    let i = c .before .before .before .before .before .before .before .loop .i in
-    let begin = c .before .before .before .before .before .before .before .before .before .before .before .pre .0 i (omega arith) in
-    let short = next-short sheet (known-bytes sheet (λ j. omega (arith, c .before .before .before .before .before .before .before .before .before .before .shared-slice-known .given j))) (getD (c .before .before .before .before .before .before .before .before .before .before .before .args .begins .now) i 0) (begin .0) (eqb i 0) in
-    (omega arith, walk-next (c .before .before .before .before .before .before .before .loop .inv .1) (c .before .before .before .show-rule .ensures) (c .if1 .left) short)
+    let show-rule = c .before .before .before in
+    let loop = show-rule .before .before .before .before in
+    let known = loop .before .before .before in
+    let entry = known .before in
+    let args = entry .args in
+    let sheet = args .sheet .now in
+    let i = loop .loop .i in
+    let begin = entry .pre .0 i (omega arith) in
+    let short = next-short sheet (known-bytes sheet (λ j. omega (arith, known .shared-slice-known .given j))) (getD (args .begins .now) i 0)
+    (begin .0) (eqb i 0) in
+    (omega arith, walk-next (loop .loop .inv .1) (show-rule .show-rule .ensures) (c .if1 .left) short)
 
 pub show-rules-spec : {M : Type 1} → statement M
 show-rules-spec =
     tie.close
     (tie.spec Inv-loop μ-loop
     (λ c. (omega arith, walk-start _ _ _)) (λ c. search needs) (λ c. omega (arith, c .before .before .before .before .before .before .pre)) show-rule-requires
-    (λ c. put-length (c .before .before .before .show-rule .ensures .put) ∙ put-length (c .before .before .before .before .before .before .before .loop .inv .1 .put)) (λ c. walk-wordless (c .before .before .before .before .before .before .before .loop .inv .1) (c .before .before .before .show-rule .ensures) (c .if1 .taken) _ (omega arith))
+    (λ c.
+    let show-rule = c .before .before .before in
+    let loop = show-rule .before .before .before .before in
+    put-length (show-rule .show-rule .ensures .put) ∙ put-length (loop .loop .inv .1 .put))
+    (λ c.
+    let show-rule = c .before .before .before in
+    let loop = show-rule .before .before .before .before in
+    walk-wordless (loop .loop .inv .1) (show-rule .show-rule .ensures) (c .if1 .taken) _ (omega arith))
     (λ c. omega arith) (λ c. omega arith) loop-again
     (λ c. put-length (c .before .loop .inv .1 .put)) (λ c. walk-end (c .before .loop .inv .1) _ (omega arith)))

@@ -1,5 +1,4 @@
 -- `lookup::look_rules` meets its contract: 8 where there is no such date or minute, else what is answered for the date's point.
--- Assumes nothing.
 use mathlib.Core.Path.{sym, ap, _∙_}
 use borrow.Author.Needs.{needs}
 use Rattle.calendar.specs.Dated.{pointIn}
@@ -14,10 +13,10 @@ returns c =
     let args = c .before .before .before .before .args in
     let rules = c .before .before .before .before .pre in
     let read = rules .1 .1 .0 .read in
-    c .refused .ensures ∙ sym (look-no-minute (args .sheet .now) (args .year) (args .month) (args .day) (args .minute) _ _ read (c .before .if1 .taken))
+    c .lookup-refused .ensures ∙ sym (look-no-minute (args .sheet .now) (args .year) (args .month) (args .day) (args .minute) _ _ read (c .before .if1 .taken))
 
-look-point-requires : tie.Need-look-point-requires
-look-point-requires c κs = (c .before .before .before .before .before .before .before .pre, point-dated _ _ _ _ (sym (ap pointIn (c .before .dated .given .1)) ∙ c .before .before .before .point-of .ensures) .2)
+look-moment-requires : tie.Need-look-moment-requires
+look-moment-requires c κs = (c .before .before .before .before .before .before .before .pre, point-dated _ _ _ _ (sym (ap pointIn (c .before .dated .given .1)) ∙ c .before .before .before .point-of .ensures) .2)
 
 returns-2 : tie.Need-returns-2
 returns-2 c =
@@ -25,7 +24,7 @@ returns-2 c =
     let rules = c .before .before .before .before .before .before .before .before .pre in
     let read = rules .1 .1 .0 .read in
     let point = point-dated _ _ _ _ (sym (ap pointIn (c .before .before .dated .given .1)) ∙ c .before .before .before .before .point-of .ensures) in
-    c .look-point .ensures _ _ read ∙ ap (λ p. lookAt (rules .0) p (args .minute)) (point .1)
+    c .look-moment .ensures _ _ (rules .1 .1 .0) (rules .1 .1 .1) ∙ ap (λ p. lookAt (rules .0) p (args .minute)) (point .1)
     ∙ sym (look-dated (args .sheet .now) (args .year) (args .month) (args .day) (args .minute) _ _ read (point .0) (c .before .before .before .before .before .if1 .left))
 
 returns-3 : tie.Need-returns-3
@@ -34,9 +33,9 @@ returns-3 c =
     let rules = c .before .before .before .before .before .before .before .pre in
     let read = rules .1 .1 .0 .read in
     let missing = point-missing _ _ _ (sym (ap pointIn (c .before .enum-told .given .1)) ∙ c .before .before .before .point-of .ensures) in
-    c .refused2 .ensures ∙ sym (look-no-date (args .sheet .now) (args .year) (args .month) (args .day) (args .minute) _ _ read missing)
+    c .lookup-refused2 .ensures ∙ sym (look-no-date (args .sheet .now) (args .year) (args .month) (args .day) (args .minute) _ _ read missing)
 
 pub look-rules-spec : {M : Type 1} → statement M
 look-rules-spec =
     tie.close
-    (tie.spec (λ c κs. search needs) returns (λ c κs. search needs) (λ c. search needs) (λ c. search needs) look-point-requires (λ c. search needs) (λ c κs. search needs) returns-2 returns-3)
+    (tie.spec (λ c κs. search needs) returns (λ c κs. search needs) (λ c. search needs) (λ c. search needs) look-moment-requires (λ c. search needs) (λ c κs. search needs) returns-2 returns-3)

@@ -1,5 +1,4 @@
 -- `normalize::fold_few_rules` meets its contract: the small tables are large enough for 4 rules.
--- Assumes nothing.
 use native.Mathlib.Omega.{arith}
 use borrow.Author.Needs.{needs}
 use Rattle.normalize.proofs.fold_few_rules.Statement.{statement}
@@ -7,15 +6,16 @@ use Rattle.normalize.proofs.fold_few_rules.Tie as tie
 
 fold-rules-in-requires : tie.Need-fold-rules-in-requires
 fold-rules-in-requires c κs =
-    let pre = c .before .before .before .before .before .before .before .before .before .pre in (
-      pre .0,
-      (omega (arith, pre .1), omega (arith, pre .1), omega (arith, pre .1), omega (arith, pre .1), omega (arith, pre .1)),
-    )
+    let pre = c .before .before .before .before .before .before .before .before .before .before .before .pre in
+    let few = pre .1 in
+    (pre .0, ((omega (arith, few), omega (arith, few), omega (arith, few), omega (arith, few)), (omega (arith, few), omega (arith, few), omega (arith, few))))
 
 pub fold-few-rules-spec : {M : Type 1} → statement M
 fold-few-rules-spec =
     tie.close
     (tie.spec
+    (λ c. search needs)
+    (λ c. search needs)
     (λ c. search needs)
     (λ c. search needs)
     (λ c. search needs)

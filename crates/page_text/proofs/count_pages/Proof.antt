@@ -2,7 +2,7 @@
 -- Assumes nothing.
 use Prim.Native.Nat.{_-_}
 use native.Mathlib.Omega.{arith}
-use Rattle.page_writer.proofs.Reading.{size-low}
+use Rattle.tables.proofs.Pages.{size-low}
 use Rattle.page_text.proofs.Counting.{Passing, pass-first, pass-inside, pass-next, pass-few, pass-last}
 use Rattle.page_text.proofs.count_pages.Statement.{statement}
 use Rattle.page_text.proofs.count_pages.Tie as tie

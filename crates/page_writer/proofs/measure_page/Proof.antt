@@ -6,8 +6,9 @@ use native.Mathlib.Omega.{arith}
 use borrow.Author.Needs.{needs}
 use lib.ListN.{length}
 use Rattle.day_writer.specs.Rules.{rulesBits}
-use Rattle.page_writer.specs.Pages.{pageEnds}
-use Rattle.page_writer.proofs.Reading.{size-low, counts-cut}
+use Rattle.tables.specs.Pages.{pageEnds}
+use Rattle.page_writer.proofs.Reading.{counts-cut}
+use Rattle.tables.proofs.Pages.{size-low}
 use Rattle.page_writer.proofs.Folding.{counts-few, ends-inside, box-ready, whole, short, page-rules}
 use Rattle.page_writer.proofs.measure_page.Statement.{statement}
 use Rattle.page_writer.proofs.measure_page.Tie as tie

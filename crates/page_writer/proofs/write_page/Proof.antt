@@ -6,7 +6,8 @@ use native.Mathlib.Omega.{arith}
 use borrow.Author.Needs.{needs}
 use Rattle.item_writer.proofs.Chain.{room-as, wrote-as}
 use Rattle.day_writer.specs.Rules.{rulesBits}
-use Rattle.page_writer.proofs.Reading.{size-low, counts-cut, ends-cut}
+use Rattle.page_writer.proofs.Reading.{counts-cut, ends-cut}
+use Rattle.tables.proofs.Pages.{size-low}
 use Rattle.page_writer.proofs.Folding.{rows-cut, box-ready, whole, page-rules}
 use Rattle.page_writer.proofs.write_page.Statement.{statement}
 use Rattle.page_writer.proofs.write_page.Tie as tie

@@ -4,10 +4,11 @@
 use mathlib.Core.Path.{_≡_, refl, sym, _∙_}
 use native.Mathlib.Omega.{arith}
 use lib.ListN.{length}
-use Rattle.box_day.specs.Boxes.{boxWords}
+use Rattle.tables.specs.Days.{boxWords}
 use Rattle.box_day.proofs.Kept.{scratch-kept}
-use Rattle.page_writer.specs.Pages.{Pages}
-use Rattle.page_writer.proofs.Reading.{size-low, pages-first, pages-later}
+use Rattle.tables.specs.Pages.{Pages}
+use Rattle.page_writer.proofs.Reading.{pages-first, pages-later}
+use Rattle.tables.proofs.Pages.{size-low}
 use Rattle.page_writer.proofs.Walking.{Writing, writing-none, page-room, writing-more, writing-all}
 use Rattle.page_writer.proofs.write_pages.Statement.{statement}
 use Rattle.page_writer.proofs.write_pages.Tie as tie

@@ -6,7 +6,8 @@ use native.Mathlib.Omega.{arith}
 use lib.ListN.{length}
 use denote.Ref.{now}
 use Rattle.box_day.proofs.Kept.{ready-kept, scratch-kept}
-use Rattle.paving_map.specs.Boxes.{boxWords, SoFar}
+use Rattle.paving_map.specs.Boxes.{SoFar}
+use Rattle.tables.specs.Days.{boxWords}
 use Rattle.paving_map.proofs.Mapping.{mapped-all}
 use Rattle.paving_map.proofs.Steps.{room-kept}
 use Rattle.paving_map.proofs.map.Statement.{statement}

@@ -3,7 +3,7 @@
 use native.Mathlib.Omega.{arith}
 use denote.Ref.{now}
 use borrow.Author.Needs.{needs}
-use Rattle.paving_map.specs.Boxes.{boxWords}
+use Rattle.tables.specs.Days.{boxWords}
 use Rattle.paving_map.proofs.Mapping.{same-mapped, same-known}
 use Rattle.paving_map.proofs.Steps.{roomy, list-at, listed}
 use Rattle.paving_map.proofs.number_box.Statement.{statement}

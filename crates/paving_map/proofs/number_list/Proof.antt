@@ -5,7 +5,7 @@ use native.Mathlib.Omega.{arith}
 use lib.ListN.{length}
 use denote.Ref.{now}
 use Rattle.words.specs.Words.{part}
-use Rattle.paving_map.specs.Boxes.{boxWords}
+use Rattle.tables.specs.Days.{boxWords}
 use Rattle.box_day.proofs.Kept.{scratch-kept}
 use Rattle.paving_map.proofs.Steps.{found-among, settled, roomy, words-fit, known-ready}
 use Rattle.paving_map.proofs.number_list.Statement.{statement}

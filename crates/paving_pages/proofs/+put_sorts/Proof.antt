@@ -8,7 +8,7 @@ use borrow.Author.Needs.{needs}
 use borrow.Fn.Kinds.{In}
 use borrow.Fn.PlainCycle.{Measures, is, falls, and}
 use Rattle.paving.proofs.wide.Reads as wide-reads
-use Rattle.runs.proofs.Ways.{items-half}
+use Rattle.runs.proofs.Returns.{items-half}
 use Rattle.runs.proofs.put_items.Reads as put-items-reads
 use Rattle.paving_pages.proofs.Writing.{width-step, rows-fewer, row-cuts, numbers-step, sorts-none, sorts-more}
 use Rattle.paving_pages.proofs.put_sorts.Reads as put-sorts

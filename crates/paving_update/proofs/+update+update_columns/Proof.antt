@@ -15,7 +15,6 @@ use Rattle.paving_update.proofs.+update+update_columns.Lts-update_colum
 use Rattle.paving.proofs.wide.Reads as wide-reads
 use Rattle.paving_update.proofs.count_of.Reads as count-of-reads
 use Rattle.paving_update.proofs.next_covered.Reads as next-covered-reads
-use Rattle.paving_update.proofs.last.last_rises.Reads as last-rises-reads
 use Rattle.paving_update.proofs.last.draw_ranges.Reads as draw-ranges-reads
 use Rattle.paving_update.proofs.last.draw.Reads as draw-reads
 use Rattle.paving_update.proofs.+update+update_columns.{statement}
@@ -52,40 +51,129 @@ update-columns-below t =
     update-columns.Pre
 
 pub +update+update-columns-spec : {M : Type 1} → statement M
-+update+update-columns-spec = close μ-update μ-update-columns (λ t. update-lts.spec (draw-reads.Asked, draw-reads.Learnt, last-rises-reads.Asked, last-rises-reads.Learnt, draw-ranges-reads.Asked, draw-ranges-reads.Learnt, wide-reads.Asked, wide-reads.Learnt, update-columns-below t, update-columns.Post, update-below t, update.Post)
++update+update-columns-spec = close μ-update μ-update-columns (λ t. update-lts.spec (draw-reads.Asked, draw-reads.Learnt, draw-ranges-reads.Asked, draw-ranges-reads.Learnt, wide-reads.Asked, wide-reads.Learnt, update-columns-below t, update-columns.Post, update-below t, update.Post)
     (update-at t)
     update.Post
-    (λ c κs. list-in _ _ _ _ (c .before .before .before .before .before .before .before .before .pre .1 .1 .0))
+    (λ c κs.
+    let entry = c .before .before .before .before .before .before .before .before in
+    list-in _ _ _ _ (entry .pre .1 .1 .0))
     (λ c. search needs)
     (λ c. out-leaf _ _ _ _ _ _ _ _ _ _ _ _ (c .before .before .before .before .if1 .taken) (c .before .before .draw .ensures))
-    (λ c. let a = c .before .before .before .before .before .before .before .before .args in let e : a .left ≡ suc (a .left - 1) = omega (arith, c .before .if1 .left) in out-none _ _ _ _ _ _ _ _ _ _ _ _ e (c .if2 .taken))
-    (λ c κs. let p = c .before .before .before .before .before .before .before .before .pre .1 in (p .1 .0 .dims, p .0 .all-rows, λ e. p .0 .row 0 (omega (arith, e, p .1 .0 .dims))))
-    (λ c κs. let a = c .before .before .before .before .before .before .before .before .before .before .before .args in let p = c .before .before .before .before .before .before .before .before .before .before .before .pre .1 in let last = c .before .before .last-rises .ensures (c .before .if3 .taken) in (p .0, (node-at _ _ _ _ _ (last .0) (p .1 .0), (last .1, omega (arith, count-some (a .counts .now) (a .left) 0 (last .0), p .1 .1)))))
+    (λ c.
+    let entry = c .before .before .before .before .before .before .before .before in
+    let a = entry .args in
+    let e : a .left ≡ suc (a .left - 1) = omega (arith, c .before .if1 .left) in
+    out-none _ _ _ _ _ _ _ _ _ _ _ _ e (c .if2 .taken))
+    (λ c κs.
+    let entry = c .before .before .before .before .before .before .before .before .before .before in
+    let a = entry .args in
+    let p = entry .pre .1 in
+    (p .0, (node-at _ _ _ _ _ (c .before .if3 .taken) (p .1 .0), omega (arith, count-some (a .counts .now) (a .left) 0 (c .before .if3 .taken), p .1 .1))))
     (λ c. search needs)
-    (λ c. out-last _ _ _ _ _ _ _ _ _ _ _ _ (c .before .before .before .before .before .last-rises .ensures (c .before .before .before .before .if3 .taken) .0) (c .before .before .draw-ranges .ensures))
+    (λ c. out-last _ _ _ _ _ _ _ _ _ _ _ _ (c .before .before .before .before .if3 .taken) (c .before .before .draw-ranges .ensures))
     (λ c. search needs)
     (λ c. search needs)
-    (λ c. omega (arith, c .before .before .before .before .before .before .before .before .before .before .before .pre .1 .0 .all-counts, c .before .before .before .before .before .before .before .before .before .before .before .pre .1 .1 .0 .dims, c .before .before .before .before .if1 .left))
+    (λ c.
+    let entry = c .before .before .before .before .before .before .before .before .before .before in
+    omega (arith, entry .pre .1 .0 .all-counts, entry .pre .1 .1 .0 .dims, c .before .before .before .if1 .left))
     (λ c κs. search needs)
     (λ c. search needs)
-    (λ c. omega (arith, c .before .before .before .before .before .before .before .before .before .before .before .before .before .pre .1 .1 .0 .dims, c .before .before .before .before .before .before .if1 .left))
+    (λ c.
+    let if1 = c .before .before .before .before .before in
+    let entry = if1 .before .before .before .before .before .before .before in
+    omega (arith, entry .pre .1 .1 .0 .dims, if1 .if1 .left))
     (λ c κs. search needs)
-    (λ c. let a = c .before .before .before .before .before .before .before .before .before .before .before .before .before .before .before .args in let e : a .left ≡ suc (a .left - 1) = omega (arith, c .before .before .before .before .before .before .before .before .if1 .left) in omega (arith, count-some (a .counts .now) (a .left) (a .left - 1) e, c .before .before .before .wide .ensures .0, c .before .before .before .before .before .before .before .before .before .before .before .before .before .before .before .pre .1 .1 .1))
-    (λ c κs. let a = c .before .before .before .before .before .before .before .before .before .before .before .before .before .before .before .args in let p = c .before .before .before .before .before .before .before .before .before .before .before .before .before .before .before .pre .1 in let e : a .left ≡ suc (a .left - 1) = omega (arith, c .before .before .before .before .before .before .before .before .if1 .left) in (omega (arith, c .before .before .before .before .before .before .before .before .before .before .before .before .before .before .before .pre .0, c .before .wide2 .ensures .1, c .before .before .before .before .before .before .before .before .if1 .left), (p .0, (node-at _ _ _ _ _ e (p .1 .0), (c .before .wide2 .ensures .0, c .before .wide2 .ensures .1, omega (arith, c .before .before .before .wide .ensures .0, c .before .before .before .before .before .before .before .if2 .left, count-some (a .counts .now) (a .left) (a .left - 1) e, p .1 .1), omega arith)))))
+    (λ c.
+    let if1 = c .before .before .before .before .before .before .before in
+    let entry = if1 .before .before .before .before .before .before .before in
+    let a = entry .args in
+    let e : a .left ≡ suc (a .left - 1) = omega (arith, if1 .if1 .left) in
+    omega (arith, count-some (a .counts .now) (a .left) (a .left - 1) e, c .before .before .before .wide .ensures .0, entry .pre .1 .1 .1))
+    (λ c κs.
+    let if2 = c .before .before .before .before .before .before in
+    let if1 = if2 .before in
+    let entry = if1 .before .before .before .before .before .before .before in
+    let a = entry .args in
+    let p = entry .pre .1 in
+    let e : a .left ≡ suc (a .left - 1) = omega (arith, if1 .if1 .left) in (
+      omega (arith, entry .pre .0, c .before .wide2 .ensures .1, if1 .if1 .left),
+      (
+        p .0,
+        (
+          node-at _ _ _ _ _ e (p .1 .0),
+          (
+            c .before .wide2 .ensures .0,
+            c .before .wide2 .ensures .1,
+            omega (arith, c .before .before .before .wide .ensures .0, if2 .if2 .left, count-some (a .counts .now) (a .left) (a .left - 1) e, p .1 .1),
+            omega arith,
+          ),
+        ),
+      ),
+    ))
     (λ c. search needs)
-    (λ c κs. let p = c .before .before .before .before .before .before .before .before .before .before .before .before .before .before .before .before .before .before .before .pre .1 in (omega (arith, c .before .before .before .before .before .before .before .before .before .before .before .before .before .before .before .before .before .before .before .pre .0, c .before .before .before .before .before .before .before .before .before .before .before .if2 .left), (p .0, (node-len _ _ _ _ _ (c .before .before .before .update-columns .kept .0) (p .1 .0), omega (arith, p .1 .1)))))
+    (λ c κs.
+    let if2 = c .before .before .before .before .before .before .before .before .before .before in
+    let entry = if2 .before .before .before .before .before .before .before .before in
+    let p = entry .pre .1 in (
+      omega (arith, entry .pre .0, if2 .if2 .left),
+      (p .0, (node-len _ _ _ _ _ (c .before .before .before .update-columns .kept .0) (p .1 .0), omega (arith, p .1 .1))),
+    ))
     (λ c. search needs)
-    (λ c. let a = c .before .before .before .before .before .before .before .before .before .before .before .before .before .before .before .before .before .before .before .before .before .before .args in let e : a .left ≡ suc (a .left - 1) = omega (arith, c .before .before .before .before .before .before .before .before .before .before .before .before .before .before .before .if1 .left) in out-ranges _ _ _ _ _ _ _ _ _ _ _ _ _ _ _ e (c .before .before .before .before .before .before .before .before .before .before .before .before .before .before .if2 .left) (omega (arith, count-some (a .counts .now) (a .left) (a .left - 1) e, c .before .before .before .before .before .before .before .before .before .before .wide .ensures .0, c .before .before .before .before .before .before .before .before .before .before .before .before .before .before .before .before .before .before .before .before .before .before .pre .1 .1 .1)) (c .before .before .before .before .before .before .before .before .before .before .wide .ensures .0) (c .before .before .before .before .before .before .update-columns .ensures) (c .before .before .update .ensures)))
+    (λ c.
+    let update-columns = c .before .before .before .before .before .before in
+    let wide = update-columns .before .before .before .before in
+    let if2 = wide .before .before .before in
+    let if1 = if2 .before in
+    let entry = if1 .before .before .before .before .before .before .before in
+    let a = entry .args in
+    let e : a .left ≡ suc (a .left - 1) = omega (arith, if1 .if1 .left) in
+    out-ranges _ _ _ _ _ _ _ _ _ _ _ _ _ _ _ e (if2 .if2 .left)
+    (omega (arith, count-some (a .counts .now) (a .left) (a .left - 1) e, wide .wide .ensures .0, entry .pre .1 .1 .1)) (wide .wide .ensures .0)
+    (update-columns .update-columns .ensures) (c .before .before .update .ensures)))
     λ t. update-columns-lts.spec (next-covered-reads.Asked, next-covered-reads.Learnt, count-of-reads.Asked, count-of-reads.Learnt, update-below t, update.Post, update-columns-below t, update-columns.Post)
     (update-columns-at t)
     update-columns.Post
-    (λ c κs. let p = c .before .before .before .before .before .before .pre .1 in columns-in _ _ _ _ _ (p .0) _ _ _ _ (omega (arith, p .1 .0 .dims)) (p .1 .1 .0) (p .1 .1 .2) (p .1 .1 .3))
-    (λ c κs. omega (arith, c .before .before .before .before .before .before .before .before .pre .1 .0 .all-counts, c .before .before .before .before .before .before .before .before .pre .1 .1 .0 .dims))
-    (λ c. let p = c .before .before .before .before .before .before .before .before .before .before .pre .1 in omega (arith, node-in _ _ _ _ (node-child _ _ _ _ _ _ (p .1 .1 .0) (c .before .before .if1 .taken) (p .1 .0)), c .before .before .before .before .before .before .before .before .before .before .good))
-    (λ c. let p = c .before .before .before .before .before .before .before .before .before .before .pre .1 in omega (arith, node-in _ _ _ _ (node-child _ _ _ _ _ _ (p .1 .1 .0) (c .before .before .if1 .taken) (p .1 .0)), c .before .before .before .before .before .before .before .before .before .before .good))
-    (λ c κs. let a = c .before .before .before .before .before .before .before .before .before .before .args in let p = c .before .before .before .before .before .before .before .before .before .before .pre .1 in let few = count-few _ _ _ _ _ (p .0) (a .dimension) (omega (arith, p .1 .0 .dims)) in (omega (arith, c .before .before .before .before .before .before .before .before .before .before .pre .0, few, c .before .count-of .ensures), (p .0, (node-child _ _ _ _ _ _ (p .1 .1 .0) (c .before .before .if1 .taken) (p .1 .0), omega (arith, c .before .count-of .ensures)))))
+    (λ c κs.
+    let entry = c .before .before .before .before .before .before in
+    let p = entry .pre .1 in columns-in _ _ _ _ _ (p .0) _ _ _ _ (omega (arith, p .1 .0 .dims)) (p .1 .1 .0) (p .1 .1 .2) (p .1 .1 .3))
+    (λ c κs.
+    let entry = c .before .before .before .before .before .before .before .before in
+    omega (arith, entry .pre .1 .0 .all-counts, entry .pre .1 .1 .0 .dims))
+    (λ c.
+    let entry = c .before .before .before .before .before .before .before .before .before .before in
+    let p = entry .pre .1 in omega (arith, node-in _ _ _ _ (node-child _ _ _ _ _ _ (p .1 .1 .0) (c .before .before .if1 .taken) (p .1 .0)), entry .good))
+    (λ c.
+    let entry = c .before .before .before .before .before .before .before .before .before .before in
+    let p = entry .pre .1 in omega (arith, node-in _ _ _ _ (node-child _ _ _ _ _ _ (p .1 .1 .0) (c .before .before .if1 .taken) (p .1 .0)), entry .good))
+    (λ c κs.
+    let entry = c .before .before .before .before .before .before .before .before .before .before in
+    let a = entry .args in
+    let p = entry .pre .1 in
+    let few = count-few _ _ _ _ _ (p .0) (a .dimension) (omega (arith, p .1 .0 .dims)) in (
+      omega (arith, entry .pre .0, few, c .before .count-of .ensures),
+      (p .0, (node-child _ _ _ _ _ _ (p .1 .1 .0) (c .before .before .if1 .taken) (p .1 .0), omega (arith, c .before .count-of .ensures))),
+    ))
     (λ c. search needs)
-    (λ c κs. let p = c .before .before .before .before .before .before .before .before .before .before .before .before .before .before .pre .1 in (omega (arith, c .before .before .before .before .before .before .before .before .before .before .before .before .before .before .pre .0, c .before .before .before .before .before .before .if1 .taken, c .before .before .before .before .before .before .before .next-covered .ensures .from-first), (p .0, (node-len _ _ _ _ _ (c .before .before .before .update .kept .0) (p .1 .0), (p .1 .1 .0, p .1 .1 .1, p .1 .1 .2, omega (arith, c .before .before .before .before .before .before .if1 .taken))))))
+    (λ c κs.
+    let if1 = c .before .before .before .before .before .before in
+    let next-covered = if1 .before in
+    let entry = next-covered .before .before .before .before .before .before .before in
+    let p = entry .pre .1 in (
+      omega (arith, entry .pre .0, if1 .if1 .taken, next-covered .next-covered .ensures .from-first),
+      (
+        p .0,
+        (node-len _ _ _ _ _ (c .before .before .before .update .kept .0) (p .1 .0), (p .1 .1 .0, p .1 .1 .1, p .1 .1 .2, omega (arith, if1 .if1 .taken))),
+      ),
+    ))
     (λ c. search needs)
-    (λ c. out-in _ _ _ _ _ _ _ _ _ _ _ _ _ (c .before .before .before .before .before .before .before .before .before .before .before .before .before .before .before .before .before .pre .1 .1 .1 .0) (c .before .before .before .before .before .before .before .before .before .before .next-covered .ensures) _ _ _ _ (c .before .before .before .before .before .before .before .before .before .if1 .taken) (c .before .before .before .before .before .before .before .before .count-of .ensures) (c .before .before .before .before .before .before .update .ensures) (c .before .before .update-columns .ensures))
-    (λ c. out-end _ _ _ _ _ _ _ _ _ _ _ _ _ (c .before .before .before .before .before .before .before .before .pre .1 .1 .1 .0) (c .before .next-covered .ensures) _ (c .if1 .left))
+    (λ c.
+    let update = c .before .before .before .before .before .before in
+    let count-of = update .before .before in
+    let if1 = count-of .before in
+    let next-covered = if1 .before in
+    let entry = next-covered .before .before .before .before .before .before .before in
+    out-in _ _ _ _ _ _ _ _ _ _ _ _ _ (entry .pre .1 .1 .1 .0) (next-covered .next-covered .ensures) _ _ _ _ (if1 .if1 .taken)
+    (count-of .count-of .ensures) (update .update .ensures) (c .before .before .update-columns .ensures))
+    (λ c.
+    let entry = c .before .before .before .before .before .before .before .before in
+    out-end _ _ _ _ _ _ _ _ _ _ _ _ _ (entry .pre .1 .1 .1 .0) (c .before .next-covered .ensures) _ (c .if1 .left))

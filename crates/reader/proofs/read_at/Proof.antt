@@ -16,24 +16,29 @@ past-end c = take-short _ _ _ (omega arith)
 
 short : tie.Need-returns-3
 short c =
-    let start = c .before .before .before .before .before .before .before .before .args in
-    part-short (start .sheet .now) (start .at) (start .width) (omega arith) _ _
-    (stopped _ _ _ (c .before .before .before .take-at .ensures) (c .before .taken .given .1))
+    let take = c .before .before .before in
+    let entry = take .before .before .before .before .before in
+    let start = entry .args in
+    part-short (start .sheet .now) (start .at) (start .width) (omega arith) _ _ (stopped _ _ _ (take .take-at .ensures) (c .before .taken .given .1))
 
 too-far : tie.Need-returns-4
 too-far c =
-    let start = c .before .before .before .before .before .before .before .before .before .args in
+    let taken2 = c .before .before in
+    let take = taken2 .before .before in
+    let entry = take .before .before .before .before .before in
+    let start = entry .args in
     inr (
       omega arith,
-      part-within (start .sheet .now) (start .at) (start .width) (omega arith) _ _
-          (took _ _ _ (c .before .before .before .before .take-at .ensures) (c .before .before .taken2 .given .1)),
+      part-within (start .sheet .now) (start .at) (start .width) (omega arith) _ _ (took _ _ _ (take .take-at .ensures) (taken2 .taken2 .given .1)),
     )
 
 value : tie.Need-returns-5
 value c =
-    let start = c .before .before .before .before .before .before .before .before .before .args in
-    part-value (start .sheet .now) (start .at) (start .width) (omega arith) _ _
-    (took _ _ _ (c .before .before .before .before .take-at .ensures) (c .before .before .taken2 .given .1))
+    let taken2 = c .before .before in
+    let take = taken2 .before .before in
+    let entry = take .before .before .before .before .before in
+    let start = entry .args in
+    part-value (start .sheet .now) (start .at) (start .width) (omega arith) _ _ (took _ _ _ (take .take-at .ensures) (taken2 .taken2 .given .1))
 
 pub read-at-spec : {M : Type 1} → statement M
 read-at-spec =

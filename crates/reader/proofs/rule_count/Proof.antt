@@ -51,4 +51,5 @@ many c =
     (lt-leb (c .before .before .taken .given .0 .0) 64 (omega arith))
 
 pub rule-count-spec : {M : Type 1} → statement M
-rule-count-spec = tie.close (tie.spec (λ c κs. search needs) (λ c. search needs) (λ c. search needs) too-large (λ c. search needs) (λ c. search needs) refused few many)
+rule-count-spec = tie.close
+    (tie.spec (λ c κs. search needs) (λ c. search needs) (λ c. search needs) too-large (λ c. search needs) (λ c. search needs) refused few many)

@@ -24,16 +24,49 @@ abbrev rows-bits-below : ℕ → In 1 rows-bits-kinds.ps
 rows-bits-below t = and 1 rows-bits-kinds.ps (falls 1 rows-bits-kinds.ps _<_ μ-rows-bits t) rows-bits.Pre
 
 pub +rows-bits-spec : {M : Type 1} → statement M
-+rows-bits-spec = close μ-rows-bits λ t. rows-bits-lts.spec (rows-bits-below t, rows-bits.Post, size-reads.Asked, size-reads.Learnt, item-bits-reads.Asked, item-bits-reads.Learnt)
++rows-bits-spec = close μ-rows-bits λ t. rows-bits-lts.spec
+    (rows-bits-below t, rows-bits.Post, size-reads.Asked, size-reads.Learnt, item-bits-reads.Asked, item-bits-reads.Learnt)
     (rows-bits-at t)
     rows-bits.Post
     (λ c. (λ ends h. no-rows ends (c .before .before .args .counts .now) (c .before .before .args .sort) (c .if1 .taken), omega (arith, c .if1 .taken)))
     (λ c. omega (arith, c .before .before .pre .1 .2, c .if1 .left))
-    (λ c κs. let pre = c .before .before .pre .1 in (omega (arith, c .before .before .pre .0, pre .2, c .if1 .left), (pre .0, pre .1, omega (arith, pre .2, c .if1 .left))))
+    (λ c κs.
+    let entry = c .before .before in
+    let pre = entry .pre .1 in
+    (omega (arith, entry .pre .0, pre .2, c .if1 .left), (pre .0, pre .1, omega (arith, pre .2, c .if1 .left))))
     (λ c. search needs)
     (λ c. omega (arith, c .before .before .before .before .pre .1 .0, c .before .before .before .before .pre .1 .2, c .before .before .if1 .left))
     (λ c κs. search needs)
     (λ c κs. search needs)
-    (λ c. omega (arith, row-low (c .before .size .result) (c .item-bits .result) (omega (arith, c .before .size .ensures, c .before .before .before .before .before .before .pre .1 .1 (c .before .before .before .before .before .before .args .sort))) (c .item-bits .ensures .1)))
-    (λ c. omega (arith, row-low (c .before .size .result) (c .item-bits .result) (omega (arith, c .before .size .ensures, c .before .before .before .before .before .before .pre .1 .1 (c .before .before .before .before .before .before .args .sort))) (c .item-bits .ensures .1), c .before .before .before .rows-bits .ensures .1))
-    (λ c. let a = c .before .before .before .before .before .before .args in let pre = c .before .before .before .before .before .before .pre .1 in (λ ends h. rows-size ends (a .counts .now) (a .sort) (c .before .size .result) (c .item-bits .result) (c .before .before .before .rows-bits .result) (omega (arith, pre .2, c .before .before .before .before .if1 .left)) h (c .before .size .ensures) (c .item-bits .ensures .0) (c .before .before .before .rows-bits .ensures .0 ends h), omega (arith, row-low (c .before .size .result) (c .item-bits .result) (omega (arith, c .before .size .ensures, pre .1 (a .sort))) (c .item-bits .ensures .1), c .before .before .before .rows-bits .ensures .1)))
+    (λ c.
+    let entry = c .before .before .before .before .before .before in
+    omega (
+      arith,
+      row-low (c .before .size .result) (c .item-bits .result) (omega (arith, c .before .size .ensures, entry .pre .1 .1 (entry .args .sort)))
+          (c .item-bits .ensures .1),
+    ))
+    (λ c.
+    let at-rows-bits = c .before .before .before in
+    let entry = at-rows-bits .before .before .before in
+    omega (
+      arith,
+      row-low (c .before .size .result) (c .item-bits .result) (omega (arith, c .before .size .ensures, entry .pre .1 .1 (entry .args .sort)))
+          (c .item-bits .ensures .1),
+      at-rows-bits .rows-bits .ensures .1,
+    ))
+    (λ c.
+    let size = c .before in
+    let at-rows-bits = size .before .before in
+    let if1 = at-rows-bits .before in
+    let entry = if1 .before .before in
+    let a = entry .args in
+    let pre = entry .pre .1 in (
+      λ ends h.
+          rows-size ends (a .counts .now) (a .sort) (size .size .result) (c .item-bits .result) (at-rows-bits .rows-bits .result)
+          (omega (arith, pre .2, if1 .if1 .left)) h (size .size .ensures) (c .item-bits .ensures .0) (at-rows-bits .rows-bits .ensures .0 ends h),
+      omega (
+        arith,
+        row-low (size .size .result) (c .item-bits .result) (omega (arith, size .size .ensures, pre .1 (a .sort))) (c .item-bits .ensures .1),
+        at-rows-bits .rows-bits .ensures .1,
+      ),
+    ))

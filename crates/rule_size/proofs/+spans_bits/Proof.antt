@@ -29,9 +29,20 @@ pub +spans-bits-spec : {M : Type 1} → statement M
     (λ c. (no-spans (c .before .before .args .spans .now) (c .before .before .args .first) (c .before .before .args .many) (c .if1 .taken), omega arith))
     (λ c. omega (arith, c .before .before .pre .1 .0, c .if1 .left))
     (λ c. omega (arith, c .if1 .left))
-    (λ c κs. let pre = c .before .before .pre .1 in (omega (arith, c .before .before .pre .0, c .if1 .left), (omega (arith, pre .0, c .if1 .left), omega (arith, pre .1, c .if1 .left))))
+    (λ c κs.
+    let entry = c .before .before in
+    let pre = entry .pre .1 in
+    (omega (arith, entry .pre .0, c .if1 .left), (omega (arith, pre .0, c .if1 .left), omega (arith, pre .1, c .if1 .left))))
     (λ c. search needs)
     (λ c. omega (arith, c .before .before .before .before .pre .1 .0, c .before .before .if1 .left))
     (λ c κs. search needs)
     (λ c. omega (arith, c .span-bits .ensures .1, c .before .before .spans-bits .ensures .1, c .before .before .before .before .before .pre .1 .1))
-    (λ c. let a = c .before .before .before .before .before .args in (spans-size (a .spans .now) (a .first) (a .many) (c .before .before .before .if1 .left) (c .before .before .before .before .before .pre .1 .0) _ _ (c .span-bits .ensures .0) (c .before .before .spans-bits .ensures .0), omega (arith, c .span-bits .ensures .1, c .before .before .spans-bits .ensures .1, c .before .before .before .if1 .left)))
+    (λ c.
+    let at-spans-bits = c .before .before in
+    let if1 = at-spans-bits .before in
+    let entry = if1 .before .before in
+    let a = entry .args in (
+      spans-size (a .spans .now) (a .first) (a .many) (if1 .if1 .left) (entry .pre .1 .0) _ _ (c .span-bits .ensures .0)
+          (at-spans-bits .spans-bits .ensures .0),
+      omega (arith, c .span-bits .ensures .1, at-spans-bits .spans-bits .ensures .1, if1 .if1 .left),
+    ))

@@ -21,5 +21,6 @@ returns-4 c = (λ e. weekdays-size (c .before .args .sort) e (omega arith), omeg
 pub item-bits-spec : {M : Type 1} → statement M
 item-bits-spec =
     tie.close
-    (tie.spec (λ c. search needs) (λ c. search needs) (λ c. search needs) (λ c. search needs) (λ c. search needs) (λ c. search needs) (λ c. search needs) (λ c. search needs) (λ c. search needs) (λ c. search needs) (λ c. search needs)
+    (tie.spec (λ c. search needs) (λ c. search needs) (λ c. search needs) (λ c. search needs) (λ c. search needs) (λ c. search needs) (λ c. search needs)
+    (λ c. search needs) (λ c. search needs) (λ c. search needs) (λ c. search needs)
     returns returns-2 returns-3 returns-4)

@@ -7,15 +7,19 @@ use Rattle.rule_size.proofs.rule_bits.Tie as tie
 
 returns : tie.Need-returns
 returns c =
-    let a = c .before .before .before .before .args in
+    let entry = c .before .before .before .before in
+    let a = entry .args in
+    let pre = entry .pre in
     let rows = c .before .rows-bits .ensures in
     let times = c .spans-bits .ensures in (
-      λ operator state ends h. rule-size operator state ends (a .counts .now) (a .spans .now) (a .first) (a .many) _ _ h (c .before .before .before .before .pre .1 .0) (rows .0 ends h) (times .0),
-      omega (arith, rows .1, times .1, c .before .before .before .before .pre .1 .1),
+      λ operator state ends h.
+          rule-size operator state ends (a .counts .now) (a .spans .now) (a .first) (a .many) _ _ h (pre .1 .0) (rows .0 ends h) (times .0),
+      omega (arith, rows .1, times .1, pre .1 .1),
     )
 
 pub rule-bits-spec : {M : Type 1} → statement M
 rule-bits-spec =
     tie.close
     (tie.spec (λ c κs. let pre = c .before .before .pre .0 in (pre .0, pre .1, omega arith)) (λ c κs. c .before .before .before .pre .1)
-    (λ c. omega (arith, c .before .rows-bits .ensures .1)) (λ c. omega (arith, c .before .rows-bits .ensures .1, c .spans-bits .ensures .1, c .before .before .before .before .pre .1 .1)) returns)
+    (λ c. omega (arith, c .before .rows-bits .ensures .1))
+    (λ c. omega (arith, c .before .rows-bits .ensures .1, c .spans-bits .ensures .1, c .before .before .before .before .pre .1 .1)) returns)

@@ -8,20 +8,36 @@ use Rattle.rule_size.proofs.span_bits.Tie as tie
 
 returns : tie.Need-returns
 returns c =
-    let first = c .before .before .before .time-bits .ensures in
-    let second = c .before .time-bits2 .ensures in
-    (once-size (c .before .before .before .before .before .args .number) _ _ (c .before .before .before .before .start-of .ensures) (c .before .before .end-of .ensures) _ _ (first .0) (second .0) (c .if1 .taken), omega (arith, first .1, second .1))
+    let end-of = c .before .before in
+    let time-bits = end-of .before in
+    let start-of = time-bits .before in
+    let entry = start-of .before in
+    let first = time-bits .time-bits .ensures in
+    let second = c .before .time-bits2 .ensures in (
+      once-size (entry .args .number) _ _ (start-of .start-of .ensures) (end-of .end-of .ensures) _ _ (first .0) (second .0) (c .if1 .taken),
+      omega (arith, first .1, second .1),
+    )
 
 returns-2 : tie.Need-returns-2
 returns-2 c =
-    let first = c .before .before .before .time-bits .ensures in
-    let second = c .before .time-bits2 .ensures in
-    (repeated-size (c .before .before .before .before .before .args .number) _ _ (c .before .before .before .before .start-of .ensures) (c .before .before .end-of .ensures) _ _ (first .0) (second .0) (c .if1 .left), omega (arith, first .1, second .1))
+    let end-of = c .before .before in
+    let time-bits = end-of .before in
+    let start-of = time-bits .before in
+    let entry = start-of .before in
+    let first = time-bits .time-bits .ensures in
+    let second = c .before .time-bits2 .ensures in (
+      repeated-size (entry .args .number) _ _ (start-of .start-of .ensures) (end-of .end-of .ensures) _ _ (first .0) (second .0) (c .if1 .left),
+      omega (arith, first .1, second .1),
+    )
 
 pub span-bits-spec : {M : Type 1} → statement M
 span-bits-spec =
     tie.close
     (tie.spec (λ c κs. search needs) (λ c κs. search needs) (λ c κs. search needs) (λ c κs. search needs)
-    (λ c. omega (arith, c .before .before .before .time-bits .ensures .1, c .before .time-bits2 .ensures .1)) (λ c. omega (arith, c .before .before .before .time-bits .ensures .1, c .before .time-bits2 .ensures .1)) (λ c. omega (arith, c .before .before .before .time-bits .ensures .1, c .before .time-bits2 .ensures .1))
-    (λ c. omega (arith, c .before .before .before .time-bits .ensures .1, c .before .time-bits2 .ensures .1)) (λ c. omega (arith, c .before .before .before .time-bits .ensures .1, c .before .time-bits2 .ensures .1)) (λ c. omega (arith, c .before .before .before .time-bits .ensures .1, c .before .time-bits2 .ensures .1))
+    (λ c. omega (arith, c .before .before .before .time-bits .ensures .1, c .before .time-bits2 .ensures .1))
+    (λ c. omega (arith, c .before .before .before .time-bits .ensures .1, c .before .time-bits2 .ensures .1))
+    (λ c. omega (arith, c .before .before .before .time-bits .ensures .1, c .before .time-bits2 .ensures .1))
+    (λ c. omega (arith, c .before .before .before .time-bits .ensures .1, c .before .time-bits2 .ensures .1))
+    (λ c. omega (arith, c .before .before .before .time-bits .ensures .1, c .before .time-bits2 .ensures .1))
+    (λ c. omega (arith, c .before .before .before .time-bits .ensures .1, c .before .time-bits2 .ensures .1))
     (λ c. omega (arith, c .before .before .before .time-bits .ensures .1, c .before .time-bits2 .ensures .1)) returns returns-2)

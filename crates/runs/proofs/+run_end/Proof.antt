@@ -4,7 +4,7 @@ use Prim.Native.Nat.{ℕ, _-_, _<_}
 use native.Mathlib.Omega.{arith}
 use borrow.Fn.Kinds.{In}
 use borrow.Fn.PlainCycle.{Measures, is, falls, and}
-use Rattle.runs.proofs.Ways.{end-last, end-here, end-later}
+use Rattle.runs.proofs.Returns.{end-last, end-here, end-later}
 use Rattle.runs.proofs.+run_end.{statement}
 use Rattle.runs.proofs.+run_end.Tie.{close}
 use Rattle.runs.proofs.run_end.Reads as run-end
@@ -27,7 +27,19 @@ pub +run-end-spec : {M : Type 1} → statement M
     (λ c. omega (arith, c .before .before .pre .1, c .if1 .taken))
     (λ c. omega (arith, c .before .before .before .pre .1, c .before .if1 .taken))
     (λ c. omega (arith, c .before .before .if1 .taken))
-    (λ c κs. (omega (arith, c .before .before .before .before .pre .0, c .before .before .if1 .taken), (omega (arith, c .before .before .if1 .taken), c .before .before .before .before .pre .1 .1)))
-    (λ c. let a = c .before .before .before .before .before .args in end-later (a .marks .now) (a .base) (a .width) (a .column) (c .before .before .before .if1 .taken) (c .before .if2 .taken) _ (c .run-end .ensures))
-    (λ c. let a = c .before .before .before .before .args in end-here (a .marks .now) (a .base) (a .width) (a .column) (c .before .before .if1 .taken) (c .if2 .left))
+    (λ c κs.
+    let if1 = c .before .before in
+    let entry = if1 .before .before in
+    let pre = entry .pre in
+    (omega (arith, pre .0, if1 .if1 .taken), (omega (arith, if1 .if1 .taken), pre .1 .1)))
+    (λ c.
+    let if1 = c .before .before .before in
+    let entry = if1 .before .before in
+    let a = entry .args in
+    end-later (a .marks .now) (a .base) (a .width) (a .column) (if1 .if1 .taken) (c .before .if2 .taken) _ (c .run-end .ensures))
+    (λ c.
+    let if1 = c .before .before in
+    let entry = if1 .before .before in
+    let a = entry .args in
+    end-here (a .marks .now) (a .base) (a .width) (a .column) (if1 .if1 .taken) (c .if2 .left))
     (λ c. let a = c .before .before .args in end-last (a .marks .now) (a .base) (a .width) (a .column) (c .if1 .left))

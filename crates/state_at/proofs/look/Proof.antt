@@ -1,9 +1,8 @@
 -- `state_at::look` meets its contract, by the law that the list of a point's box is the list at the point.
--- Assumes nothing.
 use mathlib.Core.Path.{ap, _∙_}
 use mathlib.Core.List.{[]}
 use Rattle.definition.specs.Lookup.{stateAt}
-use Rattle.phases.proofs.Entries.{entries-lawful}
+use Rattle.tables.proofs.Times.{entries-lawful}
 use Rattle.state_at.proofs.Point.{point-gridded, list-there, box-list}
 use Rattle.state_at.proofs.look.Statement.{statement}
 use Rattle.state_at.proofs.look.Tie as tie
@@ -15,4 +14,4 @@ look-spec =
     (λ c κs. let p = c .before .before .before .before .before .before .before .pre .0 in point-gridded _ _ _ _ (p .0) (p .2) (entries-lawful _ _ _ (p .0) (p .1)) _ (c .before .before .before .before .before .before .before .pre .1))
     (λ c κs. let p = c .before .before .before .before .before .before .before .before .pre .0 in ((p .0, p .1, p .2 .listed .named (c .box-at .result)), list-there _ _ _ _ (p .0) (p .2) (entries-lawful _ _ _ (p .0) (p .1)) _ _ (c .box-at .ensures)))
     (λ c. λ rs tables boxed. c .list-state .ensures rs tables (boxed .listed .named (c .before .box-at .result))
-    ∙ ap (λ l. stateAt [] l (c .before .before .before .before .before .before .before .before .before .args .minute)) (box-list _ _ _ _ rs boxed (entries-lawful _ _ _ rs tables) _ _ (c .before .box-at .ensures))))
+    ∙ ap (λ l. stateAt [] l (c .before .before .before .before .before .before .before .before .before .args .moment .minute)) (box-list _ _ _ _ rs boxed (entries-lawful _ _ _ rs tables) _ _ (c .before .box-at .ensures))))

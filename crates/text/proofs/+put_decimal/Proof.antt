@@ -30,16 +30,33 @@ put-decimal-below t =
     and 1 put-decimal-kinds.ps (falls 1 put-decimal-kinds.ps _<_ μ-put-decimal t) put-decimal.Pre
 
 pub +put-decimal-spec : {M : Type 1} → statement M
-+put-decimal-spec = close μ-put-decimal λ t. put-decimal-lts.spec (digit-reads.Asked, digit-reads.Learnt, put-byte-reads.Asked, put-byte-reads.Learnt, put-decimal-below t, put-decimal.Post)
++put-decimal-spec = close μ-put-decimal λ t. put-decimal-lts.spec
+    (digit-reads.Asked, digit-reads.Learnt, put-byte-reads.Asked, put-byte-reads.Learnt, put-decimal-below t, put-decimal.Post)
     (put-decimal-at t)
     put-decimal.Post
     (λ c κs. omega arith)
     (λ c κs. omega (arith, ap length (decimal-digit (c .before .before .before .before .args .value) (omega arith))))
     (λ c. search needs)
-    (λ c. put-as (ap (_∷ []) (c .before .before .before .digit .ensures) ∙ decimal-digit (c .before .before .before .before .before .before .before .args .value) (omega arith)) (c .before .before .put-byte .ensures))
-    (λ c κs. (omega (arith, c .before .before .before .pre .0), omega (arith, c .before .before .before .pre .1, longer (c .before .before .before .args .value) (omega arith))))
+    (λ c.
+    let put-byte = c .before .before in
+    let digit = put-byte .before in
+    let entry = digit .before .before .before .before in
+    put-as (ap (_∷ []) (digit .digit .ensures) ∙ decimal-digit (entry .args .value) (omega arith)) (put-byte .put-byte .ensures))
+    (λ c κs.
+    let entry = c .before .before .before in
+    let pre = entry .pre in
+    (omega (arith, pre .0), omega (arith, pre .1, longer (entry .args .value) (omega arith))))
     (λ c κs. omega arith)
-    (λ c κs. omega (arith, c .before .before .before .before .before .before .before .before .pre .1, c .before .before .before .before .put-decimal .ensures .ends, longer (c .before .before .before .before .before .before .before .before .args .value) (omega arith)))
+    (λ c κs.
+    let at-put-decimal = c .before .before .before .before in
+    let entry = at-put-decimal .before .before .before .before in
+    omega (arith, entry .pre .1, at-put-decimal .put-decimal .ensures .ends, longer (entry .args .value) (omega arith)))
     (λ c. search needs)
-    (λ c. let value = c .before .before .before .before .before .before .before .before .before .before .before .args .value in
-    put-as (ap (λ d. decimal (value / 10) ++ (d ∷ [])) (c .before .before .before .digit2 .ensures) ∙ decimal-more value (omega arith)) (put-then (c .before .before .before .before .before .before .before .put-decimal .ensures) (c .before .before .put-byte2 .ensures)))
+    (λ c.
+    let put-byte2 = c .before .before in
+    let digit2 = put-byte2 .before in
+    let at-put-decimal = digit2 .before .before .before .before in
+    let entry = at-put-decimal .before .before .before .before in
+    let value = entry .args .value in
+    put-as (ap (λ d. decimal (value / 10) ++ (d ∷ [])) (digit2 .digit2 .ensures) ∙ decimal-more value (omega arith))
+    (put-then (at-put-decimal .put-decimal .ensures) (put-byte2 .put-byte2 .ensures)))

@@ -8,9 +8,13 @@ use Rattle.text.proofs.put_name.Tie as tie
 
 returns : tie.Need-returns
 returns c =
-    let args = c .before .before .before .before .before .before .before .args in name-put _ _ (args .names .now) _ _ (args .index * args .width) (args .width) (c .before .before .put-word .ensures)
+    let put-word = c .before .before in
+    let entry = put-word .before .before .before .before .before in
+    let args = entry .args in
+    name-put _ _ (args .names .now) _ _ (args .index * args .width) (args .width) (put-word .put-word .ensures)
 
 pub put-name-spec : {M : Type 1} → statement M
 put-name-spec =
     tie.close
-    (tie.spec (λ c. search needs) (λ c. search needs) (λ c. search needs) (λ c. search needs) (λ c. search needs) (λ c κs. search needs) (λ c. search needs) returns)
+    (tie.spec (λ c. search needs) (λ c. search needs) (λ c. search needs) (λ c. search needs) (λ c. search needs) (λ c κs. search needs)
+    (λ c. search needs) returns)

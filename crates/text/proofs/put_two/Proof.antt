@@ -9,9 +9,13 @@ use Rattle.text.proofs.put_two.Tie as tie
 
 returns : tie.Need-returns
 returns c =
-    let first = c .before .before .before .before .before .before .before .before .digit .ensures in
-    let second = c .before .before .before .digit2 .ensures in
-    put-as (ap₂ (λ x y. x ∷ y ∷ []) first second ∙ two-digits _) (put-then (c .before .before .before .before .before .before .before .put-byte .ensures) (c .before .before .put-byte2 .ensures))
+    let put-byte2 = c .before .before in
+    let digit2 = put-byte2 .before in
+    let put-byte = digit2 .before .before .before .before in
+    let digit = put-byte .before in
+    let first = digit .digit .ensures in
+    let second = digit2 .digit2 .ensures in
+    put-as (ap₂ (λ x y. x ∷ y ∷ []) first second ∙ two-digits _) (put-then (put-byte .put-byte .ensures) (put-byte2 .put-byte2 .ensures))
 
 pub put-two-spec : {M : Type 1} → statement M
 put-two-spec =

@@ -17,7 +17,11 @@ abbrev μ-loop : tie.MeasureT-loop
 pub put-word-spec : {M : Type 1} → statement M
 put-word-spec =
     tie.close
-    (tie.spec Inv-loop μ-loop (λ c. (omega arith, word-none _ _ (c .before .before .args .word .now))) (λ c. omega arith) (λ c. omega arith) (λ c κs. omega arith) (λ c. omega arith) (λ c. omega arith)
-    (λ c. (omega arith, word-next _ _ _ _ _ _ _ (omega arith) (c .before .before .before .before .before .before .loop .inv .1) (c .before .before .put-byte .ensures)))
+    (tie.spec Inv-loop μ-loop (λ c. (omega arith, word-none _ _ (c .before .before .args .word .now))) (λ c. omega arith) (λ c. omega arith)
+    (λ c κs. omega arith) (λ c. omega arith) (λ c. omega arith)
+    (λ c.
+    let put-byte = c .before .before in
+    let loop = put-byte .before .before .before .before in
+    (omega arith, word-next _ _ _ _ _ _ _ (omega arith) (loop .loop .inv .1) (put-byte .put-byte .ensures)))
     (λ c. omega arith) (λ c. put-length (c .before .loop .inv .1))
     (λ c. word-all _ _ _ _ _ (omega arith) (omega arith) (c .before .loop .inv .1)))

@@ -34,11 +34,15 @@ field-at-requires c κs = let least = c .before .smaller .ensures in (omega (ari
 -- a field of so many bits fits in them
 put-field-requires : tie.Need-put-field-requires Inv-loop μ-loop
 put-field-requires c κs =
-    let args = c .before .before .before .before .before .before .before .args in
+    let smaller = c .before .before in
+    let at-loop = smaller .before .before in
+    let known = at-loop .before .before in
+    let entry = known .before in
+    let args = entry .args in
     let s = args .sheet .now in
-    let least = c .before .before .smaller .ensures in
-    let loop = c .before .before .before .before .loop in
-    let bytes = known-bytes s (λ j. omega (arith, c .before .before .before .before .before .before .shared-slice-known .given j)) in (
+    let least = smaller .smaller .ensures in
+    let loop = at-loop .loop in
+    let bytes = known-bytes s (λ j. omega (arith, known .shared-slice-known .given j)) in (
       omega (arith, least .0),
       omega arith,
       omega (arith, least .1, loop .inv .1),
@@ -50,16 +54,21 @@ loop-less c = omega (arith, c .before .before .before .before .before .smaller .
 
 loop-again : tie.Need-loop-again Inv-loop μ-loop
 loop-again c =
-    let args = c .before .before .before .before .before .before .before .before .before .before .args in
-    let least = c .before .before .before .before .before .smaller .ensures in
-    let loop = c .before .before .before .before .before .before .before .loop in
+    let put-field = c .before .before in
+    let field = put-field .before in
+    let smaller = field .before .before in
+    let at-loop = smaller .before .before in
+    let known = at-loop .before .before in
+    let entry = known .before in
+    let args = entry .args in
+    let least = smaller .smaller .ensures in
+    let loop = at-loop .loop in
     let s = sheetBits (args .sheet .now) in
-    let bytes = known-bytes (args .sheet .now) (λ j. omega (arith, c .before .before .before .before .before .before .before .before .before .shared-slice-known .given j)) in (
+    let bytes = known-bytes (args .sheet .now) (λ j. omega (arith, known .shared-slice-known .given j)) in (
       omega (arith, least .1),
-      c .before .before .put-field .kept .0 ∙ loop .inv .1,
-      copy-next s (args .from) (args .count) (args .at) (sheet-bits (args .sheet .now) bytes) (omega (arith, length-sheetBits (args .sheet .now))) (sheetBits (loop .out)) _ (loop .done) _ _
-          (omega (arith, least .1)) (c .before .before .before .field-at .ensures) (c .before .before .put-field .ensures)
-          ∙ loop .inv .2,
+      put-field .put-field .kept .0 ∙ loop .inv .1,
+      copy-next s (args .from) (args .count) (args .at) (sheet-bits (args .sheet .now) bytes) (omega (arith, length-sheetBits (args .sheet .now)))
+          (sheetBits (loop .out)) _ (loop .done) _ _ (omega (arith, least .1)) (field .field-at .ensures) (put-field .put-field .ensures) ∙ loop .inv .2,
     )
 
 returns : tie.Need-returns Inv-loop μ-loop

@@ -31,11 +31,16 @@ put-bytes-requires c κs =
 
 returns : tie.Need-returns
 returns c =
-    let start = c .before .before .before .before .before .before .before .before in
-    let bytes = known-bytes (start .args .out .now) (λ j. omega (arith, c .before .before .before .before .before .before .before .slice-known .given j)) in
-    c .before .before .put-bytes .ensures
-    ∙ spanned-stored (start .args .out .now) bytes (start .args .at) (start .args .width) (start .args .value) (start .pre .2) (start .pre .3) _ _
-    (c .before .before .before .before .before .bytes-at .ensures) (c .before .before .before .number-with .ensures)
+    let put-bytes = c .before .before in
+    let number-with = put-bytes .before in
+    let at-bytes = number-with .before .before in
+    let known = at-bytes .before .before in
+    let start = known .before in
+    let args = start .args in
+    let pre = start .pre in
+    let bytes = known-bytes (args .out .now) (λ j. omega (arith, known .slice-known .given j)) in
+    put-bytes .put-bytes .ensures ∙ spanned-stored (args .out .now) bytes (args .at) (args .width) (args .value) (pre .2) (pre .3) _ _
+    (at-bytes .bytes-at .ensures) (number-with .number-with .ensures)
 
 pub put-field-spec : {M : Type 1} → statement M
 put-field-spec =

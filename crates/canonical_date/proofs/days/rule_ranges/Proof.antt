@@ -9,9 +9,15 @@ use Rattle.canonical_date.proofs.days.rule_ranges.Tie as tie
 
 returns : tie.Need-returns
 returns c =
-    let a = c .before .before .before .before .before .before .before .before .before .before .args in
-    let bytes = known-bytes (a .sheet .now) (λ j. omega (arith, c .before .before .before .before .before .before .before .before .before .shared-slice-known .given j)) in
-    (c .before .before .before .before .rows .ensures, found (a .sheet .now) bytes (a .at) (c .before .before .before .before .before .before .before .before .before .before .pre .0) (c .before .before .before .before .before .before .before .before .before .before .pre .1 .0) _ _ _ _ (c .before .before .before .before .before .before .before .before .before .before .pre .1 .1) (c .before .before .before .before .before .before .before .before .before .before .pre .1 .2) (c .before .before .before .before .rows .result) (c .before .before .before .before .rows .ensures))
+    let rows = c .before .before .before .before in
+    let shared-slice-known = rows .before .before .before .before .before in
+    let entry = shared-slice-known .before in
+    let a = entry .args in
+    let bytes = known-bytes (a .sheet .now) (λ j. omega (arith, shared-slice-known .shared-slice-known .given j)) in (
+      rows .rows .ensures,
+      found (a .sheet .now) bytes (a .at) (entry .pre .0) (entry .pre .1 .0) _ _ (entry .pre .1 .1) (entry .pre .1 .2) _ _ (rows .rows .result)
+          (rows .rows .ensures),
+    )
 
 pub rule-ranges-spec : {M : Type 1} → statement M
 rule-ranges-spec = tie.close (tie.spec (λ c. search needs) (λ c. search needs) (λ c κs. search needs) (λ c. search needs) (λ c. search needs) returns)

@@ -2,12 +2,13 @@
 use Prim.Native.Nat.{_-_}
 use native.Mathlib.Omega.{arith}
 use borrow.Author.Needs.{needs}
-use Rattle.canonical_time.proofs.FlattenWays.{FlatOn, flat-start, flat-on, flat-done, named-rule}
+use Rattle.canonical_time.proofs.FlattenReturns.{FlatOn, flat-start, flat-on, flat-done, named-rule}
 use Rattle.canonical_time.proofs.flatten.flatten.Statement.{statement}
 use Rattle.canonical_time.proofs.flatten.flatten.Tie as tie
 
 abbrev Inv-loop : tie.InvT-loop
-Inv-loop stated₀ spanned₀ states counts spans list n next₀ place₀ stated spanned next place = FlatOn states counts spans list n stated₀ spanned₀ next place stated spanned
+Inv-loop stated₀ spanned₀ states counts spans list n next₀ place₀ stated spanned next place =
+    FlatOn states counts spans list n stated₀ spanned₀ next place stated spanned
 
 abbrev μ-loop : tie.MeasureT-loop
 μ-loop stated₀ spanned₀ states counts spans list n next₀ place₀ stated spanned next place = n - next
@@ -27,8 +28,9 @@ index-requires c κs = search needs
 shared-slice-read-count : tie.Need-shared-slice-read-count Inv-loop μ-loop
 shared-slice-read-count c =
     let rule = c .before in
-    let start = rule .before .before .before .before .before .before .before .before .before .before in
-    named-rule _ _ _ _ (start .pre .0) _ _ (rule .before .before .loop-test .taken) (rule .index .ensures .0) .1
+    let turn = rule .before .before in
+    let start = turn .before .before .before .before .before .before .before .before in
+    named-rule _ _ _ _ (start .pre .0) _ _ (turn .loop-test .taken) (rule .index .ensures .0) .1
 
 count-requires : tie.Need-count-requires Inv-loop μ-loop
 count-requires c κs = search needs
@@ -39,8 +41,9 @@ mul-push-spans c = search needs
 shared-slice-read-push-spans : tie.Need-shared-slice-read-push-spans Inv-loop μ-loop
 shared-slice-read-push-spans c =
     let rule = c .before .before .before .before .before in
-    let start = rule .before .before .before .before .before .before .before .before .before .before in
-    named-rule _ _ _ _ (start .pre .0) _ _ (rule .before .before .loop-test .taken) (rule .index .ensures .0) .0
+    let turn = rule .before .before in
+    let start = turn .before .before .before .before .before .before .before .before in
+    named-rule _ _ _ _ (start .pre .0) _ _ (turn .loop-test .taken) (rule .index .ensures .0) .0
 
 mul-push-spans-2 : tie.Need-mul-push-spans-2 Inv-loop μ-loop
 mul-push-spans-2 c = search needs
@@ -59,12 +62,18 @@ push-spans-requires : tie.Need-push-spans-requires Inv-loop μ-loop
 push-spans-requires c κs =
     let count = c .before .before .before in
     let rule = count .before .before in
-    let start = rule .before .before .before .before .before .before .before .before .before .before in
-    let more = rule .before .before .loop-test .taken in
-    let named = named-rule _ _ _ _ (start .pre .0) _ _ more (rule .index .ensures .0) in
-    let few = start .pre .0 .few (rule .index .result) in
-    let room = rule .before .before .before .loop .inv .room in
-    (omega (arith, few, count .count .ensures, room .0, more), omega (arith, few, count .count .ensures, room .1, more), omega (arith, few, count .count .ensures, named .2))
+    let turn = rule .before .before in
+    let loop = turn .before in
+    let start = loop .before .before .before .before .before .before .before in
+    let pre = start .pre in
+    let more = turn .loop-test .taken in
+    let named = named-rule _ _ _ _ (pre .0) _ _ more (rule .index .ensures .0) in
+    let few = pre .0 .few (rule .index .result) in
+    let room = loop .loop .inv .room in (
+      omega (arith, few, count .count .ensures, room .0, more),
+      omega (arith, few, count .count .ensures, room .1, more),
+      omega (arith, few, count .count .ensures, named .2),
+    )
 
 add-next : tie.Need-add-next Inv-loop μ-loop
 add-next c = search needs
@@ -78,9 +87,11 @@ loop-again c =
     let count = pushed .before .before .before .before in
     let rule = count .before .before in
     let more = rule .before .before in
-    let few = more .before .before .before .before .before .before .before .before .pre .0 .few (rule .index .result) in
-    flat-on _ _ _ _ _ _ _ _ _ _ _ (more .before .loop .inv) (more .loop-test .taken) _ _ (rule .index .ensures .0) (count .count .ensures) (omega (arith, few, count .count .ensures)) _ _ _
-    (pushed .push-spans .ensures) (pushed .push-spans .kept .0, pushed .push-spans .kept .1 .0)
+    let loop = more .before in
+    let entry = loop .before .before .before .before .before .before .before in
+    let few = entry .pre .0 .few (rule .index .result) in
+    flat-on _ _ _ _ _ _ _ _ _ _ _ (loop .loop .inv) (more .loop-test .taken) _ _ (rule .index .ensures .0) (count .count .ensures)
+    (omega (arith, few, count .count .ensures)) _ _ _ (pushed .push-spans .ensures) (pushed .push-spans .kept .0, pushed .push-spans .kept .1 .0)
 
 same-length : tie.Need-same-length Inv-loop μ-loop
 same-length c = c .before .loop .inv .lengths .0

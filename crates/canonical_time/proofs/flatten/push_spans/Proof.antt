@@ -8,12 +8,15 @@ use lib.Seq.{sets}
 use borrow.Author.Needs.{needs}
 use Rattle.words.specs.Words.{part}
 use Rattle.canonical_time.specs.Flatten.{sameStates}
-use Rattle.canonical_time.proofs.FlattenWays.{push-more, push-none}
+use Rattle.canonical_time.proofs.FlattenReturns.{push-more, push-none}
 use Rattle.canonical_time.proofs.flatten.push_spans.Statement.{statement}
 use Rattle.canonical_time.proofs.flatten.push_spans.Tie as tie
 
 abbrev Inv-loop : tie.InvT-loop
-Inv-loop stated₀ spanned₀ k s spans b e next₀ place₀ stated spanned next place = (place + (e - next) ≡ k + (e - b)) × ((length stated ≡ length stated₀) × (length spanned ≡ length spanned₀)) × (sets stated place (sameStates s (e - next)) ≡ sets stated₀ k (sameStates s (e - b))) × (sets spanned place (part spans next (e - next)) ≡ sets spanned₀ k (part spans b (e - b)))
+Inv-loop stated₀ spanned₀ k s spans b e next₀ place₀ stated spanned next place = (place + (e - next) ≡ k + (e - b)) ×
+    ((length stated ≡ length stated₀) × (length spanned ≡ length spanned₀)) ×
+    (sets stated place (sameStates s (e - next)) ≡ sets stated₀ k (sameStates s (e - b))) ×
+    (sets spanned place (part spans next (e - next)) ≡ sets spanned₀ k (part spans b (e - b)))
 
 abbrev μ-loop : tie.MeasureT-loop
 μ-loop stated₀ spanned₀ k s spans b e next₀ place₀ stated spanned next place = e - next
@@ -49,7 +52,17 @@ loop-less : tie.Need-loop-less Inv-loop μ-loop
 loop-less c = search needs
 
 loop-again : tie.Need-loop-again Inv-loop μ-loop
-loop-again c = let l = push-more (c .before .before .before .args .spans .now) (c .before .before .before .args .s) (c .before .before .loop .place) (c .before .before .loop .next) (c .before .before .before .args .e) (c .before .before .loop .stated) (c .before .before .loop .spanned) (omega arith) in (omega arith, (simp length-set (c .before .before .loop .inv .1 .0), simp length-set (c .before .before .loop .inv .1 .1)), l .0 ∙ c .before .before .loop .inv .2, l .1 ∙ c .before .before .loop .inv .3)
+loop-again c =
+    let loop = c .before .before in
+    let entry = loop .before in
+    let args = entry .args in
+    let l = push-more (args .spans .now) (args .s) (loop .loop .place) (loop .loop .next) (args .e) (loop .loop .stated) (loop .loop .spanned)
+    (omega arith) in (
+      omega arith,
+      (simp length-set (loop .loop .inv .1 .0), simp length-set (loop .loop .inv .1 .1)),
+      l .0 ∙ loop .loop .inv .2,
+      l .1 ∙ loop .loop .inv .3,
+    )
 
 same-length : tie.Need-same-length Inv-loop μ-loop
 same-length c = c .before .loop .inv .1 .0
@@ -58,7 +71,13 @@ same-length-2 : tie.Need-same-length-2 Inv-loop μ-loop
 same-length-2 c = c .before .loop .inv .1 .1
 
 returns : tie.Need-returns Inv-loop μ-loop
-returns c = let l = push-none (c .before .before .args .spans .now) (c .before .before .args .s) (c .before .loop .place) (c .before .loop .next) (c .before .before .args .e) (c .before .loop .stated) (c .before .loop .spanned) (omega arith) in (omega (arith, c .before .loop .inv .0), l .0 ∙ c .before .loop .inv .2, l .1 ∙ c .before .loop .inv .3)
+returns c =
+    let loop = c .before in
+    let entry = loop .before in
+    let args = entry .args in
+    let l = push-none (args .spans .now) (args .s) (loop .loop .place) (loop .loop .next) (args .e) (loop .loop .stated) (loop .loop .spanned)
+    (omega arith) in
+    (omega (arith, loop .loop .inv .0), l .0 ∙ loop .loop .inv .2, l .1 ∙ loop .loop .inv .3)
 
 pub push-spans-spec : {M : Type 1} → statement M
 push-spans-spec =

@@ -20,7 +20,10 @@ returns-2 : tie.Need-returns-2
 returns-2 c = sym (meets-before _ _ _ (omega arith))
 
 returns-3 : tie.Need-returns-3
-returns-3 c = ap₂ ltb (c .before .stroke-start .ensures) (c .before .before .before .stroke-end .ensures) ∙ meets-in _ _ _ (c .before .before .before .before .pre) (omega arith) (omega arith)
+returns-3 c =
+    let stroke-end = c .before .before .before in
+    let entry = stroke-end .before in
+    ap₂ ltb (c .before .stroke-start .ensures) (stroke-end .stroke-end .ensures) ∙ meets-in _ _ _ (entry .pre) (omega arith) (omega arith)
 
 pub meets-range-spec : {M : Type 1} → statement M
 meets-range-spec = tie.close (tie.spec stroke-end-requires returns stroke-start-requires returns-2 returns-3)

@@ -2,7 +2,7 @@
 use native.Mathlib.Omega.{arith}
 use borrow.Author.Needs.{needs}
 use Rattle.day_paint.proofs.Pieces.{pieces-few}
-use Rattle.day_paint.proofs.PieceWays.{day-laid}
+use Rattle.day_paint.proofs.PieceReturns.{day-laid}
 use Rattle.day_paint.proofs.piece.write_pieces.Statement.{statement}
 use Rattle.day_paint.proofs.piece.write_pieces.Tie as tie
 

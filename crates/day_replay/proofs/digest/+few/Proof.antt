@@ -29,5 +29,9 @@ pub +few-spec : {M : Type 1} → statement M
     (λ c. search needs)
     (λ c. search needs)
     (λ c κs. search needs)
-    (λ c. below-more (c .before .before .before .before .before .args .counts .now) 16 (c .before .before .before .before .before .args .n) (c .before .before .before .if1 .left) (c .before .if2 .taken) _ (c .few .ensures))
+    (λ c.
+    let if1 = c .before .before .before in
+    let entry = if1 .before .before in
+    let args = entry .args in
+    below-more (args .counts .now) 16 (args .n) (if1 .if1 .left) (c .before .if2 .taken) _ (c .few .ensures))
     (λ c. below-not (c .before .before .before .before .args .counts .now) 16 (c .before .before .before .before .args .n))

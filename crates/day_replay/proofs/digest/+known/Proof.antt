@@ -30,5 +30,9 @@ pub +known-spec : {M : Type 1} → statement M
     (λ c. search needs)
     (λ c. search needs)
     (λ c κs. search needs)
-    (λ c. below-more (c .before .before .before .before .before .args .list .now) 31 (c .before .before .before .before .before .args .n) (c .before .before .before .if1 .left) (c .before .if2 .taken) _ (c .known .ensures))
+    (λ c.
+    let if1 = c .before .before .before in
+    let entry = if1 .before .before in
+    let args = entry .args in
+    below-more (args .list .now) 31 (args .n) (if1 .if1 .left) (c .before .if2 .taken) _ (c .known .ensures))
     (λ c. below-not (c .before .before .before .before .args .list .now) 31 (c .before .before .before .before .args .n))

@@ -31,24 +31,108 @@ pub +with-days-spec : {M : Type 1} → statement M
     (λ c. search needs)
     (λ c. search needs)
     (λ c. search needs)
-    (λ c κs. let pre = c .before .before .before .before .before .before .before .before .before .before .before .before .before .before .before .before .before .before .pre .1 in (pre .0, (pre .1 .0, pre .1 .1 .0)))
-    (λ c. omega (arith, c .before .before .before .before .before .before .before .before .before .before .before .before .before .before .before .before .before .before .before .before .before .before .before .before .before .before .if1 .taken, c .before .before .before .before .before .before .before .before .before .before .before .before .before .before .before .before .before .before .before .before .before .before .before .before .before .before .before .before .before .before .before .before .before .before .before .before .before .pre .1 .1 .1))
-    (λ c κs. let pre = c .before .before .before .before .before .before .before .before .before .before .before .before .before .before .before .before .before .before .before .before .before .before .before .before .before .before .before .before .before .before .before .before .before .before .before .before .before .pre .1 in let kept = c .before .before .before .before .before .before .before .before .before .before .before .before .before .before .before .before .before .before .with-day .kept in let more = c .before .before .before .before .before .before .before .before .before .before .before .before .before .before .before .before .before .before .before .before .before .before .before .before .before .before .if1 .taken in (omega (arith, c .before .before .before .before .before .before .before .before .before .before .before .before .before .before .before .before .before .before .before .before .before .before .before .before .before .before .before .before .before .before .before .before .before .before .before .before .before .pre .0, more, pre .1 .1), ((omega (arith, pre .0, kept .1 .0), omega (arith, pre .0, kept .1 .1 .0), omega (arith, pre .0, kept .1 .1 .1 .0), omega (arith, pre .0, kept .1 .1 .1 .1 .0), omega (arith, pre .0, kept .1 .1 .1 .1 .1 .0), omega (arith, pre .0, kept .1 .1 .1 .1 .1 .1 .0)), (pre .1 .0, (c .before .before .before .before .before .before .before .before .before .before .before .before .before .before .before .before .before .before .with-day .ensures, pre .1 .1 .1, omega (arith, pre .1 .1), omega (arith, more))))))
-    (λ c. c .before .before .before .before .before .before .before .before .before .before .before .before .with-days .kept .1 .0 ∙ c .before .before .before .before .before .before .before .before .before .before .before .before .before .before .before .before .before .before .before .before .before .before .before .before .before .before .before .before .before .before .before .with-day .kept .1 .0)
-    (λ c. c .before .before .before .before .before .before .before .before .before .before .before .before .with-days .kept .1 .1 .0 ∙ c .before .before .before .before .before .before .before .before .before .before .before .before .before .before .before .before .before .before .before .before .before .before .before .before .before .before .before .before .before .before .before .with-day .kept .1 .1 .0)
-    (λ c. c .before .before .before .before .before .before .before .before .before .before .before .before .with-days .kept .1 .1 .1 .0 ∙ c .before .before .before .before .before .before .before .before .before .before .before .before .before .before .before .before .before .before .before .before .before .before .before .before .before .before .before .before .before .before .before .with-day .kept .1 .1 .1 .0)
-    (λ c. c .before .before .before .before .before .before .before .before .before .before .before .before .with-days .kept .1 .1 .1 .1 .0 ∙ c .before .before .before .before .before .before .before .before .before .before .before .before .before .before .before .before .before .before .before .before .before .before .before .before .before .before .before .before .before .before .before .with-day .kept .1 .1 .1 .1 .0)
-    (λ c. c .before .before .before .before .before .before .before .before .before .before .before .before .with-days .kept .1 .1 .1 .1 .1 .0 ∙ c .before .before .before .before .before .before .before .before .before .before .before .before .before .before .before .before .before .before .before .before .before .before .before .before .before .before .before .before .before .before .before .with-day .kept .1 .1 .1 .1 .1 .0)
-    (λ c. c .before .before .before .before .before .before .before .before .before .before .before .before .with-days .kept .1 .1 .1 .1 .1 .1 .0 ∙ c .before .before .before .before .before .before .before .before .before .before .before .before .before .before .before .before .before .before .before .before .before .before .before .before .before .before .before .before .before .before .before .with-day .kept .1 .1 .1 .1 .1 .1 .0)
-    (λ c. c .before .before .before .before .before .before .before .before .before .before .before .before .with-days .ensures)
-    (λ c. omega (arith, c .before .before .before .before .before .before .if2 .taken, c .before .before .before .before .before .before .before .before .before .before .before .before .before .before .before .before .before .before .pre .1 .1 .1))
-    (λ c. omega (arith, c .before .before .before .before .before .before .if2 .taken, c .before .before .before .before .before .before .before .before .before .before .before .before .before .before .before .before .before .before .pre .1 .1 .1))
-    (λ c κs. let pre = c .before .before .before .before .before .before .before .before .before .before .before .before .before .before .before .before .before .before .pre .1 in (omega (arith, c .before .before .before .before .before .before .before .before .before .before .before .before .before .before .before .before .before .before .pre .0, c .before .before .before .before .before .before .before .if1 .left, c .before .before .before .before .before .before .if2 .taken, pre .1 .1), (pre .0, (pre .1 .0, (pre .1 .1 .0, pre .1 .1 .1, omega arith, omega (arith, c .before .before .before .before .before .before .if2 .taken, pre .1 .1))))))
-    (λ c. c .before .before .before .before .before .before .before .before .before .before .before .before .with-days2 .kept .1 .0)
-    (λ c. c .before .before .before .before .before .before .before .before .before .before .before .before .with-days2 .kept .1 .1 .0)
-    (λ c. c .before .before .before .before .before .before .before .before .before .before .before .before .with-days2 .kept .1 .1 .1 .0)
-    (λ c. c .before .before .before .before .before .before .before .before .before .before .before .before .with-days2 .kept .1 .1 .1 .1 .0)
-    (λ c. c .before .before .before .before .before .before .before .before .before .before .before .before .with-days2 .kept .1 .1 .1 .1 .1 .0)
-    (λ c. c .before .before .before .before .before .before .before .before .before .before .before .before .with-days2 .kept .1 .1 .1 .1 .1 .1 .0)
-    (λ c. c .before .before .before .before .before .before .before .before .before .before .before .before .with-days2 .ensures)
-    (λ c. c .before .before .before .before .before .before .before .before .before .before .before .before .pre .1 .1 .1 .0)
+    (λ c κs.
+    let more = c .before .before .before .before .before .before .before in
+    let entry = more .before .before .before .before .before .before .before .before .before .before .before in
+    let pre = entry .pre .1 in
+    (pre .0, (pre .1 .0, pre .1 .1 .0)))
+    (λ c.
+    let back = c .before .before .before .before .before .before in
+    let with-day = back .before .before .before .before .before .before .before .before .before .before .before .before in
+    let if1 = with-day .before .before .before .before .before .before .before .before in
+    let entry = if1 .before .before .before .before .before .before .before .before .before .before .before in
+    omega (arith, if1 .if1 .taken, entry .pre .1 .1 .1))
+    (λ c κs.
+    let back = c .before .before .before .before .before .before in
+    let with-day = back .before .before .before .before .before .before .before .before .before .before .before .before in
+    let if1 = with-day .before .before .before .before .before .before .before .before in
+    let entry = if1 .before .before .before .before .before .before .before .before .before .before .before in
+    let pre = entry .pre .1 in
+    let kept = with-day .with-day .kept in
+    let more = if1 .if1 .taken in (
+      omega (arith, entry .pre .0, more, pre .1 .1),
+      (
+        (
+          omega (arith, pre .0, kept .1 .0),
+          omega (arith, pre .0, kept .1 .1 .0),
+          omega (arith, pre .0, kept .1 .1 .1 .0),
+          omega (arith, pre .0, kept .1 .1 .1 .1 .0),
+          omega (arith, pre .0, kept .1 .1 .1 .1 .1 .0),
+          omega (arith, pre .0, kept .1 .1 .1 .1 .1 .1 .0),
+        ),
+        (pre .1 .0, (with-day .with-day .ensures, pre .1 .1 .1, omega (arith, pre .1 .1), omega (arith, more))),
+      ),
+    ))
+    (λ c.
+    let later = c .before .before .before .before .before .before .before .before .before .before .before .before in
+    let back = later .before .before .before .before .before .before .before in
+    let with-day = back .before .before .before .before .before .before .before .before .before .before .before .before in
+    later .with-days .kept .1 .0 ∙ with-day .with-day .kept .1 .0)
+    (λ c.
+    let later = c .before .before .before .before .before .before .before .before .before .before .before .before in
+    let back = later .before .before .before .before .before .before .before in
+    let with-day = back .before .before .before .before .before .before .before .before .before .before .before .before in
+    later .with-days .kept .1 .1 .0 ∙ with-day .with-day .kept .1 .1 .0)
+    (λ c.
+    let later = c .before .before .before .before .before .before .before .before .before .before .before .before in
+    let back = later .before .before .before .before .before .before .before in
+    let with-day = back .before .before .before .before .before .before .before .before .before .before .before .before in
+    later .with-days .kept .1 .1 .1 .0 ∙ with-day .with-day .kept .1 .1 .1 .0)
+    (λ c.
+    let later = c .before .before .before .before .before .before .before .before .before .before .before .before in
+    let back = later .before .before .before .before .before .before .before in
+    let with-day = back .before .before .before .before .before .before .before .before .before .before .before .before in
+    later .with-days .kept .1 .1 .1 .1 .0 ∙ with-day .with-day .kept .1 .1 .1 .1 .0)
+    (λ c.
+    let later = c .before .before .before .before .before .before .before .before .before .before .before .before in
+    let back = later .before .before .before .before .before .before .before in
+    let with-day = back .before .before .before .before .before .before .before .before .before .before .before .before in
+    later .with-days .kept .1 .1 .1 .1 .1 .0 ∙ with-day .with-day .kept .1 .1 .1 .1 .1 .0)
+    (λ c.
+    let later = c .before .before .before .before .before .before .before .before .before .before .before .before in
+    let back = later .before .before .before .before .before .before .before in
+    let with-day = back .before .before .before .before .before .before .before .before .before .before .before .before in
+    later .with-days .kept .1 .1 .1 .1 .1 .1 .0 ∙ with-day .with-day .kept .1 .1 .1 .1 .1 .1 .0)
+    (λ c.
+    let later = c .before .before .before .before .before .before .before .before .before .before .before .before in
+    later .with-days .ensures)
+    (λ c.
+    let if2 = c .before .before .before .before .before .before in
+    let entry = if2 .before .before .before .before .before .before .before .before .before .before .before .before in
+    omega (arith, if2 .if2 .taken, entry .pre .1 .1 .1))
+    (λ c.
+    let if2 = c .before .before .before .before .before .before in
+    let entry = if2 .before .before .before .before .before .before .before .before .before .before .before .before in
+    omega (arith, if2 .if2 .taken, entry .pre .1 .1 .1))
+    (λ c κs.
+    let if2 = c .before .before .before .before .before .before in
+    let if1 = if2 .before in
+    let entry = if1 .before .before .before .before .before .before .before .before .before .before .before in
+    let pre = entry .pre .1 in (
+      omega (arith, entry .pre .0, if1 .if1 .left, if2 .if2 .taken, pre .1 .1),
+      (pre .0, (pre .1 .0, (pre .1 .1 .0, pre .1 .1 .1, omega arith, omega (arith, if2 .if2 .taken, pre .1 .1)))),
+    ))
+    (λ c.
+    let with-days2 = c .before .before .before .before .before .before .before .before .before .before .before .before in
+    with-days2 .with-days2 .kept .1 .0)
+    (λ c.
+    let with-days2 = c .before .before .before .before .before .before .before .before .before .before .before .before in
+    with-days2 .with-days2 .kept .1 .1 .0)
+    (λ c.
+    let with-days2 = c .before .before .before .before .before .before .before .before .before .before .before .before in
+    with-days2 .with-days2 .kept .1 .1 .1 .0)
+    (λ c.
+    let with-days2 = c .before .before .before .before .before .before .before .before .before .before .before .before in
+    with-days2 .with-days2 .kept .1 .1 .1 .1 .0)
+    (λ c.
+    let with-days2 = c .before .before .before .before .before .before .before .before .before .before .before .before in
+    with-days2 .with-days2 .kept .1 .1 .1 .1 .1 .0)
+    (λ c.
+    let with-days2 = c .before .before .before .before .before .before .before .before .before .before .before .before in
+    with-days2 .with-days2 .kept .1 .1 .1 .1 .1 .1 .0)
+    (λ c.
+    let with-days2 = c .before .before .before .before .before .before .before .before .before .before .before .before in
+    with-days2 .with-days2 .ensures)
+    (λ c.
+    let entry = c .before .before .before .before .before .before .before .before .before .before .before .before in
+    entry .pre .1 .1 .1 .0)

@@ -8,21 +8,36 @@ use Rattle.day_replay.proofs.digest.with_day.Tie as tie
 
 normalize-time-rules-requires : tie.Need-normalize-time-rules-requires
 normalize-time-rules-requires c κs =
-    let first = c .before .before .before .before .before .before .before .before .before .before .before .before .before .before .before .before .before .before .before in
+    let if2 = c .before .before .before .before .before .before in
+    let known = if2 .before in
+    let if1 = known .before in
+    let first = if1 .before .before .before .before .before .before .before .before .before .before .before in
     let args = first .args in
-    let lent = first .pre .0 in
-    let short = c .before .before .before .before .before .before .before .before .if1 .left in (
-      tables-known (args .states .now) (args .counts .now) (args .spans .now) (args .list .now) (first .pre .1 .0) (c .before .before .before .before .before .before .before .known .ensures (c .before .before .before .before .before .before .if2 .taken)),
-      (omega (arith, short), omega (arith, short, lent), omega (arith, short, lent), omega (arith, short, lent), omega (arith, short, lent), omega (arith, short, lent)),
+    let pre = first .pre in
+    let lent = pre .0 in
+    let short = if1 .if1 .left in (
+      tables-known (args .states .now) (args .counts .now) (args .spans .now) (args .list .now) (pre .1 .0) (known .known .ensures (if2 .if2 .taken)),
+      (
+        omega (arith, short),
+        omega (arith, short, lent),
+        omega (arith, short, lent),
+        omega (arith, short, lent),
+        omega (arith, short, lent),
+        omega (arith, short, lent),
+      ),
     )
 
 with-words-requires : tie.Need-with-words-requires
 with-words-requires c κs =
-    let first = c .before .before .before .before .before .before .before .before .before .before .before .before .before .before .before .before .before .before .before .before .before .before .before .before .before .before .before .before .before .before .before .before .before in
+    let normalize-time-rules = c .before .before .before .before .before .before .before .before .before .before .before .before .before in
+    let if1 = normalize-time-rules .before .before .before .before .before .before .before .before .before in
+    let first = if1 .before .before .before .before .before .before .before .before .before .before .before in
     let args = first .args in
-    let made = c .before .before .before .before .before .before .before .before .before .before .before .before .before .normalize-time-rules in
-    let room = words-room (args .states .now) (args .counts .now) (args .spans .now) (args .list .now) (first .pre .1 .0) (c .before .before .before .before .before .before .before .before .before .before .before .before .before .before .before .before .before .before .before .before .before .before .if1 .left) _ (made .ensures .1) in
-    (first .pre .1 .1, omega (arith, room, made .kept .0, first .pre .0))
+    let pre = first .pre in
+    let made = normalize-time-rules .normalize-time-rules in
+    let room =
+    words-room (args .states .now) (args .counts .now) (args .spans .now) (args .list .now) (pre .1 .0) (if1 .if1 .left) _ (made .ensures .1) in
+    (pre .1 .1, omega (arith, room, made .kept .0, pre .0))
 
 pub with-day-spec : {M : Type 1} → statement M
 with-day-spec =
@@ -32,11 +47,23 @@ with-day-spec =
     (λ c κs. search needs)
     normalize-time-rules-requires
     with-words-requires
-    (λ c. c .before .before .before .before .before .before .before .before .before .before .before .before .before .before .normalize-time-rules .kept .0)
-    (λ c. c .before .before .before .before .before .before .before .before .before .before .before .before .before .before .normalize-time-rules .kept .1 .0)
-    (λ c. c .before .before .before .before .before .before .before .before .before .before .before .before .before .before .normalize-time-rules .kept .1 .1 .0)
-    (λ c. c .before .before .before .before .before .before .before .before .before .before .before .before .before .before .normalize-time-rules .kept .1 .1 .1 .0)
-    (λ c. c .before .before .before .before .before .before .before .before .before .before .before .before .before .before .normalize-time-rules .kept .1 .1 .1 .1 .0)
-    (λ c. c .before .before .before .before .before .before .before .before .before .before .before .before .before .before .normalize-time-rules .kept .1 .1 .1 .1 .1 .0)
+    (λ c.
+    let normalize-time-rules = c .before .before .before .before .before .before .before .before .before .before .before .before .before .before in
+    normalize-time-rules .normalize-time-rules .kept .0)
+    (λ c.
+    let normalize-time-rules = c .before .before .before .before .before .before .before .before .before .before .before .before .before .before in
+    normalize-time-rules .normalize-time-rules .kept .1 .0)
+    (λ c.
+    let normalize-time-rules = c .before .before .before .before .before .before .before .before .before .before .before .before .before .before in
+    normalize-time-rules .normalize-time-rules .kept .1 .1 .0)
+    (λ c.
+    let normalize-time-rules = c .before .before .before .before .before .before .before .before .before .before .before .before .before .before in
+    normalize-time-rules .normalize-time-rules .kept .1 .1 .1 .0)
+    (λ c.
+    let normalize-time-rules = c .before .before .before .before .before .before .before .before .before .before .before .before .before .before in
+    normalize-time-rules .normalize-time-rules .kept .1 .1 .1 .1 .0)
+    (λ c.
+    let normalize-time-rules = c .before .before .before .before .before .before .before .before .before .before .before .before .before .before in
+    normalize-time-rules .normalize-time-rules .kept .1 .1 .1 .1 .1 .0)
     (λ c. search needs)
     (λ c. search needs))

@@ -4,7 +4,7 @@ use Prim.Native.Nat.{_-_, ℕ, _<_}
 use borrow.Author.Needs.{needs}
 use borrow.Fn.Kinds.{In}
 use borrow.Fn.PlainCycle.{Measures, is, falls, and}
-use Rattle.day_words.proofs.ClassWays.{kind-more, kind-broken, kind-alone, kind-breaks, kind-ends}
+use Rattle.day_words.proofs.ClassReturns.{kind-more, kind-broken, kind-alone, kind-breaks, kind-ends}
 use Rattle.day_words.proofs.class.all_of_kind.Reads as all-of-kind
 use Rattle.day_words.proofs.class.all_of_kind.Kinds as all-of-kind-kinds
 use Rattle.day_words.proofs.class.+all_of_kind.Lts-all_of_kind as all-of-kind-lts
@@ -40,8 +40,19 @@ pub +all-of-kind-spec : {M : Type 1} → statement M
     (λ c. search needs)
     (λ c. search needs)
     (λ c κs. search needs)
-    (λ c. kind-more _ _ _ _ _ (c .before .before .before .before .before .before .kind-of .ensures) (c .before .before .before .before .if3 .taken) (c .before .before .before .before .before .if2 .taken) _ (c .before .before .count .ensures) _ (c .all-of-kind .ensures))
-    (λ c. kind-broken _ _ _ _ _ (c .before .before .before .before .before .kind-of .ensures) (c .before .before .before .if3 .taken) (c .before .before .before .before .if2 .taken) _ (c .before .count .ensures) (c .if4 .left))
+    (λ c.
+    let count = c .before .before in
+    let if3 = count .before .before in
+    let if2 = if3 .before in
+    let kind-of = if2 .before in
+    kind-more _ _ _ _ _ (kind-of .kind-of .ensures) (if3 .if3 .taken) (if2 .if2 .taken) _ (count .count .ensures) _ (c .all-of-kind .ensures))
+    (λ c.
+    let if3 = c .before .before .before in
+    let if2 = if3 .before in
+    let kind-of = if2 .before in
+    kind-broken _ _ _ _ _ (kind-of .kind-of .ensures) (if3 .if3 .taken) (if2 .if2 .taken) _ (c .before .count .ensures) (c .if4 .left))
     (λ c. kind-alone _ _ _ _ _ (c .before .before .kind-of .ensures) (c .before .before .before .before .if1 .taken) (c .if3 .left) (c .before .if2 .taken))
     (λ c. kind-breaks _ _ _ _ _ (c .before .kind-of .ensures) (c .before .before .before .if1 .taken) (c .if2 .left))
-    (λ c. kind-ends (c .before .before .args .words .now) (c .before .before .args .at) (c .before .before .args .n) (c .before .before .args .kind) (c .if1 .left))
+    (λ c.
+    kind-ends (c .before .before .args .words .now) (c .before .before .args .at) (c .before .before .args .n) (c .before .before .args .kind)
+    (c .if1 .left))

@@ -13,8 +13,12 @@ returns c = (sym (lt-leb 4 _ (c .if1 .taken)), refl)
 
 returns-2 : tie.Need-returns-2
 returns-2 c =
-    let lent = c .before .before .before .before .before .before .before .before .before .args .lent .now in
-    (sym (le-leb 4 _ (c .before .before .before .before .before .before .if1 .left)), c .before .before .put-answer .ensures ∙ ap (λ n. buffer n lent) (ap numbers (c .before .before .before .before .before .lookup .ensures)))
+    let put-answer = c .before .before in
+    let lookup = put-answer .before .before .before in
+    let if1 = lookup .before in
+    let entry = if1 .before .before .before in
+    let lent = entry .args .lent .now in
+    (sym (le-leb 4 _ (if1 .if1 .left)), put-answer .put-answer .ensures ∙ ap (λ n. buffer n lent) (ap numbers (lookup .lookup .ensures)))
 
 pub hours-lookup-spec : {M : Type 1} → statement M
 hours-lookup-spec = tie.close (tie.spec returns (λ c κs. search needs) (λ c. search needs) (λ c κs. search needs) (λ c. search needs) returns-2)

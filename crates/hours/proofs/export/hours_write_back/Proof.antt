@@ -9,8 +9,14 @@ use Rattle.hours.proofs.export.hours_write_back.Tie as tie
 
 returns-2 : tie.Need-returns-2
 returns-2 c =
-    let written = c .before .before .before .before .before .before .write-back .ensures in
-    (sym (le-leb 3 _ (c .before .before .before .before .before .before .before .before .if1 .left)), c .before .before .put-written .ensures ∙ ap (λ n. buffer n (c .before .before .before .before .before .before .before .before .before .before .before .before .args .lent .now)) (written .0), written .1)
+    let put-written = c .before .before in
+    let write-back = put-written .before .before .before .before in
+    let if1 = write-back .before .before in
+    let entry = if1 .before .before .before .before in
+    let written = write-back .write-back .ensures in
+    (sym (le-leb 3 _ (if1 .if1 .left)), put-written .put-written .ensures ∙ ap (λ n. buffer n (entry .args .lent .now)) (written .0), written .1)
 
 pub hours-write-back-spec : {M : Type 1} → statement M
-hours-write-back-spec = tie.close (tie.spec (λ c. (sym (lt-leb 3 _ (c .if1 .taken)), refl, refl)) (λ c κs. search needs) (λ c κs. search needs) (λ c. search needs) (λ c. search needs) returns-2)
+hours-write-back-spec = tie.close
+    (tie.spec (λ c. (sym (lt-leb 3 _ (c .if1 .taken)), refl, refl)) (λ c κs. search needs) (λ c κs. search needs) (λ c. search needs) (λ c. search needs)
+    returns-2)

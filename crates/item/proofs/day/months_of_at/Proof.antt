@@ -1,12 +1,11 @@
 -- `item::day::months_of_at` meets its contract: three fields, one behind the other.
 -- Assumes nothing.
-use mathlib.Core.Path.{_≡_, sym}
-use Prim.Native.Nat.{_+_}
+use mathlib.Core.Path.{sym}
 use native.Mathlib.Omega.{arith}
 use borrow.Author.Needs.{needs}
-use Rattle.definition.proofs.Reading.{then-goes, then-stops, then-stops-later, via-goes, via-stops, field-end}
-use Rattle.field.proofs.Taking.{took, stopped}
-use Rattle.item.proofs.Ways.{monthday-stops}
+use Rattle.definition.proofs.Reading.{then-goes, then-stops, then-stops-later, via-goes, via-stops}
+use Rattle.field.proofs.Taking.{took, took-end, stopped}
+use Rattle.item.proofs.Returns.{monthday-stops}
 use Rattle.item.proofs.day.months_of_at.Statement.{statement}
 use Rattle.item.proofs.day.months_of_at.Tie as tie
 
@@ -16,11 +15,51 @@ months-of-at-spec =
     (tie.spec
     (λ c κs. search needs)
     (λ c. search needs) (λ c. search needs) (λ c κs. search needs)
-    (λ c. monthday-stops _ _ _ (c .refused .ensures) (c .before .enum-told .given .1) (via-stops _ _ _ _ _ (then-stops _ _ _ _ (stopped _ _ _ (c .before .before .before .month-at .ensures) (c .before .enum-told .given .1)))))
-    (λ c κs. let e1 : c .before .first .given .0 .1 .0 ≡ c .before .before .before .before .before .args .at + 4 = field-end _ _ _ _ _ _ _ (took _ _ _ (c .before .before .before .month-at .ensures) (c .before .first .given .1)) in omega (arith, e1))
+    (λ c.
+    let month = c .before .before .before in
+    monthday-stops _ _ _ (c .refused .ensures) (c .before .enum-told .given .1)
+    (via-stops _ _ _ _ _ (then-stops _ _ _ _ (stopped _ _ _ (month .month-at .ensures) (c .before .enum-told .given .1)))))
+    (λ c κs.
+    let month = c .before .before .before in
+    omega (arith, took-end _ _ _ _ _ (month .month-at .ensures) (c .before .first .given .1)))
     (λ c. search needs) (λ c. search needs) (λ c κs. search needs)
-    (λ c. monthday-stops _ _ _ (c .refused2 .ensures) (c .before .enum-told2 .given .1) (via-stops _ _ _ _ _ (then-stops-later _ _ _ _ (took _ _ _ (c .before .before .before .before .before .before .before .month-at .ensures) (c .before .before .before .before .before .first .given .1)) (then-stops _ _ _ _ (stopped _ _ _ (c .before .before .before .month-at2 .ensures) (c .before .enum-told2 .given .1))))))
-    (λ c κs. let e1 : c .before .before .before .before .before .first .given .0 .1 .0 ≡ c .before .before .before .before .before .before .before .before .before .args .at + 4 = field-end _ _ _ _ _ _ _ (took _ _ _ (c .before .before .before .before .before .before .before .month-at .ensures) (c .before .before .before .before .before .first .given .1)) in let e2 : c .before .second .given .0 .1 .0 ≡ c .before .before .before .before .before .first .given .0 .1 .0 + 4 = field-end _ _ _ _ _ _ _ (took _ _ _ (c .before .before .before .month-at2 .ensures) (c .before .second .given .1)) in omega (arith, e1, e2))
+    (λ c.
+    let month2 = c .before .before .before in
+    let first = month2 .before .before in
+    let month = first .before .before in
+    monthday-stops _ _ _ (c .refused2 .ensures) (c .before .enum-told2 .given .1)
+    (via-stops _ _ _ _ _
+    (then-stops-later _ _ _ _ (took _ _ _ (month .month-at .ensures) (first .first .given .1))
+    (then-stops _ _ _ _ (stopped _ _ _ (month2 .month-at2 .ensures) (c .before .enum-told2 .given .1))))))
+    (λ c κs.
+    let month2 = c .before .before .before in
+    let first = month2 .before .before in
+    let month = first .before .before in
+    omega (
+      arith,
+      took-end _ _ _ _ _ (month .month-at .ensures) (first .first .given .1),
+      took-end _ _ _ _ _ (month2 .month-at2 .ensures) (c .before .second .given .1),
+    ))
     (λ c. search needs) (λ c. search needs) (λ c κs. search needs)
-    (λ c. monthday-stops _ _ _ (c .refused3 .ensures) (c .before .enum-told3 .given .1) (via-stops _ _ _ _ _ (then-stops-later _ _ _ _ (took _ _ _ (c .before .before .before .before .before .before .before .before .before .before .before .month-at .ensures) (c .before .before .before .before .before .before .before .before .before .first .given .1)) (then-stops-later _ _ _ _ (took _ _ _ (c .before .before .before .before .before .before .before .month-at2 .ensures) (c .before .before .before .before .before .second .given .1)) (stopped _ _ _ (c .before .before .before .year-at .ensures) (c .before .enum-told3 .given .1))))))
-    (λ c. sym (via-goes _ _ _ _ _ (then-goes _ _ _ _ (took _ _ _ (c .before .before .before .before .before .before .before .before .before .before .before .month-at .ensures) (c .before .before .before .before .before .before .before .before .before .first .given .1)) (then-goes _ _ _ _ (took _ _ _ (c .before .before .before .before .before .before .before .month-at2 .ensures) (c .before .before .before .before .before .second .given .1)) (took _ _ _ (c .before .before .before .year-at .ensures) (c .before .third .given .1)))))))
+    (λ c.
+    let year = c .before .before .before in
+    let second = year .before .before in
+    let month2 = second .before .before in
+    let first = month2 .before .before in
+    let month = first .before .before in
+    monthday-stops _ _ _ (c .refused3 .ensures) (c .before .enum-told3 .given .1)
+    (via-stops _ _ _ _ _
+    (then-stops-later _ _ _ _ (took _ _ _ (month .month-at .ensures) (first .first .given .1))
+    (then-stops-later _ _ _ _ (took _ _ _ (month2 .month-at2 .ensures) (second .second .given .1))
+    (stopped _ _ _ (year .year-at .ensures) (c .before .enum-told3 .given .1))))))
+    (λ c.
+    let year = c .before .before .before in
+    let second = year .before .before in
+    let month2 = second .before .before in
+    let first = month2 .before .before in
+    let month = first .before .before in
+    sym
+    (via-goes _ _ _ _ _
+    (then-goes _ _ _ _ (took _ _ _ (month .month-at .ensures) (first .first .given .1))
+    (then-goes _ _ _ _ (took _ _ _ (month2 .month-at2 .ensures) (second .second .given .1))
+    (took _ _ _ (year .year-at .ensures) (c .before .third .given .1)))))))

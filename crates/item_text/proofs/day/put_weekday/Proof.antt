@@ -9,11 +9,18 @@ use Rattle.item_text.proofs.day.put_weekday.Statement.{statement}
 use Rattle.item_text.proofs.day.put_weekday.Tie as tie
 
 put-name-requires : tie.Need-put-name-requires
-put-name-requires c κs = let k = weekday-found (c .before .before .before .args .weekday) (c .before .before .before .pre .0) in (omega (arith, k .0), omega (arith, k .2, c .before .before .before .pre .1))
+put-name-requires c κs =
+    let entry = c .before .before .before in
+    let pre = entry .pre in
+    let k = weekday-found (entry .args .weekday) (pre .0) in
+    (omega (arith, k .0), omega (arith, k .2, pre .1))
 
 returns : tie.Need-returns
 unfolding ascii
-returns c = put-as (weekday-found (c .before .before .before .before .before .before .args .weekday) (c .before .before .before .before .before .before .pre .0) .1) (c .before .before .put-name .ensures)
+returns c =
+    let put-name = c .before .before in
+    let entry = put-name .before .before .before .before in
+    put-as (weekday-found (entry .args .weekday) (entry .pre .0) .1) (put-name .put-name .ensures)
 
 pub put-weekday-spec : {M : Type 1} → statement M
 put-weekday-spec = tie.close (tie.spec (λ c. search needs) put-name-requires (λ c. search needs) returns)

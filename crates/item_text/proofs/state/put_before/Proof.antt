@@ -13,9 +13,29 @@ pub put-before-spec : {M : Type 1} → statement M
 put-before-spec =
     tie.close
     (tie.spec
-    (λ c. search needs) (λ c κs. omega (arith, c .before .before .before .before .pre, ap length (before-normal (c .before .before .before .before .args .operator) (omega arith))))
-    (λ c. search needs) (λ c κs. omega (arith, c .before .before .before .before .pre, ap length (before-additional (c .before .before .before .before .args .operator) (omega arith) (omega arith))))
-    (λ c. search needs) (λ c κs. omega (arith, c .before .before .before .before .pre, ap length (before-fallback (c .before .before .before .before .args .operator) (omega arith) (omega arith))))
-    (λ c. search needs) (λ c. put-as (before-normal (c .before .before .before .before .before .before .before .args .operator) (omega arith)) (c .before .before .put-word .ensures))
-    (λ c. search needs) (λ c. put-as (before-additional (c .before .before .before .before .before .before .before .args .operator) (omega arith) (omega arith)) (c .before .before .put-word2 .ensures))
-    (λ c. search needs) (λ c. put-as (before-fallback (c .before .before .before .before .before .before .before .args .operator) (omega arith) (omega arith)) (c .before .before .put-word3 .ensures)))
+    (λ c. search needs)
+    (λ c κs.
+    omega (arith, c .before .before .before .before .pre, ap length (before-normal (c .before .before .before .before .args .operator) (omega arith))))
+    (λ c. search needs)
+    (λ c κs.
+    let entry = c .before .before .before .before in
+    omega (arith, entry .pre, ap length (before-additional (entry .args .operator) (omega arith) (omega arith))))
+    (λ c. search needs)
+    (λ c κs.
+    let entry = c .before .before .before .before in
+    omega (arith, entry .pre, ap length (before-fallback (entry .args .operator) (omega arith) (omega arith))))
+    (λ c. search needs)
+    (λ c.
+    let put-word = c .before .before in
+    let entry = put-word .before .before .before .before .before in
+    put-as (before-normal (entry .args .operator) (omega arith)) (put-word .put-word .ensures))
+    (λ c. search needs)
+    (λ c.
+    let put-word2 = c .before .before in
+    let entry = put-word2 .before .before .before .before .before in
+    put-as (before-additional (entry .args .operator) (omega arith) (omega arith)) (put-word2 .put-word2 .ensures))
+    (λ c. search needs)
+    (λ c.
+    let put-word3 = c .before .before in
+    let entry = put-word3 .before .before .before .before .before in
+    put-as (before-fallback (entry .args .operator) (omega arith) (omega arith)) (put-word3 .put-word3 .ensures)))

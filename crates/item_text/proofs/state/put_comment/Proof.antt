@@ -15,8 +15,37 @@ put-comment-spec =
     (tie.spec
     (λ c. put-as (sym (comment-none (stateOf (c .before .before .args .kind) (c .before .before .args .comment)) (c .if1 .taken))) (put-none _ _))
     (λ c. search needs)
-    (λ c κs. omega (arith, c .before .before .before .before .pre, comment-long (stateOf (c .before .before .before .before .args .kind) (c .before .before .before .before .args .comment)) (c .before .before .if1 .left)))
-    (λ c κs. omega (arith, c .before .before .before .before .before .before .before .before .pre, comment-long (stateOf (c .before .before .before .before .before .before .before .before .args .kind) (c .before .before .before .before .before .before .before .before .args .comment)) (c .before .before .before .before .before .before .if1 .left), c .before .before .before .put-word .ensures .ends))
-    (λ c κs. omega (arith, c .before .before .before .before .before .before .before .before .before .before .before .before .pre, comment-long (stateOf (c .before .before .before .before .before .before .before .before .before .before .before .before .args .kind) (c .before .before .before .before .before .before .before .before .before .before .before .before .args .comment)) (c .before .before .before .before .before .before .before .before .before .before .if1 .left), c .before .before .before .before .before .before .before .put-word .ensures .ends, c .before .before .before .put-decimal .ensures .ends))
+    (λ c κs.
+    let if1 = c .before .before in
+    let entry = if1 .before .before in
+    let args = entry .args in
+    omega (arith, entry .pre, comment-long (stateOf (args .kind) (args .comment)) (if1 .if1 .left)))
+    (λ c κs.
+    let put-word = c .before .before .before in
+    let if1 = put-word .before .before .before in
+    let entry = if1 .before .before in
+    let args = entry .args in
+    omega (arith, entry .pre, comment-long (stateOf (args .kind) (args .comment)) (if1 .if1 .left), put-word .put-word .ensures .ends))
+    (λ c κs.
+    let put-decimal = c .before .before .before in
+    let put-word = put-decimal .before .before .before .before in
+    let if1 = put-word .before .before .before in
+    let entry = if1 .before .before in
+    let args = entry .args in
+    omega (
+      arith,
+      entry .pre,
+      comment-long (stateOf (args .kind) (args .comment)) (if1 .if1 .left),
+      put-word .put-word .ensures .ends,
+      put-decimal .put-decimal .ensures .ends,
+    ))
     (λ c. search needs)
-    (λ c. put-as (sym (comment-some (stateOf (c .before .before .before .before .before .before .before .before .before .before .before .before .before .before .before .args .kind) (c .before .before .before .before .before .before .before .before .before .before .before .before .before .before .before .args .comment)) (c .before .before .before .before .before .before .before .before .before .before .before .before .before .if1 .left))) (put-then (c .before .before .before .before .before .before .before .before .before .before .put-word .ensures) (put-then (c .before .before .before .before .before .before .put-decimal .ensures) (c .before .before .put-byte .ensures)))))
+    (λ c.
+    let put-byte = c .before .before in
+    let put-decimal = put-byte .before .before .before .before in
+    let put-word = put-decimal .before .before .before .before in
+    let if1 = put-word .before .before .before in
+    let entry = if1 .before .before in
+    let args = entry .args in
+    put-as (sym (comment-some (stateOf (args .kind) (args .comment)) (if1 .if1 .left)))
+    (put-then (put-word .put-word .ensures) (put-then (put-decimal .put-decimal .ensures) (put-byte .put-byte .ensures)))))

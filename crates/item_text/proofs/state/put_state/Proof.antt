@@ -14,6 +14,12 @@ put-state-spec =
     tie.close
     (tie.spec
     (λ c κs. omega (arith, c .before .before .pre, state-long (stateOf (c .before .before .args .kind) (c .before .before .args .comment))))
-    (λ c κs. omega (arith, c .before .before .before .before .before .before .pre, state-long (stateOf (c .before .before .before .before .before .before .args .kind) (c .before .before .before .before .before .before .args .comment)), c .before .before .before .put-kind .ensures .ends))
+    (λ c κs.
+    let put-kind = c .before .before .before in
+    let entry = put-kind .before .before .before in
+    let args = entry .args in
+    omega (arith, entry .pre, state-long (stateOf (args .kind) (args .comment)), put-kind .put-kind .ensures .ends))
     (λ c. search needs)
-    (λ c. put-as (sym (state-text _)) (put-then (c .before .before .before .before .before .before .put-kind .ensures) (c .before .before .put-comment .ensures))))
+    (λ c.
+    put-as (sym (state-text _))
+    (put-then (c .before .before .before .before .before .before .put-kind .ensures) (c .before .before .put-comment .ensures))))

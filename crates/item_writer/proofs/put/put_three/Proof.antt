@@ -16,15 +16,20 @@ put-requires-2 c κs =
 
 put-requires-3 : tie.Need-put-requires-3
 put-requires-3 c κs =
-    let pre = c .before .before .before .before .before .before .before .before .before .before .pre in
-    let first = c .before .before .before .before .before .before .before .put .ensures in
-    let second = c .before .before .before .put2 .ensures in
+    let put2 = c .before .before .before in
+    let put = put2 .before .before .before .before in
+    let entry = put .before .before .before in
+    let pre = entry .pre in
+    let first = put .put .ensures in
+    let second = put2 .put2 .ensures in
     (pre .0 .2, room-rest second _ (room-rest first _ (pre .1)))
 
 returns : tie.Need-returns
 returns c =
-    wrote-then (c .before .before .before .before .before .before .before .before .before .before .put .ensures)
-    (wrote-then (c .before .before .before .before .before .before .put2 .ensures) (c .before .before .put3 .ensures))
+    let put3 = c .before .before in
+    let put2 = put3 .before .before .before .before in
+    let put = put2 .before .before .before .before in
+    wrote-then (put .put .ensures) (wrote-then (put2 .put2 .ensures) (put3 .put3 .ensures))
 
 pub put-three-spec : {M : Type 1} → statement M
 put-three-spec = tie.close (tie.spec put-requires put-requires-2 put-requires-3 (λ c. search needs) returns)

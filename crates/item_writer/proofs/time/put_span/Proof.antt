@@ -10,34 +10,64 @@ use Rattle.item_writer.proofs.time.put_span.Tie as tie
 
 put-time-requires : tie.Need-put-time-requires
 put-time-requires c κs =
-    let number = c .before .before .before .args .number in
+    let entry = c .before .before .before in
+    let pre = entry .pre in
+    let number = entry .args .number in
     let start = c .start-of in
-    (span-parts number _ _ (start .ensures) refl (c .before .before .before .pre .0) .0, room-first _ _ (room-as (span-bits number _ _ (start .ensures) refl) (c .before .before .before .pre .1)))
+    (span-parts number _ _ (start .ensures) refl (pre .0) .0, room-first _ _ (room-as (span-bits number _ _ (start .ensures) refl) (pre .1)))
 
 put-time-requires-2 : tie.Need-put-time-requires-2
 put-time-requires-2 c κs =
-    let number = c .before .before .before .before .before .before .before .before .args .number in
-    let starts = c .before .before .before .before .before .start-of .ensures in
-    let ends = c .end-of .ensures in
-    (span-parts number _ _ starts ends (c .before .before .before .before .before .before .before .before .pre .0) .1, room-first _ _ (room-rest (c .before .before .before .before .put-time .ensures) _ (room-as (span-bits number _ _ starts ends) (c .before .before .before .before .before .before .before .before .pre .1))))
+    let put-time = c .before .before .before .before in
+    let start-of = put-time .before in
+    let entry = start-of .before .before .before in
+    let pre = entry .pre in
+    let number = entry .args .number in
+    let starts = start-of .start-of .ensures in
+    let ends = c .end-of .ensures in (
+      span-parts number _ _ starts ends (pre .0) .1,
+      room-first _ _ (room-rest (put-time .put-time .ensures) _ (room-as (span-bits number _ _ starts ends) (pre .1))),
+    )
 
 put-requires : tie.Need-put-requires
 put-requires c κs =
-    let whole = room-as (span-bits (c .before .before .before .before .before .before .before .before .before .before .before .before .args .number) _ _ (c .before .before .before .before .before .before .before .before .before .start-of .ensures) (c .before .before .before .before .end-of .ensures)) (c .before .before .before .before .before .before .before .before .before .before .before .before .pre .1) in
-    ((omega arith, omega arith), room-first _ _ (room-rest (c .before .before .before .put-time2 .ensures) _ (room-rest (c .before .before .before .before .before .before .before .before .put-time .ensures) _ whole)))
+    let put-time2 = c .before .before .before in
+    let end-of = put-time2 .before in
+    let put-time = end-of .before .before .before .before in
+    let start-of = put-time .before in
+    let entry = start-of .before .before .before in
+    let whole = room-as (span-bits (entry .args .number) _ _ (start-of .start-of .ensures) (end-of .end-of .ensures)) (entry .pre .1) in
+    ((omega arith, omega arith), room-first _ _ (room-rest (put-time2 .put-time2 .ensures) _ (room-rest (put-time .put-time .ensures) _ whole)))
 
 put-repeats-requires : tie.Need-put-repeats-requires
 put-repeats-requires c κs =
-    let number = c .before .before .before .before .before .before .before .before .before .before .before .before .before .before .before .before .args .number in
-    let starts = c .before .before .before .before .before .before .before .before .before .before .before .before .before .start-of .ensures in
-    let ends = c .before .before .before .before .before .before .before .before .end-of .ensures in
-    let whole = room-as (span-bits number _ _ starts ends) (c .before .before .before .before .before .before .before .before .before .before .before .before .before .before .before .before .pre .1) in
-    (span-parts number _ _ starts ends (c .before .before .before .before .before .before .before .before .before .before .before .before .before .before .before .before .pre .0) .2, room-rest (c .before .before .before .put .ensures) _ (room-rest (c .before .before .before .before .before .before .before .put-time2 .ensures) _ (room-rest (c .before .before .before .before .before .before .before .before .before .before .before .before .put-time .ensures) _ whole)))
+    let put = c .before .before .before in
+    let put-time2 = put .before .before .before .before in
+    let end-of = put-time2 .before in
+    let put-time = end-of .before .before .before .before in
+    let start-of = put-time .before in
+    let entry = start-of .before .before .before in
+    let pre = entry .pre in
+    let number = entry .args .number in
+    let starts = start-of .start-of .ensures in
+    let ends = end-of .end-of .ensures in
+    let whole = room-as (span-bits number _ _ starts ends) (pre .1) in (
+      span-parts number _ _ starts ends (pre .0) .2,
+      room-rest (put .put .ensures) _ (room-rest (put-time2 .put-time2 .ensures) _ (room-rest (put-time .put-time .ensures) _ whole)),
+    )
 
 returns : tie.Need-returns
 returns c =
-    wrote-as (span-bits (c .before .before .before .before .before .before .before .before .before .before .before .before .before .before .before .before .before .before .before .args .number) _ _ (c .before .before .before .before .before .before .before .before .before .before .before .before .before .before .before .before .start-of .ensures) (c .before .before .before .before .before .before .before .before .before .before .before .end-of .ensures))
-    (wrote-then (c .before .before .before .before .before .before .before .before .before .before .before .before .before .before .before .put-time .ensures) (wrote-then (c .before .before .before .before .before .before .before .before .before .before .put-time2 .ensures) (wrote-then (c .before .before .before .before .before .before .put .ensures) (c .before .before .put-repeats .ensures))))
+    let put-repeats = c .before .before in
+    let put = put-repeats .before .before .before .before in
+    let put-time2 = put .before .before .before .before in
+    let end-of = put-time2 .before in
+    let put-time = end-of .before .before .before .before in
+    let start-of = put-time .before in
+    let entry = start-of .before .before .before in
+    wrote-as (span-bits (entry .args .number) _ _ (start-of .start-of .ensures) (end-of .end-of .ensures))
+    (wrote-then (put-time .put-time .ensures)
+    (wrote-then (put-time2 .put-time2 .ensures) (wrote-then (put .put .ensures) (put-repeats .put-repeats .ensures))))
 
 pub put-span-spec : {M : Type 1} → statement M
 put-span-spec =

@@ -8,25 +8,44 @@ use Rattle.item_writer.proofs.time.put_time.Statement.{statement}
 use Rattle.item_writer.proofs.time.put_time.Tie as tie
 
 put-requires : tie.Need-put-requires
-put-requires c κs = ((omega arith, omega arith), room-first _ _ (room-as (fixed-bits (c .before .before .before .args .number) (c .before .if1 .taken)) (c .before .before .before .pre .1)))
+put-requires c κs =
+    let entry = c .before .before .before in
+    ((omega arith, omega arith), room-first _ _ (room-as (fixed-bits (entry .args .number) (c .before .if1 .taken)) (entry .pre .1)))
 
 put-requires-2 : tie.Need-put-requires-2
 put-requires-2 c κs =
-    let early = c .before .before .before .before .before .if1 .taken in
-    let number = c .before .before .before .before .before .before .before .args .number in
-    ((omega arith, fixed-low number early (c .before .before .before .before .before .before .before .pre .0)), room-rest (c .before .before .before .put .ensures) _ (room-as (fixed-bits number early) (c .before .before .before .before .before .before .before .pre .1)))
+    let put = c .before .before .before in
+    let if1 = put .before .before in
+    let entry = if1 .before .before in
+    let pre = entry .pre in
+    let early = if1 .if1 .taken in
+    let number = entry .args .number in
+    ((omega arith, fixed-low number early (pre .0)), room-rest (put .put .ensures) _ (room-as (fixed-bits number early) (pre .1)))
 
 returns : tie.Need-returns
-returns c = wrote-as (fixed-bits (c .before .before .before .before .before .before .before .before .before .before .args .number) (c .before .before .before .before .before .before .before .before .if1 .taken)) (wrote-then (c .before .before .before .before .before .before .put .ensures) (c .before .before .put2 .ensures))
+returns c =
+    let put2 = c .before .before in
+    let put = put2 .before .before .before .before in
+    let if1 = put .before .before in
+    let entry = if1 .before .before in
+    wrote-as (fixed-bits (entry .args .number) (if1 .if1 .taken)) (wrote-then (put .put .ensures) (put2 .put2 .ensures))
 
 put-three-requires : tie.Need-put-three-requires
 put-three-requires c κs =
+    let entry = c .before .before .before in
+    let pre = entry .pre in
     let late = c .before .if1 .left in
-    let number = c .before .before .before .args .number in
-    (((omega arith, omega arith), (omega arith, variable-low number late (c .before .before .before .pre .0)), (omega arith, omega arith)), room-as (variable-bits number late) (c .before .before .before .pre .1))
+    let number = entry .args .number in (
+      ((omega arith, omega arith), (omega arith, variable-low number late (pre .0)), (omega arith, omega arith)),
+      room-as (variable-bits number late) (pre .1),
+    )
 
 returns-2 : tie.Need-returns-2
-returns-2 c = wrote-as (variable-bits (c .before .before .before .before .before .before .args .number) (c .before .before .before .before .if1 .left)) (c .before .before .put-three .ensures)
+returns-2 c =
+    let put-three = c .before .before in
+    let if1 = put-three .before .before in
+    let entry = if1 .before .before in
+    wrote-as (variable-bits (entry .args .number) (if1 .if1 .left)) (put-three .put-three .ensures)
 
 pub put-time-spec : {M : Type 1} → statement M
 put-time-spec =

@@ -67,25 +67,68 @@ check-columns-μ-loop cells sizes marks value dimension node base width column�
 
 pub +check-columns+check-predicate-spec : {M : Type 1} → statement M
 +check-columns+check-predicate-spec =
-    close μ-check-columns μ-check-predicate (λ t. check-columns-lts.spec (check-cells-reads.Asked, check-cells-reads.Learnt, check-predicate-below t, check-predicate.Post)
+    close μ-check-columns μ-check-predicate
+    (λ t. check-columns-lts.spec (check-cells-reads.Asked, check-cells-reads.Learnt, check-predicate-below t, check-predicate.Post)
     (check-columns-at t)
     check-columns.Post
     check-columns-Inv-loop
     check-columns-μ-loop
-    (λ c. omega (arith, room-row _ _ _ _ _ _ _ (c .before .before .before .before .pre .1 .1 .0) (c .before .before .before .before .pre .1 .0), c .before .before .before .before .good))
-    (λ c κs. (omega (arith, room-row _ _ _ _ _ _ _ (c .before .before .before .before .pre .1 .1 .0) (c .before .before .before .before .pre .1 .0)), omega (arith, room-marks _ _ _ _ _ _ _ (c .before .before .before .before .pre .1 .1 .0) (c .before .before .before .before .pre .1 .0))))
+    (λ c.
+    let entry = c .before .before .before .before in
+    let pre = entry .pre in
+    omega (arith, room-row _ _ _ _ _ _ _ (pre .1 .1 .0) (pre .1 .0), entry .good))
+    (λ c κs.
+    let entry = c .before .before .before .before in
+    let pre = entry .pre in
+    (omega (arith, room-row _ _ _ _ _ _ _ (pre .1 .1 .0) (pre .1 .0)), omega (arith, room-marks _ _ _ _ _ _ _ (pre .1 .1 .0) (pre .1 .0))))
     (λ c. check-cells _ _ _ _ _ _ _ _ _ (c .before .if1 .taken) (c .before .before .before .before .before .pre .1 .1 .0) (c .check-cells .ensures))
     (λ c. refl)
-    (λ c. omega (arith, room-marks _ _ _ _ _ _ _ (c .before .before .before .before .before .before .pre .1 .1 .0) (c .before .before .before .before .before .before .pre .1 .0), c .before .before .before .before .before .before .good))
-    (λ c. omega (arith, room-marks _ _ _ _ _ _ _ (c .before .before .before .before .before .before .before .pre .1 .1 .0) (c .before .before .before .before .before .before .before .pre .1 .0)))
-    (λ c. omega (arith, room-node _ _ _ _ _ _ (room-child _ _ _ _ _ _ _ _ (c .before .before .before .before .before .before .before .before .pre .1 .1 .0) (c .before .before .loop-test .taken) (c .before .before .before .before .before .before .before .before .pre .1 .0)), c .before .before .before .before .before .before .before .before .good))
-    (λ c. omega (arith, room-node _ _ _ _ _ _ (room-child _ _ _ _ _ _ _ _ (c .before .before .before .before .before .before .before .before .pre .1 .1 .0) (c .before .before .loop-test .taken) (c .before .before .before .before .before .before .before .before .pre .1 .0)), c .before .before .before .before .before .before .before .before .good))
-    (λ c. omega (arith, room-marks _ _ _ _ _ _ _ (c .before .before .before .before .before .before .before .before .pre .1 .1 .0) (c .before .before .before .before .before .before .before .before .pre .1 .0), c .before .before .before .before .before .before .before .before .good))
-    (λ c κs. (omega (arith, c .before .before .before .before .before .before .before .before .pre .0), room-child _ _ _ _ _ _ _ _ (c .before .before .before .before .before .before .before .before .pre .1 .1 .0) (c .before .before .loop-test .taken) (c .before .before .before .before .before .before .before .before .pre .1 .0)))
-    (λ c. columns-no _ _ _ _ _ _ _ _ _ (c .before .before .before .before .before .before .before .before .before .before .pre .1 .1 .0) (c .before .before .before .before .loop-test .taken) (c .before .before .if2 .taken) _ (c .before .check-predicate .ensures) (not-true _ (c .if3 .taken)) ∙ c .before .before .before .before .before .loop .inv)
-    (λ c. omega (arith, c .before .before .loop-test .taken, c .before .before .before .before .before .before .before .before .pre .1 .1 .1))
+    (λ c.
+    let entry = c .before .before .before .before .before .before in
+    let pre = entry .pre in
+    omega (arith, room-marks _ _ _ _ _ _ _ (pre .1 .1 .0) (pre .1 .0), entry .good))
+    (λ c.
+    let entry = c .before .before .before .before .before .before .before in
+    let pre = entry .pre in
+    omega (arith, room-marks _ _ _ _ _ _ _ (pre .1 .1 .0) (pre .1 .0)))
+    (λ c.
+    let turn = c .before .before in
+    let entry = turn .before .before .before .before .before .before in
+    let pre = entry .pre in
+    omega (arith, room-node _ _ _ _ _ _ (room-child _ _ _ _ _ _ _ _ (pre .1 .1 .0) (turn .loop-test .taken) (pre .1 .0)), entry .good))
+    (λ c.
+    let turn = c .before .before in
+    let entry = turn .before .before .before .before .before .before in
+    let pre = entry .pre in
+    omega (arith, room-node _ _ _ _ _ _ (room-child _ _ _ _ _ _ _ _ (pre .1 .1 .0) (turn .loop-test .taken) (pre .1 .0)), entry .good))
+    (λ c.
+    let entry = c .before .before .before .before .before .before .before .before in
+    let pre = entry .pre in
+    omega (arith, room-marks _ _ _ _ _ _ _ (pre .1 .1 .0) (pre .1 .0), entry .good))
+    (λ c κs.
+    let turn = c .before .before in
+    let entry = turn .before .before .before .before .before .before in
+    let pre = entry .pre in
+    (omega (arith, pre .0), room-child _ _ _ _ _ _ _ _ (pre .1 .1 .0) (turn .loop-test .taken) (pre .1 .0)))
+    (λ c.
+    let if2 = c .before .before in
+    let turn = if2 .before .before in
+    let loop = turn .before in
+    let entry = loop .before .before .before .before .before in
+    columns-no _ _ _ _ _ _ _ _ _ (entry .pre .1 .1 .0) (turn .loop-test .taken) (if2 .if2 .taken) _ (c .before .check-predicate .ensures)
+    (not-true _ (c .if3 .taken)) ∙ loop .loop .inv)
+    (λ c.
+    let turn = c .before .before in
+    let entry = turn .before .before .before .before .before .before in
+    omega (arith, turn .loop-test .taken, entry .pre .1 .1 .1))
     (λ c. omega (arith, c .before .before .loop-test .taken))
-    (λ c. ⊎-elim (λ w. columns-yes _ _ _ _ _ _ _ _ _ (c .before .before .before .before .before .before .before .before .pre .1 .1 .0) (c .before .before .loop-test .taken) (w .0 .taken) _ (w .1 .ensures) (not-false _ (w .2 .left))) (λ w. columns-out _ _ _ _ _ _ _ _ _ (c .before .before .before .before .before .before .before .before .pre .1 .1 .0) (c .before .before .loop-test .taken) (w .left)) (c .if2 .came) ∙ c .before .before .before .loop .inv)
+    (λ c.
+    let turn = c .before .before in
+    let loop = turn .before in
+    let entry = loop .before .before .before .before .before in
+    let pre = entry .pre in
+    ⊎-elim (λ w. columns-yes _ _ _ _ _ _ _ _ _ (pre .1 .1 .0) (turn .loop-test .taken) (w .0 .taken) _ (w .1 .ensures) (not-false _ (w .2 .left)))
+    (λ w. columns-out _ _ _ _ _ _ _ _ _ (pre .1 .1 .0) (turn .loop-test .taken) (w .left)) (c .if2 .came) ∙ loop .loop .inv)
     (λ c. columns-end _ _ _ _ _ _ _ _ _ (c .before .before .before .before .before .before .pre .1 .1 .0) (c .loop-test .left) ∙ c .before .loop .inv))
     λ t. check-predicate-lts.spec
     (wide-reads.Asked, wide-reads.Learnt, check-columns-below t, check-columns.Post)
@@ -98,5 +141,16 @@ pub +check-columns+check-predicate-spec : {M : Type 1} → statement M
     (λ c. search needs)
     (λ c. omega (arith, c .before .before .before .before .before .pre .1 .column .dims, c .before .if1 .left))
     (λ c κs. search needs)
-    (λ c κs. let a = c .before .before .before .before .before .before .args in let e : a .left ≡ suc (a .left - 1) = omega (arith, c .before .before .if1 .left) in (omega (arith, c .before .before .before .before .before .before .pre .0), (room-at _ _ _ _ _ _ _ e (c .before .before .before .before .before .before .pre .1), c .wide .ensures)))
-    (λ c. let a = c .before .before .before .before .before .before .before .args in let e : a .left ≡ suc (a .left - 1) = omega (arith, c .before .before .before .if1 .left) in check-node _ _ _ _ _ _ _ _ _ e (c .check-columns .ensures))
+    (λ c κs.
+    let if1 = c .before .before in
+    let entry = if1 .before .before .before .before in
+    let a = entry .args in
+    let pre = entry .pre in
+    let e : a .left ≡ suc (a .left - 1) = omega (arith, if1 .if1 .left) in
+    (omega (arith, pre .0), (room-at _ _ _ _ _ _ _ e (pre .1), c .wide .ensures)))
+    (λ c.
+    let if1 = c .before .before .before in
+    let entry = if1 .before .before .before .before in
+    let a = entry .args in
+    let e : a .left ≡ suc (a .left - 1) = omega (arith, if1 .if1 .left) in
+    check-node _ _ _ _ _ _ _ _ _ e (c .check-columns .ensures))

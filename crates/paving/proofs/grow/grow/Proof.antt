@@ -15,7 +15,9 @@ use Rattle.paving.proofs.grow.grow.Tie as tie
 abbrev Inv-loop : tie.InvT-loop
 Inv-loop cells sizes marks₀ value dimension node base width column₀ marks column =
     (length marks ≡ length marks₀)
-    × (paint (goodAt cells sizes dimension node marks base value) base column (width - column) marks ≡ paint (goodAt cells sizes dimension node marks₀ base value) base 0 width marks₀)
+    ×
+    (paint (goodAt cells sizes dimension node marks base value) base column (width - column) marks
+    ≡ paint (goodAt cells sizes dimension node marks₀ base value) base 0 width marks₀)
 
 abbrev μ-loop : tie.MeasureT-loop
 μ-loop cells sizes marks₀ value dimension node base width column₀ marks column = width - column
@@ -32,47 +34,62 @@ grow-cells-requires c κs =
 
 returns : tie.Need-returns Inv-loop μ-loop
 returns c =
-    let start = c .before .before .before .before .before .before .before .before in
-    grow-cells _ _ _ _ _ _ _ _ _ (c .before .before .before .before .if1 .taken) (start .pre .1 .0) (c .before .before .grow-cells .ensures)
+    let at-grow-cells = c .before .before in
+    let if1 = at-grow-cells .before .before in
+    let start = if1 .before .before .before .before in
+    grow-cells _ _ _ _ _ _ _ _ _ (if1 .if1 .taken) (start .pre .1 .0) (at-grow-cells .grow-cells .ensures)
 
 mul-is-val : tie.Need-mul-is-val Inv-loop μ-loop
 mul-is-val c =
     let start = c .before .before .before .before .before .before .before in
-    omega (arith, room-node _ _ _ _ _ _ (room-child _ _ _ _ _ _ _ _ (start .pre .1 .0) (c .before .loop-test .taken) (start .pre .0)), start .good)
+    let pre = start .pre in
+    omega (arith, room-node _ _ _ _ _ _ (room-child _ _ _ _ _ _ _ _ (pre .1 .0) (c .before .loop-test .taken) (pre .0)), start .good)
 
 add-is-val : tie.Need-add-is-val Inv-loop μ-loop
 add-is-val c =
     let start = c .before .before .before .before .before .before .before in
-    omega (arith, room-node _ _ _ _ _ _ (room-child _ _ _ _ _ _ _ _ (start .pre .1 .0) (c .before .loop-test .taken) (start .pre .0)), start .good)
+    let pre = start .pre in
+    omega (arith, room-node _ _ _ _ _ _ (room-child _ _ _ _ _ _ _ _ (pre .1 .0) (c .before .loop-test .taken) (pre .0)), start .good)
 
 add-is-val-2 : tie.Need-add-is-val-2 Inv-loop μ-loop
 add-is-val-2 c =
     let start = c .before .before .before .before .before .before .before in
-    omega (arith, room-marks _ _ _ _ _ _ _ (start .pre .1 .0) (start .pre .0), start .good)
+    let pre = start .pre in
+    omega (arith, room-marks _ _ _ _ _ _ _ (pre .1 .0) (pre .0), start .good)
 
 is-val-requires : tie.Need-is-val-requires Inv-loop μ-loop
 is-val-requires c κs =
-    let start = c .before .before .before .before .before .before .before in
-    room-child _ _ _ _ _ _ _ _ (start .pre .1 .0) (c .before .loop-test .taken) (room-len₂ _ _ _ _ _ _ _ (c .before .before .loop .inv .0) (start .pre .0))
+    let loop = c .before .before in
+    let start = loop .before .before .before .before .before in
+    let pre = start .pre in
+    room-child _ _ _ _ _ _ _ _ (pre .1 .0) (c .before .loop-test .taken) (room-len₂ _ _ _ _ _ _ _ (loop .loop .inv .0) (pre .0))
 
 add-marks : tie.Need-add-marks Inv-loop μ-loop
 add-marks c =
     let start = c .before .before .before .before .before .before .before .before .before in
-    omega (arith, room-marks _ _ _ _ _ _ _ (start .pre .1 .0) (start .pre .0), start .good)
+    let pre = start .pre in
+    omega (arith, room-marks _ _ _ _ _ _ _ (pre .1 .0) (pre .0), start .good)
 
 slice-write-marks : tie.Need-slice-write-marks Inv-loop μ-loop
 slice-write-marks c =
-    let start = c .before .before .before .before .before .before .before .before .before in
-    omega (arith, room-marks _ _ _ _ _ _ _ (start .pre .1 .0) (start .pre .0), c .before .before .before .before .loop .inv .0)
+    let loop = c .before .before .before .before in
+    let start = loop .before .before .before .before .before in
+    let pre = start .pre in
+    omega (arith, room-marks _ _ _ _ _ _ _ (pre .1 .0) (pre .0), loop .loop .inv .0)
 
 loop-again : tie.Need-loop-again Inv-loop μ-loop
 loop-again c =
-    let start = c .before .before .before .before .before .before .before .before .before in
-    let old = c .before .before .before .before .loop in
-    (simp length-set (old .inv .0), grow-in _ _ _ _ _ _ _ _ (start .pre .1 .0) _ _ _ (omega arith) (c .before .is-val .ensures) (c .bit .ensures) ∙ old .inv .1)
+    let loop = c .before .before .before .before in
+    let start = loop .before .before .before .before .before in
+    let old = loop .loop in (
+      simp length-set (old .inv .0),
+      grow-in _ _ _ _ _ _ _ _ (start .pre .1 .0) _ _ _ (omega arith) (c .before .is-val .ensures) (c .bit .ensures) ∙ old .inv .1,
+    )
 
 pub grow-spec : {M : Type 1} → statement M
 grow-spec =
     tie.close
-    (tie.spec Inv-loop μ-loop mul-grow-cells grow-cells-requires (λ c. c .before .before .grow-cells .kept .1 .0) returns (λ c. (refl, paint-all _ _ _ _)) mul-is-val add-is-val add-is-val-2 is-val-requires
-    (λ c κs. search needs) add-marks slice-write-marks (λ c. omega arith) (λ c. omega arith) loop-again (λ c. c .before .loop .inv .0) (λ c. paint-end _ _ _ _ _ (omega arith) ∙ c .before .loop .inv .1))
+    (tie.spec Inv-loop μ-loop mul-grow-cells grow-cells-requires (λ c. c .before .before .grow-cells .kept .1 .0) returns
+    (λ c. (refl, paint-all _ _ _ _)) mul-is-val add-is-val add-is-val-2 is-val-requires
+    (λ c κs. search needs) add-marks slice-write-marks (λ c. omega arith) (λ c. omega arith) loop-again (λ c. c .before .loop .inv .0)
+    (λ c. paint-end _ _ _ _ _ (omega arith) ∙ c .before .loop .inv .1))

@@ -17,8 +17,11 @@ abbrev μ-loop : tie.MeasureT-loop
 
 mul-size : tie.Need-mul-size Inv-loop μ-loop
 mul-size c =
-    let start = c .before .before .before .before .before in
-    omega (arith, size-fits _ _ _ _ _ (start .pre .1) (c .before .before .loop-test .taken) (c .before .before .before .loop .inv .1) (c .wide .ensures .0), start .pre .2)
+    let turn = c .before .before in
+    let loop = turn .before in
+    let start = loop .before .before in
+    let pre = start .pre in
+    omega (arith, size-fits _ _ _ _ _ (pre .1) (turn .loop-test .taken) (loop .loop .inv .1) (c .wide .ensures .0), pre .2)
 
 loop-again : tie.Need-loop-again Inv-loop μ-loop
 loop-again c = (omega arith, size-next _ _ _ _ (c .before .before .before .loop .inv .1) (c .wide .ensures .0))
@@ -32,4 +35,5 @@ returns c =
 pub size-of-spec : {M : Type 1} → statement M
 size-of-spec =
     tie.close
-    (tie.spec Inv-loop μ-loop (λ c. (omega arith, size-none _)) (λ c. search needs) (λ c. omega arith) (λ c κs. search needs) mul-size (λ c. omega arith) (λ c. omega arith) loop-again returns)
+    (tie.spec Inv-loop μ-loop (λ c. (omega arith, size-none _)) (λ c. search needs) (λ c. omega arith) (λ c κs. search needs) mul-size
+    (λ c. omega arith) (λ c. omega arith) loop-again returns)

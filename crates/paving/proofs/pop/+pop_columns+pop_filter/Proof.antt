@@ -57,31 +57,114 @@ abbrev pop-columns-μ-loop : pop-columns-lts.MeasureT-loop
 pop-columns-μ-loop cells kinds sizes marks₀ class dimension node base width first child column₀ marks column = width - column
 
 pub +pop-columns+pop-filter-spec : {M : Type 1} → statement M
-+pop-columns+pop-filter-spec = close μ-pop-columns μ-pop-filter (λ t. pop-columns-lts.spec (column-of-reads.Asked, column-of-reads.Learnt, first-cell-reads.Asked, first-cell-reads.Learnt, pop-filter-below t, pop-filter.Post)
++pop-columns+pop-filter-spec =
+    close μ-pop-columns μ-pop-filter
+    (λ t.
+    pop-columns-lts.spec (
+      column-of-reads.Asked,
+      column-of-reads.Learnt,
+      first-cell-reads.Asked,
+      first-cell-reads.Learnt,
+      pop-filter-below t,
+      pop-filter.Post,
+    )
     (pop-columns-at t)
     pop-columns.Post
     pop-columns-Inv-loop
     pop-columns-μ-loop
-    (λ c. omega (arith, room-row _ _ _ _ _ _ _ (c .before .before .before .before .pre .1 .1 .0) (c .before .before .before .before .pre .1 .0), c .before .before .before .before .good))
-    (λ c κs. let place = room-place _ _ _ _ _ _ _ (c .before .before .before .before .pre .1 .1 .0) (c .before .before .before .before .pre .1 .0) in (place .0, place .1, omega (arith, place .2, c .before .before .before .before .good)))
-    (λ c. omega (arith, room-row _ _ _ _ _ _ _ (c .before .before .before .before .before .before .pre .1 .1 .0) (c .before .before .before .before .before .before .pre .1 .0), c .before .column-of .ensures .0, c .before .before .before .before .before .before .good))
-    (λ c. omega (arith, room-row _ _ _ _ _ _ _ (c .before .before .before .before .before .before .pre .1 .1 .0) (c .before .before .before .before .before .before .pre .1 .0), c .before .before .before .before .before .before .good))
-    (λ c κs. (omega (arith, c .before .column-of .ensures .0), omega (arith, room-row _ _ _ _ _ _ _ (c .before .before .before .before .before .before .pre .1 .1 .0) (c .before .before .before .before .before .before .pre .1 .0))))
-    (λ c. pop-cells _ _ _ _ _ _ _ _ _ _ _ (c .before .if1 .taken) (c .before .before .before .before .before .before .before .pre .1 .1 .0) (skips _ _ _ _ _ (c .before .before .before .before .before .before .before .pre .1 .1 .2) _ _ _ _ (c .before .before .before .before .before .before .before .pre .1 .1 .0) (c .before .before .column-of .ensures .0) (c .before .before .column-of .ensures .1)) (c .first-cell .ensures))
-    (λ c. (skips _ _ _ _ _ (c .before .before .before .before .before .before .pre .1 .1 .2) _ _ _ _ (c .before .before .before .before .before .before .pre .1 .1 .0) (c .before .column-of .ensures .0) (c .before .column-of .ensures .1), refl))
-    (λ c. omega (arith, room-node _ _ _ _ _ _ (room-child _ _ _ _ _ _ _ _ (c .before .before .before .before .before .before .before .before .before .pre .1 .1 .0) (c .before .loop-test .taken) (c .before .before .before .before .before .before .before .before .before .pre .1 .0)), c .before .before .before .before .before .before .before .before .before .good))
-    (λ c. omega (arith, room-marks _ _ _ _ _ _ _ (c .before .before .before .before .before .before .before .before .before .pre .1 .1 .0) (c .before .before .before .before .before .before .before .before .before .pre .1 .0), c .before .before .before .before .before .before .before .before .before .good))
-    (λ c κs. (omega (arith, c .before .before .before .before .before .before .before .before .before .pre .0), (room-len₂ _ _ _ _ _ _ _ (ap length (c .before .before .loop .inv .1)) (room-child _ _ _ _ _ _ _ _ (c .before .before .before .before .before .before .before .before .before .pre .1 .1 .0) (c .before .loop-test .taken) (c .before .before .before .before .before .before .before .before .before .pre .1 .0)), c .before .before .before .before .before .before .before .before .before .pre .1 .1 .2)))
+    (λ c.
+    let entry = c .before .before .before .before in
+    let pre = entry .pre in
+    omega (arith, room-row _ _ _ _ _ _ _ (pre .1 .1 .0) (pre .1 .0), entry .good))
+    (λ c κs.
+    let entry = c .before .before .before .before in
+    let pre = entry .pre in
+    let place = room-place _ _ _ _ _ _ _ (pre .1 .1 .0) (pre .1 .0) in
+    (place .0, place .1, omega (arith, place .2, entry .good)))
+    (λ c.
+    let entry = c .before .before .before .before .before .before in
+    let pre = entry .pre in
+    omega (arith, room-row _ _ _ _ _ _ _ (pre .1 .1 .0) (pre .1 .0), c .before .column-of .ensures .0, entry .good))
+    (λ c.
+    let entry = c .before .before .before .before .before .before in
+    let pre = entry .pre in
+    omega (arith, room-row _ _ _ _ _ _ _ (pre .1 .1 .0) (pre .1 .0), entry .good))
+    (λ c κs.
+    let entry = c .before .before .before .before .before .before in
+    let pre = entry .pre in
+    (omega (arith, c .before .column-of .ensures .0), omega (arith, room-row _ _ _ _ _ _ _ (pre .1 .1 .0) (pre .1 .0))))
+    (λ c.
+    let column-of = c .before .before in
+    let entry = column-of .before .before .before .before .before in
+    let pre = entry .pre in
+    pop-cells _ _ _ _ _ _ _ _ _ _ _ (c .before .if1 .taken) (pre .1 .1 .0)
+    (skips _ _ _ _ _ (pre .1 .1 .2) _ _ _ _ (pre .1 .1 .0) (column-of .column-of .ensures .0) (column-of .column-of .ensures .1))
+    (c .first-cell .ensures))
+    (λ c.
+    let entry = c .before .before .before .before .before .before in
+    let pre = entry .pre in
+    (skips _ _ _ _ _ (pre .1 .1 .2) _ _ _ _ (pre .1 .1 .0) (c .before .column-of .ensures .0) (c .before .column-of .ensures .1), refl))
+    (λ c.
+    let entry = c .before .before .before .before .before .before .before .before .before in
+    let pre = entry .pre in
+    omega (arith, room-node _ _ _ _ _ _ (room-child _ _ _ _ _ _ _ _ (pre .1 .1 .0) (c .before .loop-test .taken) (pre .1 .0)), entry .good))
+    (λ c.
+    let entry = c .before .before .before .before .before .before .before .before .before in
+    let pre = entry .pre in
+    omega (arith, room-marks _ _ _ _ _ _ _ (pre .1 .1 .0) (pre .1 .0), entry .good))
+    (λ c κs.
+    let loop = c .before .before in
+    let entry = loop .before .before .before .before .before .before .before in
+    let pre = entry .pre in (
+      omega (arith, pre .0),
+      (
+        room-len₂ _ _ _ _ _ _ _ (ap length (loop .loop .inv .1)) (room-child _ _ _ _ _ _ _ _ (pre .1 .1 .0) (c .before .loop-test .taken) (pre .1 .0)),
+        pre .1 .1 .2,
+      ),
+    ))
     (λ c. search needs)
-    (λ c. c .before .before .before .before .before .pop-filter .kept .1 .1 .1 .0 ∙ ap length (c .before .before .before .before .before .before .before .before .loop .inv .1))
-    (λ c. found-first _ _ _ _ _ _ _ _ _ (c .before .before .before .before .before .before .before .before .loop .inv .0) (c .before .before .before .before .before .before .before .before .loop .inv .1) (pop-columns-hit _ _ _ _ _ _ _ _ _ (c .before .before .before .before .before .before .before .before .before .before .before .before .before .before .before .pre .1 .1 .0) _ _ _ (c .before .before .before .before .before .before .before .loop-test .taken) (c .before .before .before .before .before .pop-filter .ensures .0) (c .before .before .before .before .before .pop-filter .ensures .1) _ (c .before .found .given .1)))
+    (λ c.
+    let at-pop-filter = c .before .before .before .before .before in
+    let loop = at-pop-filter .before .before .before in
+    at-pop-filter .pop-filter .kept .1 .1 .1 .0 ∙ ap length (loop .loop .inv .1))
+    (λ c.
+    let at-pop-filter = c .before .before .before .before .before in
+    let turn = at-pop-filter .before .before in
+    let loop = turn .before in
+    let entry = loop .before .before .before .before .before .before .before in
+    found-first _ _ _ _ _ _ _ _ _ (loop .loop .inv .0) (loop .loop .inv .1)
+    (pop-columns-hit _ _ _ _ _ _ _ _ _ (entry .pre .1 .1 .0) _ _ _ (turn .loop-test .taken) (at-pop-filter .pop-filter .ensures .0)
+    (at-pop-filter .pop-filter .ensures .1) _ (c .before .found .given .1)))
     (λ c. search needs)
-    (λ c. omega (arith, c .before .before .before .before .before .before .loop-test .taken, c .before .before .before .before .before .before .before .before .before .before .before .before .before .before .pre .1 .1 .1))
+    (λ c.
+    let turn = c .before .before .before .before .before .before in
+    let entry = turn .before .before .before .before .before .before .before .before in
+    omega (arith, turn .loop-test .taken, entry .pre .1 .1 .1))
     (λ c. omega (arith, c .before .before .before .before .before .before .loop-test .taken))
-    (λ c. let miss = pop-columns-miss _ _ _ _ _ _ _ _ _ (c .before .before .before .before .before .before .before .before .before .before .before .before .before .before .pre .1 .1 .0) _ _ _ (c .before .before .before .before .before .before .loop-test .taken) (c .before .before .before .before .pop-filter .ensures .0) (c .before .before .before .before .pop-filter .ensures .1) (c .enum-told .given .1) in (miss .0 ∙ c .before .before .before .before .before .before .before .loop .inv .0, miss .1 ∙ c .before .before .before .before .before .before .before .loop .inv .1))
+    (λ c.
+    let at-pop-filter = c .before .before .before .before in
+    let turn = at-pop-filter .before .before in
+    let loop = turn .before in
+    let entry = loop .before .before .before .before .before .before .before in
+    let miss = pop-columns-miss _ _ _ _ _ _ _ _ _ (entry .pre .1 .1 .0) _ _ _ (turn .loop-test .taken) (at-pop-filter .pop-filter .ensures .0)
+    (at-pop-filter .pop-filter .ensures .1) (c .enum-told .given .1) in
+    (miss .0 ∙ loop .loop .inv .0, miss .1 ∙ loop .loop .inv .1))
     (λ c. ap length (c .before .loop .inv .1))
-    (λ c. found-first _ _ _ _ _ _ _ _ _ (c .before .loop .inv .0) (c .before .loop .inv .1) (pop-columns-end _ _ _ _ _ _ _ _ _ (c .before .before .before .before .before .before .before .before .pre .1 .1 .0) _ (c .loop-test .left))))
-    λ t. pop-filter-lts.spec (in-class-reads.Asked, in-class-reads.Learnt, wide-reads.Asked, wide-reads.Learnt, pop-columns-below t, pop-columns.Post, grow-reads.Asked, grow-reads.Learnt)
+    (λ c.
+    let entry = c .before .before .before .before .before .before .before .before in
+    found-first _ _ _ _ _ _ _ _ _ (c .before .loop .inv .0) (c .before .loop .inv .1)
+    (pop-columns-end _ _ _ _ _ _ _ _ _ (entry .pre .1 .1 .0) _ (c .loop-test .left))))
+    λ t.
+    pop-filter-lts.spec (
+      in-class-reads.Asked,
+      in-class-reads.Learnt,
+      wide-reads.Asked,
+      wide-reads.Learnt,
+      pop-columns-below t,
+      pop-columns.Post,
+      grow-reads.Asked,
+      grow-reads.Learnt,
+    )
     (pop-filter-at t)
     pop-filter.Post
     (λ c. omega (arith, room-node _ _ _ _ _ _ (c .before .before .before .before .before .pre .1 .0), c .before .before .before .before .before .good))
@@ -93,11 +176,43 @@ pub +pop-columns+pop-filter-spec : {M : Type 1} → statement M
     (λ c. search needs)
     (λ c. omega (arith, c .before .before .before .before .before .before .pre .1 .0 .column .dims, c .before .if1 .left))
     (λ c κs. search needs)
-    (λ c κs. let a = c .before .before .before .before .before .before .before .before .args in let e : a .left ≡ suc (a .left - 1) = omega (arith, c .before .before .before .if1 .left) in (omega (arith, c .before .before .before .before .before .before .before .before .pre .0), (room-at _ _ _ _ _ _ _ e (c .before .before .before .before .before .before .before .before .pre .1 .0), (c .before .wide .ensures .0, c .before .wide .ensures .1, c .before .before .before .before .before .before .before .before .pre .1 .1))))
+    (λ c κs.
+    let if1 = c .before .before .before in
+    let entry = if1 .before .before .before .before .before in
+    let a = entry .args in
+    let pre = entry .pre in
+    let e : a .left ≡ suc (a .left - 1) = omega (arith, if1 .if1 .left) in
+    (omega (arith, pre .0), (room-at _ _ _ _ _ _ _ e (pre .1 .0), (c .before .wide .ensures .0, c .before .wide .ensures .1, pre .1 .1))))
     (λ c. search needs)
-    (λ c κs. let a = c .before .before .before .before .before .before .before .before .before .before .before .before .before .before .before .args in let e : a .left ≡ suc (a .left - 1) = omega (arith, c .before .before .before .before .before .before .before .before .before .before .if1 .left) in (room-len₂ _ _ _ _ _ _ _ (c .before .before .before .before .before .before .pop-columns .kept .1 .1 .1 .0) (room-at _ _ _ _ _ _ _ e (c .before .before .before .before .before .before .before .before .before .before .before .before .before .before .before .pre .1 .0)), c .before .before .before .before .before .before .before .before .wide .ensures))
+    (λ c κs.
+    let at-pop-columns = c .before .before .before .before .before .before in
+    let wide = at-pop-columns .before .before in
+    let if1 = wide .before .before in
+    let entry = if1 .before .before .before .before .before in
+    let a = entry .args in
+    let e : a .left ≡ suc (a .left - 1) = omega (arith, if1 .if1 .left) in
+    (room-len₂ _ _ _ _ _ _ _ (at-pop-columns .pop-columns .kept .1 .1 .1 .0) (room-at _ _ _ _ _ _ _ e (entry .pre .1 .0)), wide .wide .ensures))
     (λ c. search needs)
     (λ c. search needs)
-    (λ c. let a = c .before .before .before .before .before .before .before .before .before .before .before .before .before .before .before .before .before .before .args in let e : a .left ≡ suc (a .left - 1) = omega (arith, c .before .before .before .before .before .before .before .before .before .before .before .before .before .if1 .left) in pop-node-some _ _ _ _ _ _ _ _ _ e (c .before .before .before .before .before .before .before .before .before .before .before .wide .ensures .0) _ _ _ (c .before .before .before .before .before .before .before .before .before .pop-columns .ensures .0) (c .before .before .before .before .before .before .before .before .before .pop-columns .ensures .1) _ _ (c .before .before .before .before .before .found .given .1) (room-width _ _ _ _ _ _ _ (c .before .before .before .before .before .before .before .before .before .before .before .wide .ensures .0) (room-at _ _ _ _ _ _ _ e (c .before .before .before .before .before .before .before .before .before .before .before .before .before .before .before .before .before .before .pre .1 .0))) (c .before .before .grow .ensures))
+    (λ c.
+    let grow = c .before .before in
+    let found = grow .before .before .before in
+    let at-pop-columns = found .before .before .before .before in
+    let wide = at-pop-columns .before .before in
+    let if1 = wide .before .before in
+    let entry = if1 .before .before .before .before .before in
+    let a = entry .args in
+    let e : a .left ≡ suc (a .left - 1) = omega (arith, if1 .if1 .left) in
+    pop-node-some _ _ _ _ _ _ _ _ _ e (wide .wide .ensures .0) _ _ _ (at-pop-columns .pop-columns .ensures .0)
+    (at-pop-columns .pop-columns .ensures .1) _ _ (found .found .given .1)
+    (room-width _ _ _ _ _ _ _ (wide .wide .ensures .0) (room-at _ _ _ _ _ _ _ e (entry .pre .1 .0))) (grow .grow .ensures))
     (λ c. search needs)
-    (λ c. let a = c .before .before .before .before .before .before .before .before .before .before .before .before .before .args in let e : a .left ≡ suc (a .left - 1) = omega (arith, c .before .before .before .before .before .before .before .before .if1 .left) in pop-node-none _ _ _ _ _ _ _ _ _ e (c .before .before .before .before .before .before .wide .ensures .0) _ _ _ (c .before .before .before .before .pop-columns .ensures .0) (c .before .before .before .before .pop-columns .ensures .1) (c .enum-told .given .1))
+    (λ c.
+    let at-pop-columns = c .before .before .before .before in
+    let wide = at-pop-columns .before .before in
+    let if1 = wide .before .before in
+    let entry = if1 .before .before .before .before .before in
+    let a = entry .args in
+    let e : a .left ≡ suc (a .left - 1) = omega (arith, if1 .if1 .left) in
+    pop-node-none _ _ _ _ _ _ _ _ _ e (wide .wide .ensures .0) _ _ _ (at-pop-columns .pop-columns .ensures .0)
+    (at-pop-columns .pop-columns .ensures .1) (c .enum-told .given .1))

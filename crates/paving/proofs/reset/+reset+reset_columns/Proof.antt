@@ -66,28 +66,92 @@ pub +reset+reset-columns-spec : {M : Type 1} → statement M
     (λ c. search needs)
     (λ c. omega (arith, c .before .before .before .before .before .pre .1 .column .dims, c .before .if1 .left))
     (λ c κs. search needs)
-    (λ c κs. let a = c .before .before .before .before .before .before .before .args in let e : a .left ≡ suc (a .left - 1) = omega (arith, c .before .before .before .if1 .left) in (omega (arith, c .before .before .before .before .before .before .before .pre .0), (room-at _ _ _ _ _ _ _ e (c .before .before .before .before .before .before .before .pre .1), c .before .wide .ensures)))
+    (λ c κs.
+    let if1 = c .before .before .before in
+    let entry = if1 .before .before .before .before in
+    let a = entry .args in
+    let pre = entry .pre in
+    let e : a .left ≡ suc (a .left - 1) = omega (arith, if1 .if1 .left) in
+    (omega (arith, pre .0), (room-at _ _ _ _ _ _ _ e (pre .1), c .before .wide .ensures)))
     (λ c. search needs)
-    (λ c. let a = c .before .before .before .before .before .before .before .before .before .before .args in let e : a .left ≡ suc (a .left - 1) = omega (arith, c .before .before .before .before .before .before .if1 .left) in reset-node _ _ _ _ _ _ _ _ e (c .before .before .reset-columns .ensures)))
+    (λ c.
+    let at-reset-columns = c .before .before in
+    let if1 = at-reset-columns .before .before .before .before in
+    let entry = if1 .before .before .before .before in
+    let a = entry .args in
+    let e : a .left ≡ suc (a .left - 1) = omega (arith, if1 .if1 .left) in
+    reset-node _ _ _ _ _ _ _ _ e (at-reset-columns .reset-columns .ensures)))
     λ t. reset-columns-lts.spec
     (reset-cells-reads.Asked, reset-cells-reads.Learnt, reset-below t, reset.Post)
     (reset-columns-at t)
     reset-columns.Post
     reset-columns-Inv-loop
     reset-columns-μ-loop
-    (λ c. omega (arith, room-row _ _ _ _ _ _ _ (c .before .before .before .before .before .pre .1 .1 .0) (c .before .before .before .before .before .pre .1 .0), c .before .before .before .before .before .good))
-    (λ c κs. (omega (arith, room-row _ _ _ _ _ _ _ (c .before .before .before .before .before .pre .1 .1 .0) (c .before .before .before .before .before .pre .1 .0)), omega (arith, room-marks _ _ _ _ _ _ _ (c .before .before .before .before .before .pre .1 .1 .0) (c .before .before .before .before .before .pre .1 .0))))
+    (λ c.
+    let entry = c .before .before .before .before .before in
+    let pre = entry .pre in
+    omega (arith, room-row _ _ _ _ _ _ _ (pre .1 .1 .0) (pre .1 .0), entry .good))
+    (λ c κs.
+    let entry = c .before .before .before .before .before in
+    let pre = entry .pre in
+    (omega (arith, room-row _ _ _ _ _ _ _ (pre .1 .1 .0) (pre .1 .0)), omega (arith, room-marks _ _ _ _ _ _ _ (pre .1 .1 .0) (pre .1 .0))))
     (λ c. c .before .before .reset-cells .kept .0)
-    (λ c. reset-cells _ _ _ _ _ _ _ _ (c .before .before .before .before .if1 .taken) (c .before .before .before .before .before .before .before .before .pre .1 .1 .0) (room-row _ _ _ _ _ _ _ (c .before .before .before .before .before .before .before .before .pre .1 .1 .0) (c .before .before .before .before .before .before .before .before .pre .1 .0)) (c .before .before .reset-cells .ensures))
+    (λ c.
+    let at-reset-cells = c .before .before in
+    let if1 = at-reset-cells .before .before in
+    let entry = if1 .before .before .before .before in
+    let pre = entry .pre in
+    reset-cells _ _ _ _ _ _ _ _ (if1 .if1 .taken) (pre .1 .1 .0) (room-row _ _ _ _ _ _ _ (pre .1 .1 .0) (pre .1 .0))
+    (at-reset-cells .reset-cells .ensures))
     (λ c. (refl, rest-begin _ _ _ _ _ _))
-    (λ c. omega (arith, room-marks _ _ _ _ _ _ _ (c .before .before .before .before .before .before .pre .1 .1 .0) (c .before .before .before .before .before .before .pre .1 .0), c .before .before .before .before .before .before .good))
-    (λ c. omega (arith, room-marks _ _ _ _ _ _ _ (c .before .before .before .before .before .before .before .pre .1 .1 .0) (c .before .before .before .before .before .before .before .pre .1 .0)))
-    (λ c. omega (arith, room-node _ _ _ _ _ _ (room-child _ _ _ _ _ _ _ _ (c .before .before .before .before .before .before .before .before .before .pre .1 .1 .0) (c .before .before .before .loop-test .taken) (c .before .before .before .before .before .before .before .before .before .pre .1 .0)), c .before .before .before .before .before .before .before .before .before .good))
-    (λ c. omega (arith, room-node _ _ _ _ _ _ (room-child _ _ _ _ _ _ _ _ (c .before .before .before .before .before .before .before .before .before .pre .1 .1 .0) (c .before .before .before .loop-test .taken) (c .before .before .before .before .before .before .before .before .before .pre .1 .0)), c .before .before .before .before .before .before .before .before .before .good))
-    (λ c. omega (arith, room-marks _ _ _ _ _ _ _ (c .before .before .before .before .before .before .before .before .before .pre .1 .1 .0) (c .before .before .before .before .before .before .before .before .before .pre .1 .0), c .before .before .before .before .before .before .before .before .before .good))
-    (λ c κs. (omega (arith, c .before .before .before .before .before .before .before .before .before .pre .0), room-len _ _ _ _ _ _ _ (c .before .before .before .before .loop .inv .0) (room-child _ _ _ _ _ _ _ _ (c .before .before .before .before .before .before .before .before .before .pre .1 .1 .0) (c .before .before .before .loop-test .taken) (c .before .before .before .before .before .before .before .before .before .pre .1 .0))))
-    (λ c. omega (arith, c .before .before .loop-test .taken, c .before .before .before .before .before .before .before .before .pre .1 .1 .1))
+    (λ c.
+    let entry = c .before .before .before .before .before .before in
+    let pre = entry .pre in
+    omega (arith, room-marks _ _ _ _ _ _ _ (pre .1 .1 .0) (pre .1 .0), entry .good))
+    (λ c.
+    let entry = c .before .before .before .before .before .before .before in
+    let pre = entry .pre in
+    omega (arith, room-marks _ _ _ _ _ _ _ (pre .1 .1 .0) (pre .1 .0)))
+    (λ c.
+    let turn = c .before .before .before in
+    let entry = turn .before .before .before .before .before .before in
+    let pre = entry .pre in
+    omega (arith, room-node _ _ _ _ _ _ (room-child _ _ _ _ _ _ _ _ (pre .1 .1 .0) (turn .loop-test .taken) (pre .1 .0)), entry .good))
+    (λ c.
+    let turn = c .before .before .before in
+    let entry = turn .before .before .before .before .before .before in
+    let pre = entry .pre in
+    omega (arith, room-node _ _ _ _ _ _ (room-child _ _ _ _ _ _ _ _ (pre .1 .1 .0) (turn .loop-test .taken) (pre .1 .0)), entry .good))
+    (λ c.
+    let entry = c .before .before .before .before .before .before .before .before .before in
+    let pre = entry .pre in
+    omega (arith, room-marks _ _ _ _ _ _ _ (pre .1 .1 .0) (pre .1 .0), entry .good))
+    (λ c κs.
+    let turn = c .before .before .before in
+    let loop = turn .before in
+    let entry = loop .before .before .before .before .before in
+    let pre = entry .pre in (
+      omega (arith, pre .0),
+      room-len _ _ _ _ _ _ _ (loop .loop .inv .0) (room-child _ _ _ _ _ _ _ _ (pre .1 .1 .0) (turn .loop-test .taken) (pre .1 .0)),
+    ))
+    (λ c.
+    let turn = c .before .before in
+    let entry = turn .before .before .before .before .before .before in
+    omega (arith, turn .loop-test .taken, entry .pre .1 .1 .1))
     (λ c. omega (arith, c .before .before .loop-test .taken))
-    (λ c. ⊎-elim (λ w. (ap length (w .5) ∙ w .2 .kept .0 ∙ c .before .before .before .loop .inv .0, rest-in _ _ _ _ _ _ _ _ _ (c .before .before .before .before .before .before .before .before .pre .1 .1 .0) (c .before .before .before .loop .inv .1) _ _ (w .5) (c .before .before .loop-test .taken) (w .0 .taken) (w .2 .ensures))) (λ w. (ap length (w .1) ∙ c .before .before .before .loop .inv .0, rest-out _ _ _ _ _ _ _ _ _ (c .before .before .before .before .before .before .before .before .pre .1 .1 .0) (c .before .before .before .loop .inv .1) _ (w .1) (c .before .before .loop-test .taken) (w .0 .left))) (c .if2 .came))
+    (λ c.
+    let turn = c .before .before in
+    let loop = turn .before in
+    let entry = loop .before .before .before .before .before in
+    let pre = entry .pre in
+    ⊎-elim
+    (λ w. (
+      ap length (w .5) ∙ w .2 .kept .0 ∙ loop .loop .inv .0,
+      rest-in _ _ _ _ _ _ _ _ _ (pre .1 .1 .0) (loop .loop .inv .1) _ _ (w .5) (turn .loop-test .taken) (w .0 .taken) (w .2 .ensures),
+    ))
+    (λ w. (
+      ap length (w .1) ∙ loop .loop .inv .0,
+      rest-out _ _ _ _ _ _ _ _ _ (pre .1 .1 .0) (loop .loop .inv .1) _ (w .1) (turn .loop-test .taken) (w .0 .left),
+    )) (c .if2 .came))
     (λ c. c .before .loop .inv .0)
     (λ c. rest-end _ _ _ _ _ _ _ _ _ (c .before .before .before .before .before .before .pre .1 .1 .0) (c .before .loop .inv .1) (c .loop-test .left))

@@ -11,7 +11,8 @@ use Rattle.paving.proofs.row.check_cells.Statement.{statement}
 use Rattle.paving.proofs.row.check_cells.Tie as tie
 
 abbrev Inv-loop : tie.InvT-loop
-Inv-loop cells marks value first base width column₀ column = cellsAgree cells marks first base width value column ≡ cellsAgree cells marks first base width value 0
+Inv-loop cells marks value first base width column₀ column =
+    cellsAgree cells marks first base width value column ≡ cellsAgree cells marks first base width value 0
 
 abbrev μ-loop : tie.MeasureT-loop
 μ-loop cells marks value first base width column₀ column = width - column
@@ -27,5 +28,6 @@ loop-again c =
 pub check-cells-spec : {M : Type 1} → statement M
 check-cells-spec =
     tie.close
-    (tie.spec Inv-loop μ-loop (λ c. refl) (λ c. omega (arith, c .before .before .good)) (λ c. omega arith) (λ c. omega (arith, c .before .before .before .before .good)) (λ c. search needs)
+    (tie.spec Inv-loop μ-loop (λ c. refl) (λ c. omega (arith, c .before .before .good)) (λ c. omega arith)
+    (λ c. omega (arith, c .before .before .before .before .good)) (λ c. search needs)
     (λ c. omega arith) returns (λ c. omega arith) (λ c. omega arith) loop-again (λ c. agree-end _ _ _ _ _ _ _ (omega arith) ∙ c .before .loop .inv))

@@ -13,7 +13,8 @@ use Rattle.paving.proofs.row.grow_cells.Tie as tie
 
 abbrev Inv-loop : tie.InvT-loop
 Inv-loop cells marks₀ value first base width column₀ marks column =
-    (length marks ≡ length marks₀) × (paint (cellIs cells first value) base column (width - column) marks ≡ paint (cellIs cells first value) base 0 width marks₀)
+    (length marks ≡ length marks₀) ×
+    (paint (cellIs cells first value) base column (width - column) marks ≡ paint (cellIs cells first value) base 0 width marks₀)
 
 abbrev μ-loop : tie.MeasureT-loop
 μ-loop cells marks₀ value first base width column₀ marks column = width - column
@@ -26,6 +27,8 @@ loop-again c =
 pub grow-cells-spec : {M : Type 1} → statement M
 grow-cells-spec =
     tie.close
-    (tie.spec Inv-loop μ-loop (λ c. (refl, paint-all _ _ _ _)) (λ c. omega (arith, c .before .before .before .before .good)) (λ c. search needs) (λ c. omega arith) (λ c κs. search needs)
-    (λ c. omega (arith, c .before .before .before .before .before .before .good)) (λ c. omega (arith, c .before .before .before .loop .inv .0)) (λ c. omega arith) (λ c. omega arith) loop-again
+    (tie.spec Inv-loop μ-loop (λ c. (refl, paint-all _ _ _ _)) (λ c. omega (arith, c .before .before .before .before .good)) (λ c. search needs)
+    (λ c. omega arith) (λ c κs. search needs)
+    (λ c. omega (arith, c .before .before .before .before .before .before .good)) (λ c. omega (arith, c .before .before .before .loop .inv .0))
+    (λ c. omega arith) (λ c. omega arith) loop-again
     (λ c. c .before .loop .inv .0) (λ c. paint-end _ _ _ _ _ (omega arith) ∙ c .before .loop .inv .1))

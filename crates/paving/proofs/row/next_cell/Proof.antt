@@ -33,4 +33,5 @@ returns-2 c =
 pub next-cell-spec : {M : Type 1} → statement M
 next-cell-spec =
     tie.close
-    (tie.spec Inv-loop μ-loop (λ c. (omega arith, omega arith, none-begin _ _ _)) (λ c. search needs) (λ c. omega arith) (λ c κs. search needs) returns (λ c. omega arith) (λ c. omega arith) loop-again returns-2)
+    (tie.spec Inv-loop μ-loop (λ c. (omega arith, omega arith, none-begin _ _ _)) (λ c. search needs) (λ c. omega arith) (λ c κs. search needs)
+    returns (λ c. omega arith) (λ c. omega arith) loop-again returns-2)

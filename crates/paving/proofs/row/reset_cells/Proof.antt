@@ -32,5 +32,7 @@ loop-again c =
 pub reset-cells-spec : {M : Type 1} → statement M
 reset-cells-spec =
     tie.close
-    (tie.spec Inv-loop μ-loop (λ c. (refl, empty-all _ _ _ _ _)) (λ c. omega (arith, c .before .before .good)) (λ c. omega arith) (λ c. omega (arith, c .before .before .before .before .good)) (λ c. search needs)
-    (λ c. omega (arith, c .before .before .before .loop .inv .0)) (λ c. omega arith) (λ c. omega arith) loop-again (λ c. c .before .loop .inv .0) (λ c. empty-end _ _ _ _ _ _ (omega arith) ∙ c .before .loop .inv .1))
+    (tie.spec Inv-loop μ-loop (λ c. (refl, empty-all _ _ _ _ _)) (λ c. omega (arith, c .before .before .good)) (λ c. omega arith)
+    (λ c. omega (arith, c .before .before .before .before .good)) (λ c. search needs)
+    (λ c. omega (arith, c .before .before .before .loop .inv .0)) (λ c. omega arith) (λ c. omega arith) loop-again (λ c. c .before .loop .inv .0)
+    (λ c. empty-end _ _ _ _ _ _ (omega arith) ∙ c .before .loop .inv .1))

@@ -25,13 +25,34 @@ draw-ranges-spec =
     (tie.spec
     Inv-loop
     μ-loop
-    (λ c. omega (arith, c .before .before .before .before .before .before .before .pre .0 .all-counts, c .before .before .before .before .before .before .before .pre .1 .0 .dims))
+    (λ c.
+    let entry = c .before .before .before .before .before .before .before in
+    omega (arith, entry .pre .0 .all-counts, entry .pre .1 .0 .dims))
     (λ c κs. search needs)
-    (λ c. omega (arith, c .wide .ensures .0, c .before .before .before .before .before .before .before .before .pre .1 .1 .1))
+    (λ c.
+    let entry = c .before .before .before .before .before .before .before .before in
+    omega (arith, c .wide .ensures .0, entry .pre .1 .1))
     (λ c. (omega arith, refl, refl))
-    (λ c κs. let p = c .before .before .before .before .before .before .before .before .before .before .before .pre in (p .0, (node-len _ _ _ _ _ (c .before .before .loop .inv .1) (p .1 .0), (p .1 .1 .0, omega (arith, c .before .loop-test .taken, c .before .before .before .wide .ensures .0)))))
+    (λ c κs.
+    let entry = c .before .before .before .before .before .before .before .before .before .before .before in
+    let p = entry .pre in (
+      p .0,
+      (
+        node-len _ _ _ _ _ (c .before .before .loop .inv .1) (p .1 .0),
+        omega (arith, c .before .loop-test .taken, c .before .before .before .wide .ensures .0),
+      ),
+    ))
     (λ c. search needs)
     (λ c. search needs)
-    (λ c. (omega (arith, c .before .before .before .before .loop-test .taken), c .before .before .draw-range .kept .0 ∙ c .before .before .before .before .before .loop .inv .1, ranges-more _ _ _ _ _ _ _ _ _ (c .before .before .before .before .before .before .wide .ensures .0) _ _ _ (c .before .before .before .before .loop-test .taken) (c .before .before .draw-range .ensures) ∙ c .before .before .before .before .before .loop .inv .2))
+    (λ c.
+    let loop-test = c .before .before .before .before in
+    let loop = loop-test .before in
+    let wide = loop .before in (
+      omega (arith, loop-test .loop-test .taken),
+      c .before .before .draw-range .kept .0 ∙ loop .loop .inv .1,
+      ranges-more _ _ _ _ _ _ _ _ _ (wide .wide .ensures .0) _ _ _ (loop-test .loop-test .taken) (c .before .before .draw-range .ensures) ∙ loop .loop .inv .2,
+    ))
     (λ c. c .before .loop .inv .1)
-    (λ c. ranges-drawn _ _ _ _ _ _ _ _ _ (c .before .before .wide .ensures .0) _ _ _ (ranges-end _ _ _ _ _ _ _ _ _ (c .before .before .wide .ensures .0) _ _ (c .loop-test .left) ∙ c .before .loop .inv .2)))
+    (λ c.
+    ranges-drawn _ _ _ _ _ _ _ _ _ (c .before .before .wide .ensures .0) _ _ _
+    (ranges-end _ _ _ _ _ _ _ _ _ (c .before .before .wide .ensures .0) _ _ (c .loop-test .left) ∙ c .before .loop .inv .2)))

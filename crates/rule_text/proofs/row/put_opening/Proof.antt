@@ -13,7 +13,14 @@ pub put-opening-spec : {M : Type 1} → statement M
 put-opening-spec =
     tie.close
     (tie.spec (λ c. search needs)
-    (λ c κs. omega (arith, c .before .before .before .before .pre, ap length (opening-weeks (c .before .before .before .before .args .sort) (c .before .before .if1 .taken))))
+    (λ c κs.
+    let if1 = c .before .before in
+    let entry = if1 .before .before in
+    omega (arith, entry .pre, ap length (opening-weeks (entry .args .sort) (if1 .if1 .taken))))
     (λ c. search needs)
-    (λ c. put-as (sym (opening-weeks (c .before .before .before .before .before .before .before .args .sort) (c .before .before .before .before .before .if1 .taken))) (c .before .before .put-word .ensures))
+    (λ c.
+    let put-word = c .before .before in
+    let if1 = put-word .before .before .before in
+    let entry = if1 .before .before in
+    put-as (sym (opening-weeks (entry .args .sort) (if1 .if1 .taken))) (put-word .put-word .ensures))
     (λ c. put-as (sym (opening-none (c .before .before .args .sort) (c .if1 .left))) (put-none _ _)))

@@ -20,13 +20,27 @@ put-byte-requires : tie.Need-put-byte-requires Inv-loop μ-loop
 put-byte-requires c κs = omega (arith, ahead-room (c .before .before .loop .inv .1) (omega arith) (c .before .before .before .before .before .pre .1))
 
 show-item-requires : tie.Need-show-item-requires Inv-loop μ-loop
-show-item-requires c κs = (omega (arith, c .before .before .before .before .before .before .loop .inv .0, c .before .before .before .before .before .before .before .before .before .pre .0), omega (arith, ahead-room (c .before .before .before .before .before .before .loop .inv .1) (omega arith) (c .before .before .before .before .before .before .before .before .before .pre .1), c .before .before .before .put-byte .ensures .ends))
+show-item-requires c κs =
+    let put-byte = c .before .before .before in
+    let loop = put-byte .before .before .before in
+    let entry = loop .before .before .before in
+    let pre = entry .pre in (
+      omega (arith, loop .loop .inv .0, pre .0),
+      omega (arith, ahead-room (loop .loop .inv .1) (omega arith) (pre .1), put-byte .put-byte .ensures .ends),
+    )
 
 loop-again : tie.Need-loop-again Inv-loop μ-loop
 loop-again c =
-    let old = c .before .before .before .before .before .before .before .before .before .before .loop in
-    let near = item-near (c .before .before .before .before .before .before .before .before .before .before .before .before .before .args .sort) (sheetBits (c .before .before .before .before .before .before .before .before .before .before .before .before .before .args .sheet .now)) (old .at) in
-    (omega (arith, near, c .before .before .before .show-item .ensures .read-to, old .inv .0), ahead-next (old .inv .1) (omega arith) (c .before .before .before .before .before .before .before .put-byte .ensures) (c .before .before .before .show-item .ensures) _ (c .either .ensures))
+    let show-item = c .before .before .before in
+    let put-byte = show-item .before .before .before .before in
+    let loop = put-byte .before .before .before in
+    let entry = loop .before .before .before in
+    let args = entry .args in
+    let old = loop .loop in
+    let near = item-near (args .sort) (sheetBits (args .sheet .now)) (old .at) in (
+      omega (arith, near, show-item .show-item .ensures .read-to, old .inv .0),
+      ahead-next (old .inv .1) (omega arith) (put-byte .put-byte .ensures) (show-item .show-item .ensures) _ (c .either .ensures),
+    )
 
 pub show-others-spec : {M : Type 1} → statement M
 show-others-spec =

@@ -15,6 +15,12 @@ put-start-spec =
     tie.close
     (tie.spec
     (λ c. put-as (sym (ap (λ b. startText b (operatorOf (c .before .before .args .operator))) (c .if1 .taken))) (put-none _ _))
-    (λ c κs. omega (arith, c .before .before .before .pre, ap (λ b. length (startText b (operatorOf (c .before .before .before .args .operator)))) (c .before .if1 .left)))
+    (λ c κs.
+    let entry = c .before .before .before in
+    omega (arith, entry .pre, ap (λ b. length (startText b (operatorOf (entry .args .operator)))) (c .before .if1 .left)))
     (λ c. search needs)
-    (λ c. put-as (sym (ap (λ b. startText b (operatorOf (c .before .before .before .before .before .before .args .operator))) (c .before .before .before .before .if1 .left))) (c .before .before .put-before .ensures)))
+    (λ c.
+    let put-before = c .before .before in
+    let if1 = put-before .before .before in
+    let entry = if1 .before .before in
+    put-as (sym (ap (λ b. startText b (operatorOf (entry .args .operator))) (if1 .if1 .left))) (put-before .put-before .ensures)))

@@ -20,40 +20,63 @@ use Rattle.rule_text.proofs.rule.show_body.Tie as tie
 
 show-days-requires : tie.Need-show-days-requires
 show-days-requires c κs =
-    let s = sheetBits (c .before .before .before .before .before .before .before .args .sheet .now) in
-    let read = sym (c .before .before .before .before .counts-at .ensures) ∙ ap asCounts (c .before .before .counts .given .1) in
-    let few = counts-few s (c .before .before .before .before .before .before .before .args .at) (c .before .before .before .before .before .before .before .pre .0) _ _ read in
-    let told = ap (λ x. length (x .text)) (days-told s (c .before .before .before .before .before .before .before .args .at) (c .before .before .before .before .before .before .before .pre .0) _ _ read) in
-    ((omega (arith, few .5, c .before .before .before .before .before .before .before .pre .1 .0), few .0, few .1, few .2, few .3), omega (arith, c .before .before .before .before .before .before .before .pre .1 .1, told, body-long (ruleAt s (c .before .before .before .before .before .before .before .args .at))))
+    let counts = c .before .before in
+    let at-counts = counts .before .before in
+    let entry = at-counts .before .before .before in
+    let args = entry .args in
+    let pre = entry .pre in
+    let s = sheetBits (args .sheet .now) in
+    let read = sym (at-counts .counts-at .ensures) ∙ ap asCounts (counts .counts .given .1) in
+    let few = counts-few s (args .at) (pre .0) _ _ read in
+    let told = ap (λ x. length (x .text)) (days-told s (args .at) (pre .0) _ _ read) in
+    ((omega (arith, few .5, pre .1 .0), few .0, few .1, few .2, few .3), omega (arith, pre .1 .1, told, body-long (ruleAt s (args .at))))
 
 show-items-requires : tie.Need-show-items-requires
 show-items-requires c κs =
-    let s = sheetBits (c .before .before .before .before .before .before .before .before .before .before .before .args .sheet .now) in
-    let n = c .before .before .before .before .before .before .counts .given .0 in
-    let read = sym (c .before .before .before .before .before .before .before .before .counts-at .ensures) ∙ ap asCounts (c .before .before .before .before .before .before .counts .given .1) in
-    let few = counts-few s (c .before .before .before .before .before .before .before .before .before .before .before .args .at) (c .before .before .before .before .before .before .before .before .before .before .before .pre .0) _ _ read in
+    let show-days = c .before .before .before in
+    let counts = show-days .before .before .before in
+    let at-counts = counts .before .before in
+    let entry = at-counts .before .before .before in
+    let args = entry .args in
+    let pre = entry .pre in
+    let s = sheetBits (args .sheet .now) in
+    let n = counts .counts .given .0 in
+    let read = sym (at-counts .counts-at .ensures) ∙ ap asCounts (counts .counts .given .1) in
+    let few = counts-few s (args .at) (pre .0) _ _ read in
     let near = days-near (n .0) (n .1 .0) (n .1 .1 .0) (n .1 .1 .1 .0) s (n .1 .1 .1 .1 .1 .0) in
-    let told = days-told s (c .before .before .before .before .before .before .before .before .before .before .before .args .at) (c .before .before .before .before .before .before .before .before .before .before .before .pre .0) _ _ read in
-    let days = shows-as told (c .before .before .before .show-days .ensures) in
-    let spans = ap (λ x. length (x .text)) (spans-told s (c .before .before .before .before .before .before .before .before .before .before .before .args .at) (c .before .before .before .before .before .before .before .before .before .before .before .pre .0) _ _ read _ (days .read-to)) in (
-      omega (arith, near, few .0, few .1, few .2, few .3, few .4, few .5, c .before .before .before .show-days .ensures .read-to, c .before .before .before .before .before .before .before .before .before .before .before .pre .1 .0),
-      omega (arith, c .before .before .before .before .before .before .before .before .before .before .before .pre .1 .1, days .put .ends, spans, body-long (ruleAt s (c .before .before .before .before .before .before .before .before .before .before .before .args .at))),
+    let told = days-told s (args .at) (pre .0) _ _ read in
+    let days = shows-as told (show-days .show-days .ensures) in
+    let spans = ap (λ x. length (x .text)) (spans-told s (args .at) (pre .0) _ _ read _ (days .read-to)) in (
+      omega (arith, near, few .0, few .1, few .2, few .3, few .4, few .5, show-days .show-days .ensures .read-to, pre .1 .0),
+      omega (arith, pre .1 .1, days .put .ends, spans, body-long (ruleAt s (args .at))),
     )
 
 returns : tie.Need-returns
 returns c =
-    let s = sheetBits (c .before .before .before .before .before .before .before .before .before .before .before .before .before .before .before .before .args .sheet .now) in
-    let read = sym (c .before .before .before .before .before .before .before .before .before .before .before .before .before .counts-at .ensures) ∙ ap asCounts (c .before .before .before .before .before .before .before .before .before .before .before .counts .given .1) in
-    let days = shows-as (days-told s (c .before .before .before .before .before .before .before .before .before .before .before .before .before .before .before .before .args .at) (c .before .before .before .before .before .before .before .before .before .before .before .before .before .before .before .before .pre .0) _ _ read) (c .before .before .before .before .before .before .before .before .show-days .ensures) in
-    let spans = shows-as (spans-told s (c .before .before .before .before .before .before .before .before .before .before .before .before .before .before .before .before .args .at) (c .before .before .before .before .before .before .before .before .before .before .before .before .before .before .before .before .pre .0) _ _ read _ (days .read-to)) (c .before .before .before .before .show-items .ensures) in
-    let none = lacks-either (ruleAt s (c .before .before .before .before .before .before .before .before .before .before .before .before .before .before .before .before .args .at)) _ (counts-same s (c .before .before .before .before .before .before .before .before .before .before .before .before .before .before .before .before .args .at) (c .before .before .before .before .before .before .before .before .before .before .before .before .before .before .before .before .pre .0) _ _ read .2) in
+    let show-items = c .before .before .before .before in
+    let show-days = show-items .before .before .before .before in
+    let counts = show-days .before .before .before in
+    let at-counts = counts .before .before in
+    let entry = at-counts .before .before .before in
+    let args = entry .args in
+    let pre = entry .pre in
+    let s = sheetBits (args .sheet .now) in
+    let read = sym (at-counts .counts-at .ensures) ∙ ap asCounts (counts .counts .given .1) in
+    let days = shows-as (days-told s (args .at) (pre .0) _ _ read) (show-days .show-days .ensures) in
+    let spans = shows-as (spans-told s (args .at) (pre .0) _ _ read _ (days .read-to)) (show-items .show-items .ensures) in
+    let none = lacks-either (ruleAt s (args .at)) _ (counts-same s (args .at) (pre .0) _ _ read .2) in
     record {
-      put = put-as (body-text (ruleAt s (c .before .before .before .before .before .before .before .before .before .before .before .before .before .before .before .before .args .at))) (put-then (days .put) (spans .put));
-      so = c .either2 .ensures ∙ ap₂ _||_ (days .lacks) (c .before .either .ensures ∙ ap (_|| eqb (c .before .before .before .before .before .before .before .before .before .before .before .counts .given .0 .1 .1 .1 .1 .0) 0) (spans .lacks)) ∙ none;
+      put = put-as (body-text (ruleAt s (args .at))) (put-then (days .put) (spans .put));
+      so = c .either2 .ensures ∙ ap₂ _||_ (days .lacks)
+          (c .before .either .ensures ∙ ap (_|| eqb (counts .counts .given .0 .1 .1 .1 .1 .0) 0) (spans .lacks)) ∙ none;
     }
 
 pub show-body-spec : {M : Type 1} → statement M
 show-body-spec =
     tie.close
-    (tie.spec (λ c. search needs) (λ c κs. search needs) (λ c. search needs) show-days-requires show-items-requires (λ c κs. search needs) (λ c κs. search needs) (λ c. search needs) (λ c. search needs) returns
-    (λ c. counts-refused _ _ (c .before .before .before .before .before .before .pre .0) _ _ (sym (c .before .before .before .counts-at .ensures) ∙ ap asCounts (c .before .counts2 .given .1))))
+    (tie.spec (λ c. search needs) (λ c κs. search needs) (λ c. search needs) show-days-requires show-items-requires (λ c κs. search needs)
+    (λ c κs. search needs) (λ c. search needs) (λ c. search needs) returns
+    (λ c.
+    let counts = c .before .before .before in
+    let entry = counts .before .before .before in
+    counts-refused _ _ (entry .pre .0) _ _ (sym (counts .counts-at .ensures) ∙ ap asCounts (c .before .counts2 .given .1))))

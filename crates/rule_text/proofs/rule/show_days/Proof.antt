@@ -15,56 +15,101 @@ use Rattle.rule_text.proofs.rule.show_days.Tie as tie
 
 show-part-requires : tie.Need-show-part-requires
 show-part-requires c κs =
-    let args = c .before .before .before .args in
+    let entry = c .before .before .before in
+    let args = entry .args in
+    let pre = entry .pre in
     let s = sheetBits (args .sheet .now) in
-    (omega (arith, c .before .before .before .pre .0), omega (arith, c .before .before .before .pre .1, days-long (args .years) (args .monthdays) (args .weeks) (args .weekdays) s (args .at)))
+    (omega (arith, pre .0), omega (arith, pre .1, days-long (args .years) (args .monthdays) (args .weeks) (args .weekdays) s (args .at)))
 
 show-part-requires-2 : tie.Need-show-part-requires-2
 show-part-requires-2 c κs =
-    let args = c .before .before .before .before .before .before .before .args in
+    let show-part = c .before .before .before in
+    let entry = show-part .before .before .before .before in
+    let args = entry .args in
+    let pre = entry .pre in
     let s = sheetBits (args .sheet .now) in
-    let first = c .before .before .before .show-part .ensures in
+    let first = show-part .show-part .ensures in
     let there = ap (λ q. length ((partTold 1 (args .monthdays) s q) .text)) (first .read-to) in (
-      omega (arith, c .before .before .before .before .before .before .before .pre .0, part-near 0 s (args .at) (args .years), first .read-to),
-      omega (arith, c .before .before .before .before .before .before .before .pre .1, days-long (args .years) (args .monthdays) (args .weeks) (args .weekdays) s (args .at), first .put .ends, there),
+      omega (arith, pre .0, part-near 0 s (args .at) (args .years), first .read-to),
+      omega (arith, pre .1, days-long (args .years) (args .monthdays) (args .weeks) (args .weekdays) s (args .at), first .put .ends, there),
     )
 
 show-part-requires-3 : tie.Need-show-part-requires-3
 show-part-requires-3 c κs =
-    let args = c .before .before .before .before .before .before .before .before .before .before .before .args in
+    let show-part2 = c .before .before .before in
+    let show-part = show-part2 .before .before .before .before in
+    let entry = show-part .before .before .before .before in
+    let args = entry .args in
+    let pre = entry .pre in
     let s = sheetBits (args .sheet .now) in
-    let first = c .before .before .before .before .before .before .before .show-part .ensures in
-    let second = shows-as (ap (partTold 1 (args .monthdays) s) (first .read-to)) (c .before .before .before .show-part2 .ensures) in
+    let first = show-part .show-part .ensures in
+    let second = shows-as (ap (partTold 1 (args .monthdays) s) (first .read-to)) (show-part2 .show-part2 .ensures) in
     let there = ap (λ q. length ((partTold 2 (args .weeks) s q) .text)) (second .read-to) in
     let Y = yearsPart (args .years) (args .monthdays) (args .weeks) (args .weekdays) s (args .at) in (
-      omega (arith, c .before .before .before .before .before .before .before .before .before .before .before .pre .0, part-near 0 s (args .at) (args .years), part-near 1 s (Y .next) (args .monthdays), second .read-to),
-      omega (arith, c .before .before .before .before .before .before .before .before .before .before .before .pre .1, days-long (args .years) (args .monthdays) (args .weeks) (args .weekdays) s (args .at), first .put .ends, second .put .ends, there),
+      omega (arith, pre .0, part-near 0 s (args .at) (args .years), part-near 1 s (Y .next) (args .monthdays), second .read-to),
+      omega (
+        arith,
+        pre .1,
+        days-long (args .years) (args .monthdays) (args .weeks) (args .weekdays) s (args .at),
+        first .put .ends,
+        second .put .ends,
+        there,
+      ),
     )
 
 show-part-requires-4 : tie.Need-show-part-requires-4
 show-part-requires-4 c κs =
-    let args = c .before .before .before .before .before .before .before .before .before .before .before .before .before .before .before .args in
+    let show-part3 = c .before .before .before in
+    let show-part2 = show-part3 .before .before .before .before in
+    let show-part = show-part2 .before .before .before .before in
+    let entry = show-part .before .before .before .before in
+    let args = entry .args in
+    let pre = entry .pre in
     let s = sheetBits (args .sheet .now) in
-    let first = c .before .before .before .before .before .before .before .before .before .before .before .show-part .ensures in
-    let second = shows-as (ap (partTold 1 (args .monthdays) s) (first .read-to)) (c .before .before .before .before .before .before .before .show-part2 .ensures) in
-    let third = shows-as (ap (partTold 2 (args .weeks) s) (second .read-to)) (c .before .before .before .show-part3 .ensures) in
+    let first = show-part .show-part .ensures in
+    let second = shows-as (ap (partTold 1 (args .monthdays) s) (first .read-to)) (show-part2 .show-part2 .ensures) in
+    let third = shows-as (ap (partTold 2 (args .weeks) s) (second .read-to)) (show-part3 .show-part3 .ensures) in
     let there = ap (λ q. length ((partTold 3 (args .weekdays) s q) .text)) (third .read-to) in
     let Y = yearsPart (args .years) (args .monthdays) (args .weeks) (args .weekdays) s (args .at) in
     let M = monthsPart (args .years) (args .monthdays) (args .weeks) (args .weekdays) s (args .at) in (
-      omega (arith, c .before .before .before .before .before .before .before .before .before .before .before .before .before .before .before .pre .0, part-near 0 s (args .at) (args .years), part-near 1 s (Y .next) (args .monthdays), part-near 2 s (M .next) (args .weeks), third .read-to),
-      omega (arith, c .before .before .before .before .before .before .before .before .before .before .before .before .before .before .before .pre .1, days-long (args .years) (args .monthdays) (args .weeks) (args .weekdays) s (args .at), first .put .ends, second .put .ends, third .put .ends, there),
+      omega (
+        arith,
+        pre .0,
+        part-near 0 s (args .at) (args .years),
+        part-near 1 s (Y .next) (args .monthdays),
+        part-near 2 s (M .next) (args .weeks),
+        third .read-to,
+      ),
+      omega (
+        arith,
+        pre .1,
+        days-long (args .years) (args .monthdays) (args .weeks) (args .weekdays) s (args .at),
+        first .put .ends,
+        second .put .ends,
+        third .put .ends,
+        there,
+      ),
     )
 
 returns : tie.Need-returns
 returns c =
-    let args = c .before .before .before .before .before .before .before .before .before .before .before .before .before .before .before .before .before .before .before .before .before .args in
+    let either = c .before .before in
+    let show-part4 = either .before .before .before in
+    let show-part3 = show-part4 .before .before .before .before in
+    let show-part2 = show-part3 .before .before .before .before in
+    let show-part = show-part2 .before .before .before .before in
+    let entry = show-part .before .before .before .before in
+    let args = entry .args in
     let s = sheetBits (args .sheet .now) in
-    let first = c .before .before .before .before .before .before .before .before .before .before .before .before .before .before .before .before .before .show-part .ensures in
-    let second = shows-as (ap (partTold 1 (args .monthdays) s) (first .read-to)) (c .before .before .before .before .before .before .before .before .before .before .before .before .before .show-part2 .ensures) in
-    let third = shows-as (ap (partTold 2 (args .weeks) s) (second .read-to)) (c .before .before .before .before .before .before .before .before .before .show-part3 .ensures) in
-    let fourth = shows-as (ap (partTold 3 (args .weekdays) s) (third .read-to)) (c .before .before .before .before .before .show-part4 .ensures) in
+    let first = show-part .show-part .ensures in
+    let second = shows-as (ap (partTold 1 (args .monthdays) s) (first .read-to)) (show-part2 .show-part2 .ensures) in
+    let third = shows-as (ap (partTold 2 (args .weeks) s) (second .read-to)) (show-part3 .show-part3 .ensures) in
+    let fourth = shows-as (ap (partTold 3 (args .weekdays) s) (third .read-to)) (show-part4 .show-part4 .ensures) in
     shows-as (days-parts _ _ _ _ _ _)
-    (shows-then first (shows-then second (shows-then third fourth _ (c .before .before .either .ensures)) _ (c .before .either2 .ensures)) _ (c .either3 .ensures))
+    (shows-then first (shows-then second (shows-then third fourth _ (either .either .ensures)) _ (c .before .either2 .ensures)) _
+    (c .either3 .ensures))
 
 pub show-days-spec : {M : Type 1} → statement M
-show-days-spec = tie.close (tie.spec show-part-requires show-part-requires-2 show-part-requires-3 show-part-requires-4 (λ c κs. search needs) (λ c κs. search needs) (λ c κs. search needs) (λ c. search needs) returns)
+show-days-spec = tie.close
+    (tie.spec show-part-requires show-part-requires-2 show-part-requires-3 show-part-requires-4 (λ c κs. search needs) (λ c κs. search needs)
+    (λ c κs. search needs) (λ c. search needs) returns)

@@ -16,14 +16,35 @@ use Rattle.rule_text.proofs.shown.show_week.Tie as tie
 
 put-item-requires : tie.Need-put-item-requires
 put-item-requires c κs =
-    let args = c .before .before .before .before .before .before .before .args in
-    let read = sym (c .before .before .before .before .week-range-at .ensures) ∙ ap (asStepped weeksOf) (c .before .before .read .given .1) in
-    let fit = week-ends (args .sheet .now) (known-bytes (args .sheet .now) (λ j. omega (arith, c .before .before .before .before .before .before .shared-slice-known .given j))) (args .at) _ _ _ _ read in
-    (fit .0, fit .1, omega (arith, got-within weekText _ _ _ (args .place) _ _ read (c .before .before .before .before .before .before .before .pre .1), ap length (week-item (c .before .before .read .given .0 .0) (c .before .before .read .given .0 .1 .0) (c .before .before .read .given .0 .1 .1 .0))))
+    let at-read = c .before .before in
+    let week-range = at-read .before .before in
+    let known = week-range .before .before in
+    let entry = known .before in
+    let args = entry .args in
+    let read = sym (week-range .week-range-at .ensures) ∙ ap (asStepped weeksOf) (at-read .read .given .1) in
+    let fit =
+    week-ends (args .sheet .now) (known-bytes (args .sheet .now) (λ j. omega (arith, known .shared-slice-known .given j))) (args .at) _ _ _ _ read in (
+      fit .0,
+      fit .1,
+      omega (
+        arith,
+        got-within weekText _ _ _ (args .place) _ _ read (entry .pre .1),
+        ap length (week-item (at-read .read .given .0 .0) (at-read .read .given .0 .1 .0) (at-read .read .given .0 .1 .1 .0)),
+      ),
+    )
 
 pub show-week-spec : {M : Type 1} → statement M
 show-week-spec =
     tie.close
     (tie.spec (λ c κs. search needs) (λ c. search needs) put-item-requires (λ c. search needs) (λ c κs. search needs) (λ c. search needs)
-    (λ c. got-shows weekText _ _ _ _ _ _ _ _ (sym (c .before .before .before .before .before .before .before .week-range-at .ensures) ∙ ap (asStepped weeksOf) (c .before .before .before .before .before .read .given .1)) refl (put-as (week-item _ _ _) (c .before .before .put-item .ensures)))
-    (λ c. refused-silent weekText _ _ _ _ _ _ _ (sym (c .before .before .before .before .week-range-at .ensures) ∙ ap (asStepped weeksOf) (c .before .before .read2 .given .1)) (c .silent .ensures)))
+    (λ c.
+    let put-item = c .before .before in
+    let read = put-item .before .before .before in
+    let week-range = read .before .before in
+    got-shows weekText _ _ _ _ _ _ _ _ (sym (week-range .week-range-at .ensures) ∙ ap (asStepped weeksOf) (read .read .given .1)) refl
+    (put-as (week-item _ _ _) (put-item .put-item .ensures)))
+    (λ c.
+    let read2 = c .before .before in
+    let week-range = read2 .before .before in
+    refused-silent weekText _ _ _ _ _ _ _ (sym (week-range .week-range-at .ensures) ∙ ap (asStepped weeksOf) (read2 .read2 .given .1))
+    (c .silent .ensures)))

@@ -10,15 +10,25 @@ use Rattle.rule_writer.proofs.head.put_title.Tie as tie
 
 put-three-requires : tie.Need-put-three-requires
 put-three-requires c κs =
-    let pre = c .before .before .before .before .pre in
-    let state = c .before .before .before .before .args .state in
-    let kind = c .wide8 .ensures ∙ c .before .kind-of .ensures in
-    (((omega arith, omega (arith, pre .0)), (omega arith, omega (arith, kind, kind-low state)), (omega arith, omega arith)), room-as (title-bits (c .before .before .before .before .args .operator) state _ (pre .0 .0) (pre .0 .1) kind) (pre .1))
+    let entry = c .before .before .before .before in
+    let args = entry .args in
+    let pre = entry .pre in
+    let state = args .state in
+    let kind = c .wide8 .ensures ∙ c .before .kind-of .ensures in (
+      ((omega arith, omega (arith, pre .0)), (omega arith, omega (arith, kind, kind-low state)), (omega arith, omega arith)),
+      room-as (title-bits (args .operator) state _ (pre .0 .0) (pre .0 .1) kind) (pre .1),
+    )
 
 returns : tie.Need-returns
 returns c =
-    let pre = c .before .before .before .before .before .before .before .pre in
-    wrote-as (title-bits (c .before .before .before .before .before .before .before .args .operator) (c .before .before .before .before .before .before .before .args .state) _ (pre .0 .0) (pre .0 .1) (c .before .before .before .wide8 .ensures ∙ c .before .before .before .before .kind-of .ensures)) (c .before .before .put-three .ensures)
+    let put-three = c .before .before in
+    let wide8 = put-three .before in
+    let kind-of = wide8 .before in
+    let entry = kind-of .before .before .before in
+    let args = entry .args in
+    let pre = entry .pre in
+    wrote-as (title-bits (args .operator) (args .state) _ (pre .0 .0) (pre .0 .1) (wide8 .wide8 .ensures ∙ kind-of .kind-of .ensures))
+    (put-three .put-three .ensures)
 
 pub put-title-spec : {M : Type 1} → statement M
 put-title-spec = tie.close (tie.spec (λ c κs. search needs) (λ c κs. search needs) put-three-requires (λ c. search needs) returns)

@@ -6,7 +6,7 @@ use borrow.Author.Needs.{needs}
 use borrow.Fn.Kinds.{In}
 use borrow.Fn.PlainCycle.{Measures, is, falls, and}
 use Rattle.item_writer.proofs.Chain.{wrote-then, room-first, room-rest, room-as, wrote-as, wrote-none}
-use Rattle.rule_writer.specs.Rows.{upperOf, Below}
+use Rattle.tables.specs.Items.{upperOf, Below}
 use Rattle.rule_writer.proofs.Rows.{row-none, row-more, row-lawful}
 use Rattle.rule_writer.proofs.row.wide.Reads as wide-reads
 use Rattle.rule_writer.proofs.row.put_item.Reads as put-item-reads
@@ -26,20 +26,66 @@ abbrev put-row-below : ℕ → In 2 put-row-kinds.ps
 put-row-below t = and 2 put-row-kinds.ps (falls 2 put-row-kinds.ps _<_ μ-put-row t) put-row.Pre
 
 pub +put-row-spec : {M : Type 1} → statement M
-+put-row-spec = close μ-put-row λ t. put-row-lts.spec (wide-reads.Asked, wide-reads.Learnt, put-item-reads.Asked, put-item-reads.Learnt, put-row-below t, put-row.Post)
++put-row-spec = close μ-put-row λ t. put-row-lts.spec
+    (wide-reads.Asked, wide-reads.Learnt, put-item-reads.Asked, put-item-reads.Learnt, put-row-below t, put-row.Post)
     (put-row-at t)
     put-row.Post
-    (λ c. wrote-none (row-none (c .before .before .before .args .ends .now) (c .before .before .before .args .place) (c .before .before .before .args .many) (c .before .before .before .args .sort) (c .if1 .taken)))
+    (λ c.
+    let entry = c .before .before .before in
+    let args = entry .args in
+    wrote-none (row-none (args .ends .now) (args .place) (args .many) (args .sort) (c .if1 .taken)))
     (λ c. search needs)
     (λ c. omega (arith, c .before .before .before .before .before .pre .1 .0, c .before .before .if1 .left))
     (λ c κs. search needs)
     (λ c. omega (arith, c .before .before .before .before .before .before .pre .1 .0, c .before .before .before .if1 .left))
     (λ c. search needs)
-    (λ c. omega (arith, c .before .before .before .before .before .before .before .pre .1 .0, c .before .before .before .before .if1 .left))
+    (λ c.
+    let if1 = c .before .before .before .before in
+    let entry = if1 .before .before .before in
+    omega (arith, entry .pre .1 .0, if1 .if1 .left))
     (λ c κs. search needs)
-    (λ c κs. let a = c .before .before .before .before .before .before .before .before .args in let pre = c .before .before .before .before .before .before .before .before .pre .1 in (row-lawful (a .ends .now) (a .place) (a .many) (c .before .before .before .before .before .if1 .left) (pre .0) _ _ (c .before .before .wide .ensures) (c .wide2 .ensures) (Below (upperOf (a .sort))) (pre .1 .0) .0, room-first _ _ (room-as (row-more (a .ends .now) (a .place) (a .many) (c .before .before .before .before .before .if1 .left) (pre .0) _ _ (c .before .before .wide .ensures) (c .wide2 .ensures) (a .sort)) (pre .1 .1))))
-    (λ c. omega (arith, c .before .before .before .before .before .before .before .before .before .before .before .before .pre .1 .0, c .before .before .before .before .before .before .before .before .before .if1 .left))
-    (λ c. omega (arith, c .before .before .before .before .before .before .before .before .before .if1 .left))
-    (λ c κs. let a = c .before .before .before .before .before .before .before .before .before .before .before .before .args in let pre = c .before .before .before .before .before .before .before .before .before .before .before .before .pre .1 in (omega (arith, c .before .before .before .before .before .before .before .before .before .before .before .before .pre .0, c .before .before .before .before .before .before .before .before .before .if1 .left), (omega (arith, pre .0, c .before .before .before .before .before .before .before .before .before .if1 .left), (row-lawful (a .ends .now) (a .place) (a .many) (c .before .before .before .before .before .before .before .before .before .if1 .left) (pre .0) _ _ (c .before .before .before .before .before .before .wide .ensures) (c .before .before .before .before .wide2 .ensures) (Below (upperOf (a .sort))) (pre .1 .0) .1, room-rest (c .before .before .before .put-item .ensures) _ (room-as (row-more (a .ends .now) (a .place) (a .many) (c .before .before .before .before .before .before .before .before .before .if1 .left) (pre .0) _ _ (c .before .before .before .before .before .before .wide .ensures) (c .before .before .before .before .wide2 .ensures) (a .sort)) (pre .1 .1))))))
+    (λ c κs.
+    let wide = c .before .before in
+    let if1 = wide .before .before .before in
+    let entry = if1 .before .before .before in
+    let a = entry .args in
+    let pre = entry .pre .1 in (
+      row-lawful _ _ _ (if1 .if1 .left) (pre .0) _ _ (wide .wide .ensures) (c .wide2 .ensures) (Below (upperOf (a .sort))) (pre .1 .0) .0,
+      room-first _ _ (room-as (row-more _ _ _ (if1 .if1 .left) (pre .0) _ _ (wide .wide .ensures) (c .wide2 .ensures) (a .sort)) (pre .1 .1)),
+    ))
+    (λ c.
+    let if1 = c .before .before .before .before .before .before .before .before .before in
+    let entry = if1 .before .before .before in
+    omega (arith, entry .pre .1 .0, if1 .if1 .left))
+    (λ c.
+    let if1 = c .before .before .before .before .before .before .before .before .before in
+    omega (arith, if1 .if1 .left))
+    (λ c κs.
+    let put-item = c .before .before .before in
+    let wide2 = put-item .before in
+    let wide = wide2 .before .before in
+    let if1 = wide .before .before .before in
+    let entry = if1 .before .before .before in
+    let a = entry .args in
+    let pre = entry .pre .1 in (
+      omega (arith, entry .pre .0, if1 .if1 .left),
+      (
+        omega (arith, pre .0, if1 .if1 .left),
+        (
+          row-lawful _ _ _ (if1 .if1 .left) (pre .0) _ _ (wide .wide .ensures) (wide2 .wide2 .ensures) (Below (upperOf (a .sort))) (pre .1 .0) .1,
+          room-rest (put-item .put-item .ensures) _
+              (room-as (row-more _ _ _ (if1 .if1 .left) (pre .0) _ _ (wide .wide .ensures) (wide2 .wide2 .ensures) (a .sort)) (pre .1 .1)),
+        ),
+      ),
+    ))
     (λ c. search needs)
-    (λ c. let a = c .before .before .before .before .before .before .before .before .before .before .before .before .before .before .before .args in wrote-as (row-more (a .ends .now) (a .place) (a .many) (c .before .before .before .before .before .before .before .before .before .before .before .before .if1 .left) (c .before .before .before .before .before .before .before .before .before .before .before .before .before .before .before .pre .1 .0) _ _ (c .before .before .before .before .before .before .before .before .before .wide .ensures) (c .before .before .before .before .before .before .before .wide2 .ensures) (a .sort)) (wrote-then (c .before .before .before .before .before .before .put-item .ensures) (c .before .before .put-row .ensures)))
+    (λ c.
+    let at-put-row = c .before .before in
+    let put-item = at-put-row .before .before .before .before in
+    let wide2 = put-item .before in
+    let wide = wide2 .before .before in
+    let if1 = wide .before .before .before in
+    let entry = if1 .before .before .before in
+    let a = entry .args in
+    wrote-as (row-more _ _ _ (if1 .if1 .left) (entry .pre .1 .0) _ _ (wide .wide .ensures) (wide2 .wide2 .ensures) (a .sort))
+    (wrote-then (put-item .put-item .ensures) (at-put-row .put-row .ensures)))

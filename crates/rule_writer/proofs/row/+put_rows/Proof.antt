@@ -8,7 +8,7 @@ use borrow.Fn.Kinds.{In}
 use borrow.Fn.PlainCycle.{Measures, is, falls, and}
 use Rattle.laws.specs.Lists.{All}
 use Rattle.item_writer.proofs.Chain.{wrote-then, room-first, room-rest, room-as, wrote-as, wrote-none}
-use Rattle.rule_writer.specs.Rows.{upperOf, Below}
+use Rattle.tables.specs.Items.{upperOf, Below}
 use Rattle.rule_writer.proofs.Rows.{row-at, rows-none, rows-more, place-next, row-inside}
 use Rattle.rule_writer.proofs.row.size.Reads as size-reads
 use Rattle.rule_writer.proofs.row.put_row.Reads as put-row-reads
@@ -28,17 +28,80 @@ abbrev put-rows-below : ℕ → In 3 put-rows-kinds.ps
 put-rows-below t = and 3 put-rows-kinds.ps (falls 3 put-rows-kinds.ps _<_ μ-put-rows t) put-rows.Pre
 
 pub +put-rows-spec : {M : Type 1} → statement M
-+put-rows-spec = close μ-put-rows λ t. put-rows-lts.spec (size-reads.Asked, size-reads.Learnt, put-row-reads.Asked, put-row-reads.Learnt, put-rows-below t, put-rows.Post)
++put-rows-spec = close μ-put-rows λ t. put-rows-lts.spec
+    (size-reads.Asked, size-reads.Learnt, put-row-reads.Asked, put-row-reads.Learnt, put-rows-below t, put-rows.Post)
     (put-rows-at t)
     put-rows.Post
-    (λ c. wrote-none (rows-none (c .before .before .before .before .args .ends .now) (c .before .before .before .before .args .counts .now) (c .before .before .before .before .args .sort) (c .if1 .taken)))
+    (λ c.
+    let entry = c .before .before .before .before in
+    let args = entry .args in
+    wrote-none (rows-none (args .ends .now) (args .counts .now) (args .sort) (c .if1 .taken)))
     (λ c. search needs)
-    (λ c. omega (arith, c .before .before .before .before .before .pre .1 .0 .four, c .before .before .before .before .before .pre .1 .1 .0, c .before .if1 .left))
+    (λ c.
+    omega (
+      arith,
+      c .before .before .before .before .before .pre .1 .0 .four,
+      c .before .before .before .before .before .pre .1 .1 .0,
+      c .before .if1 .left,
+    ))
     (λ c κs. search needs)
-    (λ c κs. let a = c .before .before .before .before .before .before .before .args in let pre = c .before .before .before .before .before .before .before .pre .1 in let low : a .sort < 4 = omega (arith, pre .1 .0, c .before .before .before .if1 .left) in (omega (arith, row-inside (a .ends .now) (a .counts .now) (a .sort) low (pre .0 .inside), c .before .size .ensures, pre .1 .0), (subst (All (Below (upperOf (a .sort)))) (row-at (a .ends .now) (a .counts .now) (a .sort) _ _ (c .before .size .ensures) (pre .1 .0 .1)) (pre .0 .lawful (a .sort) low), room-first _ _ (room-as (rows-more (a .ends .now) (a .counts .now) (a .sort) _ _ low (c .before .size .ensures) (pre .1 .0 .1)) (pre .1 .1)))))
-    (λ c. omega (arith, c .before .before .before .before .before .before .before .before .before .before .before .pre .1 .1 .0, c .before .before .before .before .before .before .before .if1 .left))
-    (λ c. omega (arith, c .before .before .before .before .before .before .before .before .before .before .before .pre .1 .0 .few (c .before .before .before .before .before .before .before .before .before .before .before .args .sort), c .before .before .before .before .before .size .ensures))
-    (λ c. let a = c .before .before .before .before .before .before .before .before .before .before .before .args in let pre = c .before .before .before .before .before .before .before .before .before .before .before .pre .1 in omega (arith, row-inside (a .ends .now) (a .counts .now) (a .sort) (omega (arith, pre .1 .0, c .before .before .before .before .before .before .before .if1 .left)) (pre .0 .inside), c .before .before .before .before .before .size .ensures, pre .1 .0))
-    (λ c κs. let a = c .before .before .before .before .before .before .before .before .before .before .before .args in let pre = c .before .before .before .before .before .before .before .before .before .before .before .pre .1 in let low : a .sort < 4 = omega (arith, pre .1 .0, c .before .before .before .before .before .before .before .if1 .left) in (omega (arith, c .before .before .before .before .before .before .before .before .before .before .before .pre .0, low), (pre .0, ((omega (arith, low), omega (arith, pre .1 .0, c .before .before .before .before .before .size .ensures, place-next (a .counts .now) (a .sort))), room-rest (c .before .before .before .put-row .ensures) _ (room-as (rows-more (a .ends .now) (a .counts .now) (a .sort) _ _ low (c .before .before .before .before .before .size .ensures) (pre .1 .0 .1)) (pre .1 .1))))))
+    (λ c κs.
+    let if1 = c .before .before .before in
+    let entry = if1 .before .before .before .before in
+    let a = entry .args in
+    let pre = entry .pre .1 in
+    let low : a .sort < 4 = omega (arith, pre .1 .0, if1 .if1 .left) in (
+      omega (arith, row-inside (a .ends .now) (a .counts .now) (a .sort) low (pre .0 .inside), c .before .size .ensures, pre .1 .0),
+      (
+        subst (All (Below (upperOf (a .sort)))) (row-at _ _ _ _ _ (c .before .size .ensures) (pre .1 .0 .1)) (pre .0 .lawful (a .sort) low),
+        room-first _ _ (room-as (rows-more _ _ _ _ _ low (c .before .size .ensures) (pre .1 .0 .1)) (pre .1 .1)),
+      ),
+    ))
+    (λ c.
+    let if1 = c .before .before .before .before .before .before .before in
+    let entry = if1 .before .before .before .before in
+    omega (arith, entry .pre .1 .1 .0, if1 .if1 .left))
+    (λ c.
+    let size = c .before .before .before .before .before in
+    let entry = size .before .before .before .before .before .before in
+    omega (arith, entry .pre .1 .0 .few (entry .args .sort), size .size .ensures))
+    (λ c.
+    let size = c .before .before .before .before .before in
+    let if1 = size .before .before in
+    let entry = if1 .before .before .before .before in
+    let a = entry .args in
+    let pre = entry .pre .1 in
+    omega (
+      arith,
+      row-inside (a .ends .now) (a .counts .now) (a .sort) (omega (arith, pre .1 .0, if1 .if1 .left)) (pre .0 .inside),
+      size .size .ensures,
+      pre .1 .0,
+    ))
+    (λ c κs.
+    let put-row = c .before .before .before in
+    let size = put-row .before .before in
+    let if1 = size .before .before in
+    let entry = if1 .before .before .before .before in
+    let a = entry .args in
+    let pre = entry .pre .1 in
+    let low : a .sort < 4 = omega (arith, pre .1 .0, if1 .if1 .left) in (
+      omega (arith, entry .pre .0, low),
+      (
+        pre .0,
+        (
+          (omega (arith, low), omega (arith, pre .1 .0, size .size .ensures, place-next (a .counts .now) (a .sort))),
+          room-rest (put-row .put-row .ensures) _ (room-as (rows-more _ _ _ _ _ low (size .size .ensures) (pre .1 .0 .1)) (pre .1 .1)),
+        ),
+      ),
+    ))
     (λ c. search needs)
-    (λ c. let a = c .before .before .before .before .before .before .before .before .before .before .before .before .before .before .args in let pre = c .before .before .before .before .before .before .before .before .before .before .before .before .before .before .pre .1 in wrote-as (rows-more (a .ends .now) (a .counts .now) (a .sort) _ _ (omega (arith, pre .1 .0, c .before .before .before .before .before .before .before .before .before .before .if1 .left)) (c .before .before .before .before .before .before .before .before .size .ensures) (pre .1 .0 .1)) (wrote-then (c .before .before .before .before .before .before .put-row .ensures) (c .before .before .put-rows .ensures)))
+    (λ c.
+    let at-put-rows = c .before .before in
+    let put-row = at-put-rows .before .before .before .before in
+    let size = put-row .before .before in
+    let if1 = size .before .before in
+    let entry = if1 .before .before .before .before in
+    let a = entry .args in
+    let pre = entry .pre .1 in
+    wrote-as (rows-more (a .ends .now) (a .counts .now) (a .sort) _ _ (omega (arith, pre .1 .0, if1 .if1 .left)) (size .size .ensures) (pre .1 .0 .1))
+    (wrote-then (put-row .put-row .ensures) (at-put-rows .put-rows .ensures)))

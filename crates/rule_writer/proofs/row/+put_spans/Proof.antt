@@ -7,7 +7,7 @@ use borrow.Fn.Kinds.{In}
 use borrow.Fn.PlainCycle.{Measures, is, falls, and}
 use Rattle.item_writer.proofs.Chain.{wrote-then, room-first, room-rest, room-as, wrote-as, wrote-none}
 use Rattle.item_writer.proofs.time.put_span.Reads as put-span-reads
-use Rattle.rule_writer.specs.Rows.{FitsSpan}
+use Rattle.tables.specs.Days.{FitsSpan}
 use Rattle.rule_writer.proofs.Rows.{spans-none, spans-more, spans-lawful}
 use Rattle.rule_writer.proofs.row.+put_spans.{statement}
 use Rattle.rule_writer.proofs.row.+put_spans.Tie.{close}
@@ -28,12 +28,46 @@ pub +put-spans-spec : {M : Type 1} → statement M
 +put-spans-spec = close μ-put-spans λ t. put-spans-lts.spec (put-span-reads.Asked, put-span-reads.Learnt, put-spans-below t, put-spans.Post)
     (put-spans-at t)
     put-spans.Post
-    (λ c. wrote-none (spans-none (c .before .before .before .args .spans .now) (c .before .before .before .args .first) (c .before .before .before .args .many) (c .if1 .taken)))
+    (λ c.
+    let entry = c .before .before .before in
+    let args = entry .args in
+    wrote-none (spans-none (args .spans .now) (args .first) (args .many) (c .if1 .taken)))
     (λ c. search needs)
     (λ c. omega (arith, c .before .before .before .before .before .pre .1 .0, c .before .before .if1 .left))
-    (λ c κs. let a = c .before .before .before .before .before .args in let pre = c .before .before .before .before .before .pre .1 in (spans-lawful (a .spans .now) (a .first) (a .many) (c .before .before .if1 .left) (pre .0) FitsSpan (pre .1 .0) .0, room-first _ _ (room-as (spans-more (a .spans .now) (a .first) (a .many) (c .before .before .if1 .left) (pre .0)) (pre .1 .1))))
-    (λ c. omega (arith, c .before .before .before .before .before .before .before .before .before .pre .1 .0, c .before .before .before .before .before .before .if1 .left))
+    (λ c κs.
+    let if1 = c .before .before in
+    let entry = if1 .before .before .before in
+    let a = entry .args in
+    let pre = entry .pre .1 in (
+      spans-lawful (a .spans .now) (a .first) (a .many) (if1 .if1 .left) (pre .0) FitsSpan (pre .1 .0) .0,
+      room-first _ _ (room-as (spans-more (a .spans .now) (a .first) (a .many) (if1 .if1 .left) (pre .0)) (pre .1 .1)),
+    ))
+    (λ c.
+    let if1 = c .before .before .before .before .before .before in
+    let entry = if1 .before .before .before in
+    omega (arith, entry .pre .1 .0, if1 .if1 .left))
     (λ c. omega (arith, c .before .before .before .before .before .before .if1 .left))
-    (λ c κs. let a = c .before .before .before .before .before .before .before .before .before .args in let pre = c .before .before .before .before .before .before .before .before .before .pre .1 in (omega (arith, c .before .before .before .before .before .before .before .before .before .pre .0, c .before .before .before .before .before .before .if1 .left), (omega (arith, pre .0, c .before .before .before .before .before .before .if1 .left), (spans-lawful (a .spans .now) (a .first) (a .many) (c .before .before .before .before .before .before .if1 .left) (pre .0) FitsSpan (pre .1 .0) .1, room-rest (c .before .before .before .put-span .ensures) _ (room-as (spans-more (a .spans .now) (a .first) (a .many) (c .before .before .before .before .before .before .if1 .left) (pre .0)) (pre .1 .1))))))
+    (λ c κs.
+    let put-span = c .before .before .before in
+    let if1 = put-span .before .before .before in
+    let entry = if1 .before .before .before in
+    let a = entry .args in
+    let pre = entry .pre .1 in (
+      omega (arith, entry .pre .0, if1 .if1 .left),
+      (
+        omega (arith, pre .0, if1 .if1 .left),
+        (
+          spans-lawful (a .spans .now) (a .first) (a .many) (if1 .if1 .left) (pre .0) FitsSpan (pre .1 .0) .1,
+          room-rest (put-span .put-span .ensures) _ (room-as (spans-more (a .spans .now) (a .first) (a .many) (if1 .if1 .left) (pre .0)) (pre .1 .1)),
+        ),
+      ),
+    ))
     (λ c. search needs)
-    (λ c. let a = c .before .before .before .before .before .before .before .before .before .before .before .before .args in wrote-as (spans-more (a .spans .now) (a .first) (a .many) (c .before .before .before .before .before .before .before .before .before .if1 .left) (c .before .before .before .before .before .before .before .before .before .before .before .before .pre .1 .0)) (wrote-then (c .before .before .before .before .before .before .put-span .ensures) (c .before .before .put-spans .ensures)))
+    (λ c.
+    let at-put-spans = c .before .before in
+    let put-span = at-put-spans .before .before .before .before in
+    let if1 = put-span .before .before .before in
+    let entry = if1 .before .before .before in
+    let a = entry .args in
+    wrote-as (spans-more (a .spans .now) (a .first) (a .many) (if1 .if1 .left) (entry .pre .1 .0))
+    (wrote-then (put-span .put-span .ensures) (at-put-spans .put-spans .ensures)))

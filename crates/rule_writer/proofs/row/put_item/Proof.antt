@@ -9,37 +9,66 @@ use Rattle.rule_writer.proofs.row.put_item.Tie as tie
 
 put-years-requires : tie.Need-put-years-requires
 put-years-requires c κs =
-    let same = as-years (c .before .before .before .args .sort) (c .before .before .before .args .start, c .before .before .before .args .end) (omega arith) in
-    ((omega (arith, same .1, c .before .before .before .pre .0), omega (arith, same .1, c .before .before .before .pre .0)), room-as (same .0) (c .before .before .before .pre .1))
+    let entry = c .before .before .before in
+    let args = entry .args in
+    let pre = entry .pre in
+    let same = as-years (args .sort) (args .start, args .end) (omega arith) in
+    ((omega (arith, same .1, pre .0), omega (arith, same .1, pre .0)), room-as (same .0) (pre .1))
 
 put-months-requires : tie.Need-put-months-requires
 put-months-requires c κs =
-    let same = as-months (c .before .before .before .args .sort) (c .before .before .before .args .start, c .before .before .before .args .end) (omega arith) in
-    ((omega (arith, same .1, c .before .before .before .pre .0), omega (arith, same .1, c .before .before .before .pre .0)), room-as (same .0) (c .before .before .before .pre .1))
+    let entry = c .before .before .before in
+    let args = entry .args in
+    let pre = entry .pre in
+    let same = as-months (args .sort) (args .start, args .end) (omega arith) in
+    ((omega (arith, same .1, pre .0), omega (arith, same .1, pre .0)), room-as (same .0) (pre .1))
 
 put-weeks-requires : tie.Need-put-weeks-requires
 put-weeks-requires c κs =
-    let same = as-weeks (c .before .before .before .args .sort) (c .before .before .before .args .start, c .before .before .before .args .end) (omega arith) in
-    ((omega (arith, same .1, c .before .before .before .pre .0), omega (arith, same .1, c .before .before .before .pre .0)), room-as (same .0) (c .before .before .before .pre .1))
+    let entry = c .before .before .before in
+    let args = entry .args in
+    let pre = entry .pre in
+    let same = as-weeks (args .sort) (args .start, args .end) (omega arith) in
+    ((omega (arith, same .1, pre .0), omega (arith, same .1, pre .0)), room-as (same .0) (pre .1))
 
 put-weekdays-requires : tie.Need-put-weekdays-requires
 put-weekdays-requires c κs =
-    let same = as-weekdays (c .before .before .before .args .sort) (c .before .before .before .args .start, c .before .before .before .args .end) (omega arith) in
-    ((omega (arith, same .1, c .before .before .before .pre .0), omega (arith, same .1, c .before .before .before .pre .0)), room-as (same .0) (c .before .before .before .pre .1))
+    let entry = c .before .before .before in
+    let args = entry .args in
+    let pre = entry .pre in
+    let same = as-weekdays (args .sort) (args .start, args .end) (omega arith) in
+    ((omega (arith, same .1, pre .0), omega (arith, same .1, pre .0)), room-as (same .0) (pre .1))
 
 returns : tie.Need-returns
-returns c = wrote-as (as-years (c .before .before .before .before .before .before .args .sort) (c .before .before .before .before .before .before .args .start, c .before .before .before .before .before .before .args .end) (omega arith) .0) (c .before .before .put-years .ensures)
+returns c =
+    let put-years = c .before .before in
+    let entry = put-years .before .before .before .before in
+    let args = entry .args in
+    wrote-as (as-years (args .sort) (args .start, args .end) (omega arith) .0) (put-years .put-years .ensures)
 
 returns-2 : tie.Need-returns-2
-returns-2 c = wrote-as (as-months (c .before .before .before .before .before .before .args .sort) (c .before .before .before .before .before .before .args .start, c .before .before .before .before .before .before .args .end) (omega arith) .0) (c .before .before .put-months .ensures)
+returns-2 c =
+    let put-months = c .before .before in
+    let entry = put-months .before .before .before .before in
+    let args = entry .args in
+    wrote-as (as-months (args .sort) (args .start, args .end) (omega arith) .0) (put-months .put-months .ensures)
 
 returns-3 : tie.Need-returns-3
-returns-3 c = wrote-as (as-weeks (c .before .before .before .before .before .before .args .sort) (c .before .before .before .before .before .before .args .start, c .before .before .before .before .before .before .args .end) (omega arith) .0) (c .before .before .put-weeks .ensures)
+returns-3 c =
+    let put-weeks = c .before .before in
+    let entry = put-weeks .before .before .before .before in
+    let args = entry .args in
+    wrote-as (as-weeks (args .sort) (args .start, args .end) (omega arith) .0) (put-weeks .put-weeks .ensures)
 
 returns-4 : tie.Need-returns-4
-returns-4 c = wrote-as (as-weekdays (c .before .before .before .before .before .before .args .sort) (c .before .before .before .before .before .before .args .start, c .before .before .before .before .before .before .args .end) (omega arith) .0) (c .before .before .put-weekdays .ensures)
+returns-4 c =
+    let put-weekdays = c .before .before in
+    let entry = put-weekdays .before .before .before .before in
+    let args = entry .args in
+    wrote-as (as-weekdays (args .sort) (args .start, args .end) (omega arith) .0) (put-weekdays .put-weekdays .ensures)
 
 pub put-item-spec : {M : Type 1} → statement M
 put-item-spec =
     tie.close
-    (tie.spec put-years-requires put-months-requires put-weeks-requires put-weekdays-requires (λ c. search needs) returns (λ c. search needs) returns-2 (λ c. search needs) returns-3 (λ c. search needs) returns-4)
+    (tie.spec put-years-requires put-months-requires put-weeks-requires put-weekdays-requires (λ c. search needs) returns (λ c. search needs)
+    returns-2 (λ c. search needs) returns-3 (λ c. search needs) returns-4)

@@ -19,11 +19,13 @@ returns c =
 
 returns-2 : tie.Need-returns-2
 returns-2 c =
-    let args = c .before .before .before .before .before .before .before .args in
+    let copy = c .before .before in
+    let entry = copy .before .before .before .before .before in
+    let args = entry .args in
     let fine = written-fine (length (args .out .now)) (args .sheet .now) (omega arith) in
     let all = take-all (length (args .sheet .now)) (args .sheet .now) (omega arith) in (
-      ap (λ n. 0 ∷ n ∷ 0 ∷ []) (c .before .before .copy .ensures .0) ∙ sym (ap writtenNumbers fine),
-      c .before .before .copy .ensures .1 ∙ ap (_++ drop (length (args .sheet .now)) (args .out .now)) all ∙ sym (ap (λ w. buffer (w .result) (args .out .now)) fine),
+      ap (λ n. 0 ∷ n ∷ 0 ∷ []) (copy .copy .ensures .0) ∙ sym (ap writtenNumbers fine),
+      copy .copy .ensures .1 ∙ ap (_++ drop (length (args .sheet .now)) (args .out .now)) all ∙ sym (ap (λ w. buffer (w .result) (args .out .now)) fine),
     )
 
 pub copy-back-spec : {M : Type 1} → statement M

@@ -13,16 +13,25 @@ use Rattle.sheet.proofs.back.write_back.Tie as tie
 
 returns : tie.Need-returns
 returns c =
-    let args = c .before .before .before .before .before .before .before .before .before .before .before .args in
-    let bytes = known-bytes (args .sheet .now) (λ j. omega (arith, c .before .before .before .before .before .before .before .before .before .before .shared-slice-known .given j)) in
-    let check = sym (c .before .before .before .before .before .before .before .check .ensures .0) ∙ ap asChecked (c .before .before .before .before .before .checked .given .1) in
-    let same = back-copied (length (args .out .now)) (args .sheet .now) bytes _ _ check in
-    (c .before .before .copy-back .ensures .0 ∙ sym (ap writtenNumbers same), c .before .before .copy-back .ensures .1 ∙ sym (ap (λ w. buffer (w .result) (args .out .now)) same))
+    let copy-back = c .before .before in
+    let checked = copy-back .before .before .before in
+    let at-check = checked .before .before in
+    let known = at-check .before .before .before in
+    let entry = known .before in
+    let args = entry .args in
+    let bytes = known-bytes (args .sheet .now) (λ j. omega (arith, known .shared-slice-known .given j)) in
+    let check = sym (at-check .check .ensures .0) ∙ ap asChecked (checked .checked .given .1) in
+    let same = back-copied (length (args .out .now)) (args .sheet .now) bytes _ _ check in (
+      copy-back .copy-back .ensures .0 ∙ sym (ap writtenNumbers same),
+      copy-back .copy-back .ensures .1 ∙ sym (ap (λ w. buffer (w .result) (args .out .now)) same),
+    )
 
 returns-2 : tie.Need-returns-2
 returns-2 c =
-    let args = c .before .before .before .before .before .before .before .args in
-    let check = sym (c .before .before .before .check .ensures .0) ∙ ap asChecked (c .before .checked2 .given .1) in
+    let at-check = c .before .before .before in
+    let entry = at-check .before .before .before .before in
+    let args = entry .args in
+    let check = sym (at-check .check .ensures .0) ∙ ap asChecked (c .before .checked2 .given .1) in
     let same = back-refused (length (args .out .now)) (args .sheet .now) _ _ check in
     (sym (ap writtenNumbers same), sym (ap (λ w. buffer (w .result) (args .out .now)) same))
 

@@ -18,9 +18,13 @@ check-rules-requires c κs =
 
 returns : tie.Need-returns
 returns c =
-    let s = c .before .before .before .before .before .before .before .args .sheet .now in
-    let bytes = known-bytes s (λ j. omega (arith, c .before .before .before .before .before .before .shared-slice-known .given j)) in
-    let count = took _ _ _ (c .before .before .before .before .before .rule-count .ensures) (c .before .before .before .count .given .1) in
+    let at-count = c .before .before .before in
+    let rule-count = at-count .before .before in
+    let known = rule-count .before in
+    let entry = known .before in
+    let s = entry .args .sheet .now in
+    let bytes = known-bytes s (λ j. omega (arith, known .shared-slice-known .given j)) in
+    let count = took _ _ _ (rule-count .rule-count .ensures) (at-count .count .given .1) in
     (c .check-rules .ensures .0 ∙ sym (count-goes s bytes _ _ count), c .check-rules .ensures .1 ∙ sym (count-begun s _ _ count _))
 
 returns-2 : tie.Need-returns-2

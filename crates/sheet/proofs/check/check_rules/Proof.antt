@@ -33,4 +33,6 @@ check-rules-spec =
           ∙ sym (rules-go _ _ _ _ (went _ _ (c .before .before .before .before .before .rules-end .ensures .0) (c .before .before .before .step .given .1))),
       c .before .before .before .before .before .rules-end .ensures .1,
     ))
-    (λ c. (sym (rules-stop _ _ _ _ _ (halted _ _ _ (c .before .before .before .rules-end .ensures .0) (c .before .step2 .given .1))), c .before .before .before .rules-end .ensures .1)))
+    (λ c.
+    let rules-end = c .before .before .before in
+    (sym (rules-stop _ _ _ _ _ (halted _ _ _ (rules-end .rules-end .ensures .0) (c .before .step2 .given .1))), rules-end .rules-end .ensures .1)))

@@ -11,15 +11,24 @@ use Rattle.sheet.proofs.check.ended_at.Tie as tie
 
 returns-2 : tie.Need-returns-2
 returns-2 c =
-    let args = c .before .before .before .before .args in
-    sym (ended-more (sheetBits (args .sheet .now)) (args .at) _ (c .before .before .first-set .ensures) tt (omega arith) (omega (arith, length-sheetBits (args .sheet .now))))
+    let first-set = c .before .before in
+    let entry = first-set .before .before in
+    let args = entry .args in
+    sym
+    (ended-more (sheetBits (args .sheet .now)) (args .at) _ (first-set .first-set .ensures) tt (omega arith)
+    (omega (arith, length-sheetBits (args .sheet .now))))
 
 returns-3 : tie.Need-returns-3
 returns-3 c =
-    let args = c .before .before .before .before .args in
-    sym (ended-fine (sheetBits (args .sheet .now)) (args .at) _ (c .before .before .first-set .ensures) tt (omega arith) (omega (arith, length-sheetBits (args .sheet .now))))
+    let first-set = c .before .before in
+    let entry = first-set .before .before in
+    let args = entry .args in
+    sym
+    (ended-fine (sheetBits (args .sheet .now)) (args .at) _ (first-set .first-set .ensures) tt (omega arith)
+    (omega (arith, length-sheetBits (args .sheet .now))))
 
 pub ended-at-spec : {M : Type 1} → statement M
 ended-at-spec =
     tie.close
-    (tie.spec (λ c. search needs) (λ c. search needs) (λ c κs. search needs) (λ c. sym (ended-set _ _ _ (c .before .first-set .ensures) tt (c .if1 .taken))) returns-2 returns-3)
+    (tie.spec (λ c. search needs) (λ c. search needs) (λ c κs. search needs)
+    (λ c. sym (ended-set _ _ _ (c .before .first-set .ensures) tt (c .if1 .taken))) returns-2 returns-3)

@@ -18,17 +18,23 @@ abbrev μ-loop : tie.MeasureT-loop
 
 returns : tie.Need-returns Inv-loop μ-loop
 returns c =
-    let at = c .before .before .before .loop .at in
-    let args = c .before .before .before .before .before .args in
-    let here = set-here (sheetBits (args .sheet .now)) at (args .end) (omega arith) (omega (arith, length-sheetBits (args .sheet .now))) (omega (arith, c .before .field-at .ensures)) in
-    sym (ap (placeOr (args .end)) (c .before .before .before .loop .inv .1 ∙ here))
+    let loop = c .before .before .before in
+    let entry = loop .before .before in
+    let args = entry .args in
+    let at = loop .loop .at in
+    let here = set-here (sheetBits (args .sheet .now)) at (args .end) (omega arith) (omega (arith, length-sheetBits (args .sheet .now)))
+    (omega (arith, c .before .field-at .ensures)) in
+    sym (ap (placeOr (args .end)) (loop .loop .inv .1 ∙ here))
 
 loop-again : tie.Need-loop-again Inv-loop μ-loop
 loop-again c =
-    let at = c .before .before .before .loop .at in
-    let args = c .before .before .before .before .before .args in
-    let later = set-later (sheetBits (args .sheet .now)) at (args .end) (at + 1) (omega arith) (omega arith) (omega (arith, length-sheetBits (args .sheet .now))) (omega (arith, c .before .field-at .ensures)) in
-    (omega arith, c .before .before .before .loop .inv .1 ∙ later)
+    let loop = c .before .before .before in
+    let entry = loop .before .before in
+    let args = entry .args in
+    let at = loop .loop .at in
+    let later = set-later (sheetBits (args .sheet .now)) at (args .end) (at + 1) (omega arith) (omega arith)
+    (omega (arith, length-sheetBits (args .sheet .now))) (omega (arith, c .before .field-at .ensures)) in
+    (omega arith, loop .loop .inv .1 ∙ later)
 
 returns-2 : tie.Need-returns-2 Inv-loop μ-loop
 returns-2 c =

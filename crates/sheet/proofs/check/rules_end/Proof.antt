@@ -40,9 +40,10 @@ returns c =
 
 loop-again : tie.Need-loop-again Inv-loop μ-loop
 loop-again c =
-    let start = c .before .before .before .before .before .before .before in
-    let old = c .before .before .before .before .before .loop in
-    let step = went _ _ (c .before .before .before .rule-end .ensures) (c .before .step .given .1) in
+    let rule-end = c .before .before .before in
+    let loop = rule-end .before .before in
+    let old = loop .loop in
+    let step = went _ _ (rule-end .rule-end .ensures) (c .before .step .given .1) in
     let short : c .before .step .given .0 .0 ≤ old .at + 2998 = rule-end-short _ _ _ step in (
       omega arith,
       omega (arith, short, old .inv .1),
@@ -58,5 +59,6 @@ returns-2 c =
 pub rules-end-spec : {M : Type 1} → statement M
 rules-end-spec =
     tie.close
-    (tie.spec Inv-loop μ-loop loop-holds (λ c. omega arith) (λ c. omega arith) (λ c κs. omega (arith, c .before .loop .inv .1)) (λ c. search needs) (λ c. search needs)
+    (tie.spec Inv-loop μ-loop loop-holds (λ c. omega arith) (λ c. omega arith) (λ c κs. omega (arith, c .before .loop .inv .1)) (λ c. search needs)
+    (λ c. search needs)
     returns (λ c. omega arith) (λ c. omega arith) loop-again returns-2)

@@ -13,7 +13,22 @@ item-end-spec =
     tie.close
     (tie.spec (λ c κs. search needs) (λ c κs. search needs) (λ c κs. search needs) (λ c κs. search needs) (λ c κs. search needs)
     (λ c. c .years-end .ensures ∙ as-years _ _ _ (eq-eqb (c .before .before .before .args .sort) 0 (omega arith)))
-    (λ c. c .monthdays-end .ensures ∙ as-monthdays _ _ _ (ne-eqb (c .before .before .before .args .sort) 0 (omega arith)) (eq-eqb (c .before .before .before .args .sort) 1 (omega arith)))
-    (λ c. c .weeks-end .ensures ∙ as-weeks _ _ _ (ne-eqb (c .before .before .before .args .sort) 0 (omega arith)) (ne-eqb (c .before .before .before .args .sort) 1 (omega arith)) (eq-eqb (c .before .before .before .args .sort) 2 (omega arith)))
-    (λ c. c .weekdays-end .ensures ∙ as-weekdays _ _ _ (ne-eqb (c .before .before .before .args .sort) 0 (omega arith)) (ne-eqb (c .before .before .before .args .sort) 1 (omega arith)) (ne-eqb (c .before .before .before .args .sort) 2 (omega arith)) (eq-eqb (c .before .before .before .args .sort) 3 (omega arith)))
-    (λ c. c .spans-end .ensures ∙ as-spans _ _ _ (ne-eqb (c .before .before .before .args .sort) 0 (omega arith)) (ne-eqb (c .before .before .before .args .sort) 1 (omega arith)) (ne-eqb (c .before .before .before .args .sort) 2 (omega arith)) (ne-eqb (c .before .before .before .args .sort) 3 (omega arith))))
+    (λ c.
+    let entry = c .before .before .before in
+    let args = entry .args in
+    c .monthdays-end .ensures ∙ as-monthdays _ _ _ (ne-eqb (args .sort) 0 (omega arith)) (eq-eqb (args .sort) 1 (omega arith)))
+    (λ c.
+    let entry = c .before .before .before in
+    let args = entry .args in
+    c .weeks-end .ensures ∙ as-weeks _ _ _ (ne-eqb (args .sort) 0 (omega arith)) (ne-eqb (args .sort) 1 (omega arith))
+    (eq-eqb (args .sort) 2 (omega arith)))
+    (λ c.
+    let entry = c .before .before .before in
+    let args = entry .args in
+    c .weekdays-end .ensures ∙ as-weekdays _ _ _ (ne-eqb (args .sort) 0 (omega arith)) (ne-eqb (args .sort) 1 (omega arith))
+    (ne-eqb (args .sort) 2 (omega arith)) (eq-eqb (args .sort) 3 (omega arith)))
+    (λ c.
+    let entry = c .before .before .before in
+    let args = entry .args in
+    c .spans-end .ensures ∙ as-spans _ _ _ (ne-eqb (args .sort) 0 (omega arith)) (ne-eqb (args .sort) 1 (omega arith))
+    (ne-eqb (args .sort) 2 (omega arith)) (ne-eqb (args .sort) 3 (omega arith))))

@@ -13,7 +13,8 @@ use Rattle.sheet.proofs.end.items_end.Tie as tie
 
 abbrev Inv-loop : tie.InvT-loop
 Inv-loop sheet start sort count at₀ left₀ at left =
-    (left ≤ count) × (at + left * 52 ≤ start + count * 52) × (skipAll (itemEnds sort) left (sheetBits sheet) at ≡ skipAll (itemEnds sort) count (sheetBits sheet) start)
+    (left ≤ count) × (at + left * 52 ≤ start + count * 52) ×
+    (skipAll (itemEnds sort) left (sheetBits sheet) at ≡ skipAll (itemEnds sort) count (sheetBits sheet) start)
 
 abbrev μ-loop : tie.MeasureT-loop
 μ-loop sheet start sort count at₀ left₀ at left = left
@@ -25,9 +26,10 @@ returns c =
 
 loop-again : tie.Need-loop-again Inv-loop μ-loop
 loop-again c =
-    let start = c .before .before .before .before .before .before .before in
-    let old = c .before .before .before .before .before .loop in
-    let step = went _ _ (c .before .before .before .item-end .ensures) (c .before .step .given .1) in
+    let item-end = c .before .before .before in
+    let loop = item-end .before .before in
+    let old = loop .loop in
+    let step = went _ _ (item-end .item-end .ensures) (c .before .step .given .1) in
     let short : c .before .step .given .0 .0 ≤ old .at + 52 = item-short _ _ _ _ step in
     (omega arith, omega (arith, short, old .inv .1), sym (skip-goes _ _ _ _ _ _ (omega arith) step) ∙ old .inv .2)
 

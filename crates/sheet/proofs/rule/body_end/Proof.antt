@@ -1,7 +1,6 @@
 -- `sheet::rule::body_end` meets its contract: five rows of items, one behind the other.
 -- Assumes nothing.
 use mathlib.Core.Path.{sym, ap, _∙_}
-use Prim.Native.Nat.{_+_, _*_, _≤_}
 use native.Mathlib.Omega.{arith}
 use borrow.Author.Needs.{needs}
 use Rattle.definition.specs.Sheet.{body}
@@ -18,25 +17,93 @@ body-end-spec =
     (tie.spec
     (λ c κs. search needs)
     (λ c. search needs) (λ c. search needs)
-    (λ c. ap asStep (c .enum-told .given .1) ∙ sym (ends-stops _ _ _ _ _ _ (years-row _ _ _ ∙ halted _ _ _ (c .before .before .items-end .ensures) (c .enum-told .given .1))))
-    (λ c κs. let e1 : c .before .first .given .0 .0 ≤ c .before .before .before .before .before .args .at + c .before .before .before .before .before .args .years * 52 = row-short _ _ _ _ _ (went _ _ (c .before .before .before .items-end .ensures) (c .before .first .given .1)) in
-    omega (arith, e1))
+    (λ c.
+    let items-end = c .before .before in
+    ap asStep (c .enum-told .given .1)
+    ∙ sym (ends-stops _ _ _ _ _ _ (years-row _ _ _ ∙ halted _ _ _ (items-end .items-end .ensures) (c .enum-told .given .1))))
+    (λ c κs.
+    let items-end = c .before .before .before in
+    omega (arith, row-short _ _ _ _ _ (went _ _ (items-end .items-end .ensures) (c .before .first .given .1))))
     (λ c. search needs) (λ c. search needs)
-    (λ c. ap asStep (c .enum-told2 .given .1) ∙ sym (ends-goes _ _ _ _ _ (years-row _ _ _ ∙ went _ _ (c .before .before .before .before .before .before .items-end .ensures) (c .before .before .before .before .first .given .1)) ∙ (ends-stops _ _ _ _ _ _ (monthdays-row _ _ _ ∙ halted _ _ _ (c .before .before .items-end2 .ensures) (c .enum-told2 .given .1)))))
-    (λ c κs. let e1 : c .before .before .before .before .before .first .given .0 .0 ≤ c .before .before .before .before .before .before .before .before .before .args .at + c .before .before .before .before .before .before .before .before .before .args .years * 52 = row-short _ _ _ _ _ (went _ _ (c .before .before .before .before .before .before .before .items-end .ensures) (c .before .before .before .before .before .first .given .1)) in
-    let e2 : c .before .second .given .0 .0 ≤ c .before .before .before .before .before .first .given .0 .0 + c .before .before .before .before .before .before .before .before .before .args .monthdays * 52 = row-short _ _ _ _ _ (went _ _ (c .before .before .before .items-end2 .ensures) (c .before .second .given .1)) in
-    omega (arith, e1, e2))
+    (λ c.
+    let items-end2 = c .before .before in
+    let first = items-end2 .before .before in
+    let items-end = first .before .before in
+    ap asStep (c .enum-told2 .given .1)
+    ∙ sym (ends-goes _ _ _ _ _ (years-row _ _ _ ∙ went _ _ (items-end .items-end .ensures) (first .first .given .1)) ∙
+    (ends-stops _ _ _ _ _ _ (monthdays-row _ _ _ ∙ halted _ _ _ (items-end2 .items-end2 .ensures) (c .enum-told2 .given .1)))))
+    (λ c κs.
+    let items-end2 = c .before .before .before in
+    let first = items-end2 .before .before in
+    let items-end = first .before .before in
+    omega (
+      arith,
+      row-short _ _ _ _ _ (went _ _ (items-end .items-end .ensures) (first .first .given .1)),
+      row-short _ _ _ _ _ (went _ _ (items-end2 .items-end2 .ensures) (c .before .second .given .1)),
+    ))
     (λ c. search needs) (λ c. search needs)
-    (λ c. ap asStep (c .enum-told3 .given .1) ∙ sym (ends-goes _ _ _ _ _ (years-row _ _ _ ∙ went _ _ (c .before .before .before .before .before .before .before .before .before .before .items-end .ensures) (c .before .before .before .before .before .before .before .before .first .given .1)) ∙ (ends-goes _ _ _ _ _ (monthdays-row _ _ _ ∙ went _ _ (c .before .before .before .before .before .before .items-end2 .ensures) (c .before .before .before .before .second .given .1)) ∙ (ends-stops _ _ _ _ _ _ (weeks-row _ _ _ ∙ halted _ _ _ (c .before .before .items-end3 .ensures) (c .enum-told3 .given .1))))))
-    (λ c κs. let e1 : c .before .before .before .before .before .before .before .before .before .first .given .0 .0 ≤ c .before .before .before .before .before .before .before .before .before .before .before .before .before .args .at + c .before .before .before .before .before .before .before .before .before .before .before .before .before .args .years * 52 = row-short _ _ _ _ _ (went _ _ (c .before .before .before .before .before .before .before .before .before .before .before .items-end .ensures) (c .before .before .before .before .before .before .before .before .before .first .given .1)) in
-    let e2 : c .before .before .before .before .before .second .given .0 .0 ≤ c .before .before .before .before .before .before .before .before .before .first .given .0 .0 + c .before .before .before .before .before .before .before .before .before .before .before .before .before .args .monthdays * 52 = row-short _ _ _ _ _ (went _ _ (c .before .before .before .before .before .before .before .items-end2 .ensures) (c .before .before .before .before .before .second .given .1)) in
-    let e3 : c .before .third .given .0 .0 ≤ c .before .before .before .before .before .second .given .0 .0 + c .before .before .before .before .before .before .before .before .before .before .before .before .before .args .weeks * 52 = row-short _ _ _ _ _ (went _ _ (c .before .before .before .items-end3 .ensures) (c .before .third .given .1)) in
-    omega (arith, e1, e2, e3))
+    (λ c.
+    let items-end3 = c .before .before in
+    let second = items-end3 .before .before in
+    let items-end2 = second .before .before in
+    let first = items-end2 .before .before in
+    let items-end = first .before .before in
+    ap asStep (c .enum-told3 .given .1)
+    ∙ sym (ends-goes _ _ _ _ _ (years-row _ _ _ ∙ went _ _ (items-end .items-end .ensures) (first .first .given .1)) ∙
+    (ends-goes _ _ _ _ _ (monthdays-row _ _ _ ∙ went _ _ (items-end2 .items-end2 .ensures) (second .second .given .1)) ∙
+    (ends-stops _ _ _ _ _ _ (weeks-row _ _ _ ∙ halted _ _ _ (items-end3 .items-end3 .ensures) (c .enum-told3 .given .1))))))
+    (λ c κs.
+    let items-end3 = c .before .before .before in
+    let second = items-end3 .before .before in
+    let items-end2 = second .before .before in
+    let first = items-end2 .before .before in
+    let items-end = first .before .before in
+    omega (
+      arith,
+      row-short _ _ _ _ _ (went _ _ (items-end .items-end .ensures) (first .first .given .1)),
+      row-short _ _ _ _ _ (went _ _ (items-end2 .items-end2 .ensures) (second .second .given .1)),
+      row-short _ _ _ _ _ (went _ _ (items-end3 .items-end3 .ensures) (c .before .third .given .1)),
+    ))
     (λ c. search needs) (λ c. search needs)
-    (λ c. ap asStep (c .enum-told4 .given .1) ∙ sym (ends-goes _ _ _ _ _ (years-row _ _ _ ∙ went _ _ (c .before .before .before .before .before .before .before .before .before .before .before .before .before .before .items-end .ensures) (c .before .before .before .before .before .before .before .before .before .before .before .before .first .given .1)) ∙ (ends-goes _ _ _ _ _ (monthdays-row _ _ _ ∙ went _ _ (c .before .before .before .before .before .before .before .before .before .before .items-end2 .ensures) (c .before .before .before .before .before .before .before .before .second .given .1)) ∙ (ends-goes _ _ _ _ _ (weeks-row _ _ _ ∙ went _ _ (c .before .before .before .before .before .before .items-end3 .ensures) (c .before .before .before .before .third .given .1)) ∙ (ends-stops _ _ _ _ _ _ (weekdays-row _ _ _ ∙ halted _ _ _ (c .before .before .items-end4 .ensures) (c .enum-told4 .given .1)))))))
-    (λ c κs. let e1 : c .before .before .before .before .before .before .before .before .before .before .before .before .before .first .given .0 .0 ≤ c .before .before .before .before .before .before .before .before .before .before .before .before .before .before .before .before .before .args .at + c .before .before .before .before .before .before .before .before .before .before .before .before .before .before .before .before .before .args .years * 52 = row-short _ _ _ _ _ (went _ _ (c .before .before .before .before .before .before .before .before .before .before .before .before .before .before .before .items-end .ensures) (c .before .before .before .before .before .before .before .before .before .before .before .before .before .first .given .1)) in
-    let e2 : c .before .before .before .before .before .before .before .before .before .second .given .0 .0 ≤ c .before .before .before .before .before .before .before .before .before .before .before .before .before .first .given .0 .0 + c .before .before .before .before .before .before .before .before .before .before .before .before .before .before .before .before .before .args .monthdays * 52 = row-short _ _ _ _ _ (went _ _ (c .before .before .before .before .before .before .before .before .before .before .before .items-end2 .ensures) (c .before .before .before .before .before .before .before .before .before .second .given .1)) in
-    let e3 : c .before .before .before .before .before .third .given .0 .0 ≤ c .before .before .before .before .before .before .before .before .before .second .given .0 .0 + c .before .before .before .before .before .before .before .before .before .before .before .before .before .before .before .before .before .args .weeks * 52 = row-short _ _ _ _ _ (went _ _ (c .before .before .before .before .before .before .before .items-end3 .ensures) (c .before .before .before .before .before .third .given .1)) in
-    let e4 : c .before .fourth .given .0 .0 ≤ c .before .before .before .before .before .third .given .0 .0 + c .before .before .before .before .before .before .before .before .before .before .before .before .before .before .before .before .before .args .weekdays * 52 = row-short _ _ _ _ _ (went _ _ (c .before .before .before .items-end4 .ensures) (c .before .fourth .given .1)) in
-    omega (arith, e1, e2, e3, e4))
-    (λ c. c .items-end5 .ensures ∙ sym (ends-goes _ _ _ _ _ (years-row _ _ _ ∙ went _ _ (c .before .before .before .before .before .before .before .before .before .before .before .before .before .before .before .before .items-end .ensures) (c .before .before .before .before .before .before .before .before .before .before .before .before .before .before .first .given .1)) ∙ (ends-goes _ _ _ _ _ (monthdays-row _ _ _ ∙ went _ _ (c .before .before .before .before .before .before .before .before .before .before .before .before .items-end2 .ensures) (c .before .before .before .before .before .before .before .before .before .before .second .given .1)) ∙ (ends-goes _ _ _ _ _ (weeks-row _ _ _ ∙ went _ _ (c .before .before .before .before .before .before .before .before .items-end3 .ensures) (c .before .before .before .before .before .before .third .given .1)) ∙ (ends-goes _ _ _ _ _ (weekdays-row _ _ _ ∙ went _ _ (c .before .before .before .before .items-end4 .ensures) (c .before .before .fourth .given .1)) ∙ spans-row _ _ _))))))
+    (λ c.
+    let items-end4 = c .before .before in
+    let third = items-end4 .before .before in
+    let items-end3 = third .before .before in
+    let second = items-end3 .before .before in
+    let items-end2 = second .before .before in
+    let first = items-end2 .before .before in
+    let items-end = first .before .before in
+    ap asStep (c .enum-told4 .given .1)
+    ∙ sym (ends-goes _ _ _ _ _ (years-row _ _ _ ∙ went _ _ (items-end .items-end .ensures) (first .first .given .1)) ∙
+    (ends-goes _ _ _ _ _ (monthdays-row _ _ _ ∙ went _ _ (items-end2 .items-end2 .ensures) (second .second .given .1)) ∙
+    (ends-goes _ _ _ _ _ (weeks-row _ _ _ ∙ went _ _ (items-end3 .items-end3 .ensures) (third .third .given .1)) ∙
+    (ends-stops _ _ _ _ _ _ (weekdays-row _ _ _ ∙ halted _ _ _ (items-end4 .items-end4 .ensures) (c .enum-told4 .given .1)))))))
+    (λ c κs.
+    let items-end4 = c .before .before .before in
+    let third = items-end4 .before .before in
+    let items-end3 = third .before .before in
+    let second = items-end3 .before .before in
+    let items-end2 = second .before .before in
+    let first = items-end2 .before .before in
+    let items-end = first .before .before in
+    omega (
+      arith,
+      row-short _ _ _ _ _ (went _ _ (items-end .items-end .ensures) (first .first .given .1)),
+      row-short _ _ _ _ _ (went _ _ (items-end2 .items-end2 .ensures) (second .second .given .1)),
+      row-short _ _ _ _ _ (went _ _ (items-end3 .items-end3 .ensures) (third .third .given .1)),
+      row-short _ _ _ _ _ (went _ _ (items-end4 .items-end4 .ensures) (c .before .fourth .given .1)),
+    ))
+    (λ c.
+    let fourth = c .before .before in
+    let items-end4 = fourth .before .before in
+    let third = items-end4 .before .before in
+    let items-end3 = third .before .before in
+    let second = items-end3 .before .before in
+    let items-end2 = second .before .before in
+    let first = items-end2 .before .before in
+    let items-end = first .before .before in
+    c .items-end5 .ensures
+    ∙ sym (ends-goes _ _ _ _ _ (years-row _ _ _ ∙ went _ _ (items-end .items-end .ensures) (first .first .given .1)) ∙
+    (ends-goes _ _ _ _ _ (monthdays-row _ _ _ ∙ went _ _ (items-end2 .items-end2 .ensures) (second .second .given .1)) ∙
+    (ends-goes _ _ _ _ _ (weeks-row _ _ _ ∙ went _ _ (items-end3 .items-end3 .ensures) (third .third .given .1)) ∙
+    (ends-goes _ _ _ _ _ (weekdays-row _ _ _ ∙ went _ _ (items-end4 .items-end4 .ensures) (fourth .fourth .given .1)) ∙ spans-row _ _ _))))))

@@ -17,5 +17,8 @@ pub counted-end-spec : {M : Type 1} → statement M
 counted-end-spec =
     tie.close
     (tie.spec (λ c κs. search needs) (λ c. search needs) body-end-requires (λ c. search needs)
-    (λ c. c .body-end .ensures ∙ sym (counted-goes _ _ _ _ (took-counts _ _ _ _ _ _ _ (c .before .before .before .before .counts-at .ensures) (c .before .before .head .given .1))))
+    (λ c.
+    let head = c .before .before in
+    let counts = head .before .before in
+    c .body-end .ensures ∙ sym (counted-goes _ _ _ _ (took-counts _ _ _ _ _ _ _ (counts .counts-at .ensures) (head .head .given .1))))
     (λ c. sym (counted-stops _ _ _ _ (stopped-counts _ _ _ (c .before .before .before .counts-at .ensures) (c .before .head2 .given .1)))))

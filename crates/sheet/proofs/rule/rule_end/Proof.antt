@@ -17,5 +17,8 @@ pub rule-end-spec : {M : Type 1} → statement M
 rule-end-spec =
     tie.close
     (tie.spec (λ c κs. search needs) (λ c. search needs) counted-end-requires (λ c. search needs)
-    (λ c. c .counted-end .ensures ∙ sym (rule-goes _ _ _ _ (took-title _ _ _ _ _ (c .before .before .before .before .title-at .ensures) (c .before .before .head .given .1))))
+    (λ c.
+    let head = c .before .before in
+    let title = head .before .before in
+    c .counted-end .ensures ∙ sym (rule-goes _ _ _ _ (took-title _ _ _ _ _ (title .title-at .ensures) (head .head .given .1))))
     (λ c. sym (rule-stops _ _ _ _ (stopped-title _ _ _ (c .before .before .before .title-at .ensures) (c .before .head2 .given .1)))))

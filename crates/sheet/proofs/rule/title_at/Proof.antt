@@ -1,11 +1,10 @@
 -- `sheet::rule::title_at` meets its contract: three fields, one behind the other.
 -- Assumes nothing.
-use mathlib.Core.Path.{_≡_, sym}
-use Prim.Native.Nat.{_+_}
+use mathlib.Core.Path.{sym}
 use native.Mathlib.Omega.{arith}
 use borrow.Author.Needs.{needs}
-use Rattle.definition.proofs.Reading.{then-goes, then-stops, then-stops-later, via-goes, via-stops, field-end}
-use Rattle.field.proofs.Taking.{took, stopped}
+use Rattle.definition.proofs.Reading.{then-goes, then-stops, then-stops-later, via-goes, via-stops}
+use Rattle.field.proofs.Taking.{took, took-end, stopped}
 use Rattle.definition.specs.Sheet.{title}
 use Rattle.sheet.proofs.Heads.{title-stops}
 use Rattle.sheet.proofs.rule.title_at.Statement.{statement}
@@ -18,11 +17,50 @@ title-at-spec =
     (tie.spec
     (λ c κs. search needs)
     (λ c. search needs) (λ c. search needs) (λ c κs. search needs)
-    (λ c. title-stops _ _ _ (c .refused .ensures) (c .before .enum-told .given .1) (then-stops _ _ _ _ (via-stops _ _ _ _ _ (stopped _ _ _ (c .before .before .before .choice-at .ensures) (c .before .enum-told .given .1)))))
-    (λ c κs. let e1 : c .before .first .given .0 .1 .0 ≡ c .before .before .before .before .before .args .at + 2 = field-end _ _ _ _ _ _ _ ((took _ _ _ (c .before .before .before .choice-at .ensures) (c .before .first .given .1))) in omega (arith, e1))
+    (λ c.
+    let choice = c .before .before .before in
+    title-stops _ _ _ (c .refused .ensures) (c .before .enum-told .given .1)
+    (then-stops _ _ _ _ (via-stops _ _ _ _ _ (stopped _ _ _ (choice .choice-at .ensures) (c .before .enum-told .given .1)))))
+    (λ c κs.
+    let choice = c .before .before .before in
+    omega (arith, took-end _ _ _ _ _ (choice .choice-at .ensures) (c .before .first .given .1)))
     (λ c. search needs) (λ c. search needs) (λ c κs. search needs)
-    (λ c. title-stops _ _ _ (c .refused2 .ensures) (c .before .enum-told2 .given .1) (then-stops-later _ _ _ _ (via-goes _ _ _ _ _ (took _ _ _ (c .before .before .before .before .before .before .before .choice-at .ensures) (c .before .before .before .before .before .first .given .1))) (then-stops _ _ _ _ (via-stops _ _ _ _ _ (stopped _ _ _ (c .before .before .before .choice-at2 .ensures) (c .before .enum-told2 .given .1))))))
-    (λ c κs. let e1 : c .before .before .before .before .before .first .given .0 .1 .0 ≡ c .before .before .before .before .before .before .before .before .before .args .at + 2 = field-end _ _ _ _ _ _ _ ((took _ _ _ (c .before .before .before .before .before .before .before .choice-at .ensures) (c .before .before .before .before .before .first .given .1))) in let e2 : c .before .second .given .0 .1 .0 ≡ c .before .before .before .before .before .first .given .0 .1 .0 + 2 = field-end _ _ _ _ _ _ _ ((took _ _ _ (c .before .before .before .choice-at2 .ensures) (c .before .second .given .1))) in (omega arith, omega (arith, e1, e2)))
+    (λ c.
+    let choice2 = c .before .before .before in
+    let first = choice2 .before .before in
+    let choice = first .before .before in
+    title-stops _ _ _ (c .refused2 .ensures) (c .before .enum-told2 .given .1)
+    (then-stops-later _ _ _ _ (via-goes _ _ _ _ _ (took _ _ _ (choice .choice-at .ensures) (first .first .given .1)))
+    (then-stops _ _ _ _ (via-stops _ _ _ _ _ (stopped _ _ _ (choice2 .choice-at2 .ensures) (c .before .enum-told2 .given .1))))))
+    (λ c κs.
+    let choice2 = c .before .before .before in
+    let first = choice2 .before .before in
+    let choice = first .before .before in (
+      omega arith,
+      omega (
+        arith,
+        took-end _ _ _ _ _ (choice .choice-at .ensures) (first .first .given .1),
+        took-end _ _ _ _ _ (choice2 .choice-at2 .ensures) (c .before .second .given .1),
+      ),
+    ))
     (λ c. search needs) (λ c. search needs) (λ c κs. search needs)
-    (λ c. title-stops _ _ _ (c .refused3 .ensures) (c .before .enum-told3 .given .1) (then-stops-later _ _ _ _ (via-goes _ _ _ _ _ (took _ _ _ (c .before .before .before .before .before .before .before .before .before .before .before .choice-at .ensures) (c .before .before .before .before .before .before .before .before .before .first .given .1))) (then-stops-later _ _ _ _ (via-goes _ _ _ _ _ (took _ _ _ (c .before .before .before .before .before .before .before .choice-at2 .ensures) (c .before .before .before .before .before .second .given .1))) (stopped _ _ _ (c .before .before .before .take-at .ensures) (c .before .enum-told3 .given .1)))))
-    (λ c. sym ((then-goes _ _ _ _ (via-goes _ _ _ _ _ (took _ _ _ (c .before .before .before .before .before .before .before .before .before .before .before .choice-at .ensures) (c .before .before .before .before .before .before .before .before .before .first .given .1))) (then-goes _ _ _ _ (via-goes _ _ _ _ _ (took _ _ _ (c .before .before .before .before .before .before .before .choice-at2 .ensures) (c .before .before .before .before .before .second .given .1))) (took _ _ _ (c .before .before .before .take-at .ensures) (c .before .third .given .1)))))))
+    (λ c.
+    let take = c .before .before .before in
+    let second = take .before .before in
+    let choice2 = second .before .before in
+    let first = choice2 .before .before in
+    let choice = first .before .before in
+    title-stops _ _ _ (c .refused3 .ensures) (c .before .enum-told3 .given .1)
+    (then-stops-later _ _ _ _ (via-goes _ _ _ _ _ (took _ _ _ (choice .choice-at .ensures) (first .first .given .1)))
+    (then-stops-later _ _ _ _ (via-goes _ _ _ _ _ (took _ _ _ (choice2 .choice-at2 .ensures) (second .second .given .1)))
+    (stopped _ _ _ (take .take-at .ensures) (c .before .enum-told3 .given .1)))))
+    (λ c.
+    let take = c .before .before .before in
+    let second = take .before .before in
+    let choice2 = second .before .before in
+    let first = choice2 .before .before in
+    let choice = first .before .before in
+    sym
+    ((then-goes _ _ _ _ (via-goes _ _ _ _ _ (took _ _ _ (choice .choice-at .ensures) (first .first .given .1)))
+    (then-goes _ _ _ _ (via-goes _ _ _ _ _ (took _ _ _ (choice2 .choice-at2 .ensures) (second .second .given .1)))
+    (took _ _ _ (take .take-at .ensures) (c .before .third .given .1)))))))

@@ -9,5 +9,6 @@ use Rattle.sheet.proofs.check.Checked.of.Tie as tie
 pub of-spec : {M : Type 1} → statement M
 of-spec =
     tie.close
-    (tie.spec (λ c. search needs) (λ c. search needs) (λ c. sym (ap (λ step. andThen (λ u q. got (c .before .before .before .args .count) q) (asStep step)) (c .before .step .given .1)))
+    (tie.spec (λ c. search needs) (λ c. search needs)
+    (λ c. sym (ap (λ step. andThen (λ u q. got (c .before .before .before .args .count) q) (asStep step)) (c .before .step .given .1)))
     (λ c. sym (ap (λ step. andThen (λ u q. got (c .before .before .before .args .count) q) (asStep step)) (c .before .step2 .given .1))))

@@ -1,0 +1,19 @@
+-- What an answer's numbers say, in 01's order.
+use mathlib.Core.List.{List, [], _∷_}
+use Prim.Native.Nat.{ℕ}
+use Rattle.definition.specs.Lookup.{Looked}
+use Rattle.answers.specs.declared.Folded.{Folded}
+use Rattle.answers.specs.declared.Answer.{Answer}
+use Rattle.answers.specs.declared.Written.{Written}
+
+-- code, drained, emitted, left, bytes and place
+abbrev pub foldNumbers : Folded → List ℕ
+foldNumbers r = r .code ∷ r .drained ∷ r .emitted ∷ r .left ∷ r .bytes ∷ r .place ∷ []
+
+-- code, kind, comment and place, as the definition looks a state up
+abbrev pub lookedUp : Answer → Looked
+lookedUp a = record { code = a .code; kind = a .kind; comment = a .comment; place = a .place }
+
+-- code, bytes written and place
+abbrev pub writeNumbers : Written → List ℕ
+writeNumbers r = r .code ∷ r .bytes ∷ r .place ∷ []

@@ -1,0 +1,69 @@
+-- DRAINED AND LEFT: the rules before the first stopper are the sheet's first rules, and none of them stops; with the rules left they are all
+-- rules. And how they are judged: 5 where there are too many boxes, 6 where a list is too long, else fine. Rests on the definition alone.
+use mathlib.Core.Path.{_≡_, refl}
+use mathlib.Core.Bool.{Bool, true, false}
+use mathlib.Core.List.{List, [], _∷_}
+use mathlib.Core.Option.{some, none}
+use Prim.Native.Nat.{ℕ, zero, suc, _+_, _≤_, _<_}
+use native.Mathlib.Omega.{arith}
+use lib.ListN.{length, drop, getD}
+use borrow.Author.Tests.{lt-ltb, le-ltb}
+use Rattle.definition.specs.Field.{manyBoxes, longList}
+use Rattle.definition.specs.Rule.{Rule, noRule}
+use Rattle.definition.specs.Sheet.{Limits}
+use Rattle.definition.specs.Stop.{stops, drained, left}
+use Rattle.definition.specs.Point.{dimensions, firstTooLong}
+use Rattle.definition.specs.Box.{boxCount}
+use Rattle.definition.specs.Fold.{fine, over, judged, drain}
+
+-- ## The drained rules
+pub drained-fewer : (rs : List Rule) → length (drained rs) ≤ length rs
+unfolding drained
+drained-fewer [] = omega arith
+drained-fewer (r ∷ rs) = go (stops r) refl (drained-fewer rs)
+  where
+    go : (b : Bool) → stops r ≡ b → length (drained rs) ≤ length rs → length (drained (r ∷ rs)) ≤ suc (length rs)
+    go true e ih = rw (e, drained) (omega arith)
+    go false e ih = rw (e, drained) (omega (arith, ih))
+
+-- each is the rule at its place, and does not stop
+pub drained-each : (rs : List Rule) (k : ℕ) → k < length (drained rs) → (getD (drained rs) k noRule ≡ getD rs k noRule) × (stops (getD rs k noRule) ≡ false)
+unfolding drained
+drained-each [] k l = absurd (omega arith)
+drained-each (r ∷ rs) k l = go (stops r) refl k l (drained-each rs)
+  where
+    go : (b : Bool) → stops r ≡ b → (k : ℕ) → k < length (drained (r ∷ rs))
+        → ((j : ℕ) → j < length (drained rs) → (getD (drained rs) j noRule ≡ getD rs j noRule) × (stops (getD rs j noRule) ≡ false))
+        → (getD (drained (r ∷ rs)) k noRule ≡ getD (r ∷ rs) k noRule) × (stops (getD (r ∷ rs) k noRule) ≡ false)
+    go true e k l ih = let m : k < 0 = rw (e, drained) at l in absurd (omega arith)
+    go false e zero l ih = (rw (e, drained) refl, e)
+    go false e (suc k) l ih =
+        let m : suc k < suc (length (drained rs)) = rw (e, drained) at l in
+        let i = ih k (omega arith) in
+        (rw (e, drained) (i .0), i .1)
+
+-- behind them are the rules left, and every rule is one or the other
+pub left-behind : (rs : List Rule) → (drop (length (drained rs)) rs ≡ left rs) × (length (drained rs) + length (left rs) ≡ length rs)
+unfolding drained left
+left-behind [] = (refl, refl)
+left-behind (r ∷ rs) = go (stops r) refl (left-behind rs)
+  where
+    go : (b : Bool) → stops r ≡ b → (drop (length (drained rs)) rs ≡ left rs) × (length (drained rs) + length (left rs) ≡ length rs)
+        → (drop (length (drained (r ∷ rs))) (r ∷ rs) ≡ left (r ∷ rs)) × (length (drained (r ∷ rs)) + length (left (r ∷ rs)) ≡ length (r ∷ rs))
+    go true e ih = rw (e, drained, left) (refl, omega arith)
+    go false e ih = rw (e, drained, left) (ih .0, omega (arith, ih .1))
+
+-- ## How they are judged
+module _ (limits : Limits) (rs : List Rule) where
+  pub drain-many : limits .boxes < boxCount dimensions rs → drain limits rs ≡ over manyBoxes (boxCount dimensions rs)
+  unfolding drain judged
+  drain-many h = let e = lt-ltb (limits .boxes) (boxCount dimensions rs) h in rw (e, judged) refl
+
+  module _ (few : boxCount dimensions rs ≤ limits .boxes) where
+    pub drain-long : (k : ℕ) → firstTooLong (limits .entries) rs ≡ some k → drain limits rs ≡ over longList k
+    unfolding drain judged
+    drain-long k h = let e = le-ltb (limits .boxes) (boxCount dimensions rs) few in rw (e, h, judged) refl
+
+    pub drain-fine : firstTooLong (limits .entries) rs ≡ none → drain limits rs ≡ fine
+    unfolding drain judged
+    drain-fine h = let e = le-ltb (limits .boxes) (boxCount dimensions rs) few in rw (e, h, judged) refl

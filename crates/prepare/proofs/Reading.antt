@@ -1,0 +1,103 @@
+-- A SHEET THAT WAS READ: what draining asks for holds of it, and what draining and cutting leave is that of its drained rules. Rests on the
+-- laws of beginnings.
+use mathlib.Core.Path.{_≡_, sym, ap, ap₂, _∙_, subst}
+use mathlib.Core.List.{List}
+use Prim.Native.Nat.{ℕ, _*_, _≤_, _<_}
+use native.Mathlib.Omega.{arith}
+use lib.ListN.{length, take}
+use lib.Seq.{length-take-le, getD-take}
+use Rattle.laws.proofs.Lists.{every-all}
+use Rattle.definition.specs.Field.{sheetBits}
+use Rattle.definition.specs.Rule.{Rule}
+use Rattle.definition.specs.Sheet.{form1, limits1, rule}
+use Rattle.definition.specs.Stop.{drained}
+use Rattle.definition.specs.Point.{dimensions}
+use Rattle.definition.specs.Box.{boxCount}
+use Rattle.definition.proofs.Bits.{Bytes}
+use Rattle.definition.proofs.Drained.{drained-fewer}
+use Rattle.definition.proofs.FoldBox.{drained-all}
+use Rattle.definition.proofs.Lawful.{rules-each}
+use Rattle.definition.proofs.SheetRead.{encode-decoded}
+use Rattle.sheet.specs.Rules.{begun, AllBegin}
+use Rattle.sheet.specs.Parts.{SheetRead}
+use Rattle.sheet.proofs.Begins.{begun-length, rules-few, all-begin}
+use Rattle.tables.specs.Rules.{AllFit, RuleTimes, RuleDays}
+use Rattle.tables.specs.Cuts.{Cut}
+use Rattle.draining.specs.Table.{Tabled, rulesFrom}
+use Rattle.draining.proofs.Begun.{rules-noted}
+use Rattle.prepare.specs.Prepared.{Prepared}
+
+module _ (sheet : List ℕ) (bytes : Bytes sheet) (begins : List ℕ) (rs : List Rule) (end count : ℕ) (reading : SheetRead sheet begins rs end) (many : count ≡ length rs) where
+  same : rulesFrom (sheetBits sheet) begins 0 count ≡ rs
+  same = ap₂ (λ b n. rulesFrom (sheetBits sheet) b 0 n) (reading .noted) many ∙ rules-noted sheet bytes rs end (reading .read) (reading .before) (reading .room)
+
+  few : length rs ≤ limits1 .rules
+  few = rules-few sheet rs end bytes (reading .read)
+
+  -- ## What draining asks for
+  pub rules-begin : AllBegin (sheetBits sheet) begins count
+  rules-begin =
+      subst (λ b. AllBegin (sheetBits sheet) b count) (sym (reading .noted))
+      (subst (AllBegin (sheetBits sheet) (begun sheet (reading .before))) (sym many) (all-begin sheet bytes rs end (reading .read) (reading .before) (reading .room)))
+
+  pub begins-there : count ≤ length begins
+  begins-there = omega (arith, many, few, reading .room, ap length (reading .noted), begun-length sheet (reading .before))
+
+  fits : AllFit (drained rs)
+  fits = drained-all _ rs (every-all _ ((rule form1 limits1) .fits) (λ r e. e) rs (rules-each form1 limits1 rs (encode-decoded form1 limits1 sheet bytes rs end (reading .read) .0)))
+
+  -- ## What it leaves
+  module _ (n : ℕ) (states counts spans replacing rangeCounts ranges : List ℕ) (e : n ≡ length (drained (rulesFrom (sheetBits sheet) begins 0 count)))
+      (t : Tabled states counts spans replacing rangeCounts ranges (drained (rulesFrom (sheetBits sheet) begins 0 count))) where
+    drained-many : n ≡ length (drained rs)
+    drained-many = e ∙ ap (λ qs. length (drained qs)) same
+
+    tabled : Tabled states counts spans replacing rangeCounts ranges (drained rs)
+    tabled = subst (λ qs. Tabled states counts spans replacing rangeCounts ranges (drained qs)) same t
+
+    pub drained-few : n ≤ count
+    drained-few = omega (arith, drained-many, drained-fewer rs, many)
+
+    module _ (all-counts : count * 4 ≤ length rangeCounts) (all-ranges : count * 256 ≤ length ranges) where
+      pub drained-days : RuleDays rangeCounts ranges n (drained rs)
+      drained-days = record {
+        many = drained-many;
+        few-rules = omega (arith, drained-few, many, few);
+        all-counts = omega (arith, drained-few);
+        all-ranges = omega (arith, drained-few);
+        each = λ k l. tabled k (omega (arith, drained-many)) .1 .days-held;
+        fits = fits;
+      }
+
+      module _ (all-states : count ≤ length states) (all-span-counts : count ≤ length counts) (all-spans : count * 16 ≤ length spans) (all-replacing : count ≤ length replacing) where
+        -- the times of the drained rules, and of no others
+        drained-times : RuleTimes (take n states) (take n counts) (take (n * 16) spans) (drained rs)
+        drained-times = record {
+          all-states = length-take-le n states (omega (arith, drained-few)) ∙ drained-many;
+          all-counts = length-take-le n counts (omega (arith, drained-few)) ∙ drained-many;
+          all-spans = length-take-le (n * 16) spans (omega (arith, drained-few)) ∙ ap (_* 16) drained-many;
+          each = λ k l.
+              let held = tabled k l .0 in
+              let less : k < n = omega (arith, drained-many) in
+              record {
+                state-held = getD-take n states k 0 less ∙ held .state-held;
+                count-held = getD-take n counts k 0 less ∙ held .count-held;
+                few-held = held .few-held;
+                spans-held = λ j m. getD-take (n * 16) spans _ 0 (omega (arith, held .few-held)) ∙ held .spans-held j m;
+              };
+          fits = fits;
+        }
+
+        -- THE TABLES AND THE CUTS are those of the drained rules
+        pub sheet-prepared : (boxes : ℕ) (rows sizes cuts : List ℕ) → boxes ≡ boxCount dimensions (drained rs) → Cut rows sizes cuts (drained rs)
+            → Prepared states counts spans replacing rangeCounts ranges rows sizes cuts (drained rs) (record { rules = n; boxes = boxes })
+        sheet-prepared boxes rows sizes cuts b c = record {
+          rules-many = drained-many;
+          boxes-many = b;
+          times = drained-times;
+          drawable = (
+            drained-days,
+            record { all-replacing = omega (arith, drained-few, drained-many); noted = λ k l. tabled k l .1 .replacing-held },
+            c,
+          );
+        }

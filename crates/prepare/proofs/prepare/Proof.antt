@@ -1,0 +1,85 @@
+-- `prepare::prepare` meets its contract: the rules drained are those of the sheet, and what is drained can be cut at.
+use native.Mathlib.Omega.{arith}
+use Rattle.field.proofs.Bytes.{known-bytes}
+use Rattle.prepare.proofs.Reading.{rules-begin, begins-there, drained-few, drained-days, sheet-prepared}
+use Rattle.prepare.proofs.prepare.Statement.{statement}
+use Rattle.prepare.proofs.prepare.Tie as tie
+
+drain-requires : tie.Need-drain-requires
+drain-requires c κs =
+    let shared-slice-known = c .before .before .before .before .before .before .before .before .before .before .before .before .before .before .before .before in
+    let entry = shared-slice-known .before in
+    let sheet = entry .args .sheet .now in
+    let pre = entry .pre in
+    let read = pre .0 .1 .1 in
+    let bytes = known-bytes sheet (λ j. omega (arith, shared-slice-known .shared-slice-known .given j)) in
+    let room = pre .1 .0 in (
+      rules-begin sheet bytes _ _ _ _ (read .0) (read .1),
+      ((begins-there sheet bytes _ _ _ _ (read .0) (read .1), room .0, room .1, room .2, room .3), pre .1 .1 .0),
+    )
+
+cut-all-requires : tie.Need-cut-all-requires
+cut-all-requires c κs =
+    let drain-step = c .before .before .before .before .before .before .before .before .before .before .before .before .before .before .before .before .before in
+    let shared-slice-known = drain-step .before .before .before .before .before .before .before .before .before .before .before .before .before .before .before .before .before in
+    let entry = shared-slice-known .before in
+    let sheet = entry .args .sheet .now in
+    let pre = entry .pre in
+    let read = pre .0 .1 .1 in
+    let drain = drain-step .drain in
+    let bytes = known-bytes sheet (λ j. omega (arith, shared-slice-known .shared-slice-known .given j)) in
+    let few = drained-few sheet bytes _ _ _ _ (read .0) (read .1) _ _ _ _ _ _ _ (drain .ensures .0) (drain .ensures .1) in
+    let kept = drain .kept .1 .1 .1 .1 .1 .1 .1 in
+    let days = drained-days sheet bytes _ _ _ _ (read .0) (read .1) _ _ _ _ _ _ _ (drain .ensures .0) (drain .ensures .1)
+    (omega (arith, kept .0, pre .1 .1 .0 .0)) (omega (arith, kept .1 .0, pre .1 .1 .0 .1)) in
+    ((_, days), (pre .1 .1 .1 .0, pre .1 .1 .1 .1, omega (arith, few, pre .1 .1 .1 .2)))
+
+returns : tie.Need-returns
+returns c =
+    let cut-all = c .before .before .before .before .before .before in
+    let drain-step = cut-all .before .before .before .before .before .before .before .before .before .before .before .before .before .before .before .before .before .before in
+    let shared-slice-known = drain-step .before .before .before .before .before .before .before .before .before .before .before .before .before .before .before .before .before in
+    let entry = shared-slice-known .before in
+    let sheet = entry .args .sheet .now in
+    let pre = entry .pre in
+    let drain = drain-step .drain in
+    let kept = drain .kept .1 .1 .1 in
+    let bytes = known-bytes sheet (λ j. omega (arith, shared-slice-known .shared-slice-known .given j)) in
+    λ rs end reading many. let days = drained-days sheet bytes _ rs end _ reading many _ _ _ _ _ _ _ (drain .ensures .0) (drain .ensures .1)
+    (omega (arith, kept .1 .1 .1 .1 .0, pre .1 .1 .0 .0)) (omega (arith, kept .1 .1 .1 .1 .1 .0, pre .1 .1 .0 .1)) in
+    let cut = cut-all .cut-all .ensures _ days in
+    sheet-prepared sheet bytes _ rs end _ reading many _ _ _ _ _ _ _ (drain .ensures .0) (drain .ensures .1)
+    (omega (arith, kept .1 .1 .1 .1 .0, pre .1 .1 .0 .0)) (omega (arith, kept .1 .1 .1 .1 .1 .0, pre .1 .1 .0 .1)) (omega (arith, kept .0, pre .1 .0 .0))
+    (omega (arith, kept .1 .0, pre .1 .0 .1)) (omega (arith, kept .1 .1 .0, pre .1 .0 .2)) (omega (arith, kept .1 .1 .1 .0, pre .1 .0 .3)) _ _ _ _
+    (cut .0) (cut .1)
+
+pub prepare-spec : {M : Type 1} → statement M
+prepare-spec =
+    tie.close
+    (tie.spec drain-requires cut-all-requires (λ c.
+    let drain = c .before .before .before .before .before .before .before .before .before .before .before .before .before .before .before .before .before .before .before .before .before .before .before .before in
+    drain .drain .kept .1 .1 .1 .0)
+    (λ c.
+    let drain = c .before .before .before .before .before .before .before .before .before .before .before .before .before .before .before .before .before .before .before .before .before .before .before .before in
+    drain .drain .kept .1 .1 .1 .1 .0)
+    (λ c.
+    let drain = c .before .before .before .before .before .before .before .before .before .before .before .before .before .before .before .before .before .before .before .before .before .before .before .before in
+    drain .drain .kept .1 .1 .1 .1 .1 .0)
+    (λ c.
+    let drain = c .before .before .before .before .before .before .before .before .before .before .before .before .before .before .before .before .before .before .before .before .before .before .before .before in
+    drain .drain .kept .1 .1 .1 .1 .1 .1 .0)
+    (λ c.
+    let drain = c .before .before .before .before .before .before .before .before .before .before .before .before .before .before .before .before .before .before .before .before .before .before .before .before in
+    drain .drain .kept .1 .1 .1 .1 .1 .1 .1 .0)
+    (λ c.
+    let drain = c .before .before .before .before .before .before .before .before .before .before .before .before .before .before .before .before .before .before .before .before .before .before .before .before in
+    drain .drain .kept .1 .1 .1 .1 .1 .1 .1 .1 .0)
+    (λ c.
+    let cut-all = c .before .before .before .before .before .before in
+    cut-all .cut-all .kept .1 .1 .0)
+    (λ c.
+    let cut-all = c .before .before .before .before .before .before in
+    cut-all .cut-all .kept .1 .0)
+    (λ c.
+    let cut-all = c .before .before .before .before .before .before in
+    cut-all .cut-all .kept .0) returns)

@@ -1,0 +1,27 @@
+-- A sheet in its parts: its rules with the bits at which they begin, and the rules left where they stand.
+use mathlib.Core.Path.{_≡_}
+use mathlib.Core.List.{List, flatMap}
+use Prim.Native.Nat.{ℕ, _*_, _-_, _≤_, _<_, _^_}
+use lib.ListN.{length, take, drop}
+use Rattle.definition.specs.Field.{got, sheetBits}
+use Rattle.definition.specs.Rule.{Rule}
+use Rattle.definition.specs.Sheet.{form1, limits1, rule, decode}
+use Rattle.definition.specs.Stop.{drained, left}
+use Rattle.sheet.specs.Rules.{begun}
+
+-- the rules of a sheet, the bit after them, and where each begins
+pub record SheetRead (sheet begins : List ℕ) (rs : List Rule) (end : ℕ) : Type 0 where
+  pub read : decode form1 limits1 sheet ≡ got rs end
+  pub before : List ℕ
+  pub room : 64 ≤ length before
+  pub noted : begins ≡ begun sheet before
+
+-- the bits of the rules left stand in the sheet between two places; and how many rules were drained and are left
+pub record Leaving (sheet : List ℕ) (rs : List Rule) (start end drainedRules leftRules : ℕ) : Type 0 where
+  pub ordered : start ≤ end
+  pub inside : end ≤ 8 * length sheet
+  pub low : end < 2 ^ 25
+  pub stands : take (end - start) (drop start (sheetBits sheet)) ≡ flatMap ((rule form1 limits1) .write) (left rs)
+  pub drained-many : length (drained rs) ≡ drainedRules
+  pub left-many : length (left rs) ≡ leftRules
+  pub left-few : leftRules ≤ limits1 .rules

@@ -1,0 +1,9 @@
+pub mod Sizes
+pub mod Search
+pub mod Ranges
+pub mod Rules
+pub mod Cuts
+pub mod Lists
+pub mod Days
+pub mod Items
+pub mod Pages

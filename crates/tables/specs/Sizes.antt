@@ -1,0 +1,26 @@
+-- How many numbers a row of each table has.
+use Prim.Native.Nat.{ℕ, _+_, _*_}
+use Rattle.definition.specs.Sheet.{limits1}
+
+-- a rule's spans
+abbrev pub spanPlaces : ℕ
+spanPlaces = limits1 .spans
+
+-- a rule's ranges in one dimension: an item gives two at most, each with its start and its end
+abbrev pub rangePlaces : ℕ
+rangePlaces = 4 * limits1 .items
+
+-- the cuts of a dimension: both bounds, and both ends of the ranges that each of n rules has at most in it
+abbrev pub rowPlaces : ℕ → ℕ
+rowPlaces n = 2 + rangePlaces * n
+
+-- a box's list: how many rules it has, then their numbers
+abbrev pub listLimit : ℕ
+listLimit = limits1 .entries
+
+abbrev pub listPlaces : ℕ
+listPlaces = listLimit + 1
+
+-- the words of a day of a list within the limit
+abbrev pub dayRoom : ℕ
+dayRoom = 2049
