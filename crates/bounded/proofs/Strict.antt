@@ -1,5 +1,4 @@
 -- One lemma for each return of splitting and of the way back, once over the bounds.
--- Assumes nothing.
 use mathlib.Core.Path.{_≡_, ap}
 use mathlib.Core.List.{[], _∷_}
 use mathlib.Core.Option.{none, some}

@@ -1,5 +1,4 @@
 -- Splitting, over any bounds: a value lies in just one of an item's ranges where the item, wrapping or not, has it, and in none elsewhere.
--- Assumes nothing.
 use mathlib.Core.Path.{_≡_, refl, sym, ap, _∙_}
 use mathlib.Core.List.{List, [], _∷_}
 use mathlib.Core.Bool.{Bool, true, false, _&&_, _||_, cond}

@@ -1,5 +1,4 @@
 -- Successors and predecessors within bounds, said once over the bounds, and each kind's answers set out as numbers.
--- Assumes nothing.
 use mathlib.Core.Option.{Option, none, some}
 use Prim.Native.Nat.{ℕ, suc, _-_}
 use lib.Dec.{ltb}

@@ -1,5 +1,4 @@
 -- Ranges as the code answers them, set out as definition's pairs and lists of pairs. Rests on definition's specs/Range.
--- Assumes nothing.
 use mathlib.Core.List.{List, [], _∷_}
 use mathlib.Core.Option.{Option, none, some}
 use Prim.Native.Nat.{suc, _-_}

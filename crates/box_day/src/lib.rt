@@ -1,4 +1,7 @@
-// A box's day as words, and whether they are those of another day. The buffers from `stated` to `painted` are scratch.
+// A box's day as words, and whether they are those of another day. `same_day` has more than twelve parameters: the scratch of a day is six
+// slices (`words` or `other`, `span_states`, `span_codes`, `strokes`, `minute_cuts`, `interval_states`), the rules' times are three, and the
+// language lends no struct of slices.
+use casts::u16_to_usize;
 ghost use mathlib.Core.Path.{_≡_};
 ghost use Prim.Native.Nat.{_≤_};
 ghost use lib.Dec.{eqb};
@@ -8,38 +11,39 @@ ghost use Rattle.words.specs.Words.{part};
 ghost use Rattle.box_day.specs.Boxes.{Scratch};
 ghost use Rattle.tables.specs.Days.{boxWords, Ready};
 
-const LIST_PLACES: usize = 33;
-
 // The words of a box's day.
 pub fn fold_box(
     words: &mut [u64],
-    stated: &mut [u32],
-    spanned: &mut [u64],
+    span_states: &mut [u32],
+    span_codes: &mut [u64],
     strokes: &mut [u64],
-    cuts: &mut [u64],
-    painted: &mut [u64],
+    minute_cuts: &mut [u64],
+    interval_states: &mut [u64],
     states: &[u32],
-    counts: &[u8],
+    span_counts: &[u8],
     spans: &[u64],
     lists: &[u16],
-    node: usize,
+    box_index: usize,
 ) -> usize
-    requires { ⌜ Ready (now states) (now counts) (now spans) (now lists) (length (now words)) node ⌝ }
-    requires { ⌜ Scratch (length (now stated)) (length (now spanned)) (length (now strokes)) (length (now cuts)) (length (now painted)) ⌝ }
-    ensures { λ r. ⌜ (part (now (words .exit)) 0 r ≡ boxWords (now (states .entry)) (now (counts .entry)) (now (spans .entry)) (now (lists .entry)) node)
-        × (r ≡ length (boxWords (now (states .entry)) (now (counts .entry)) (now (spans .entry)) (now (lists .entry)) node)) ⌝ }
+    requires { ⌜ Ready (now states) (now «span_counts») (now spans) (now lists) (length (now words)) «box_index» ⌝ }
+    requires { ⌜ Scratch (length (now «span_states»)) (length (now «span_codes»)) (length (now strokes)) (length (now «minute_cuts»))
+        (length (now «interval_states»)) ⌝ }
+    ensures { λ r. ⌜ (part (now (words .exit)) 0 r
+        ≡ boxWords (now (states .entry)) (now («span_counts» .entry)) (now (spans .entry)) (now (lists .entry)) «box_index»)
+        × (r ≡ length (boxWords (now (states .entry)) (now («span_counts» .entry)) (now (spans .entry)) (now (lists .entry)) «box_index»)) ⌝ }
 {
-    let first = node * LIST_PLACES + 1;
-    let end = first + paving::wide(lists[node * LIST_PLACES]);
+    let count_at = box_index * tables::LIST_PLACES;
+    let first = count_at + 1;
+    let end = first + u16_to_usize(lists[count_at]);
     canonical_time::normalize_time_rules(
         words,
-        stated,
-        spanned,
+        span_states,
+        span_codes,
         strokes,
-        cuts,
-        painted,
+        minute_cuts,
+        interval_states,
         states,
-        counts,
+        span_counts,
         spans,
         &lists[first..end],
     )
@@ -49,39 +53,40 @@ pub fn fold_box(
 pub fn same_day(
     words: &[u64],
     other: &mut [u64],
-    stated: &mut [u32],
-    spanned: &mut [u64],
+    span_states: &mut [u32],
+    span_codes: &mut [u64],
     strokes: &mut [u64],
-    cuts: &mut [u64],
-    painted: &mut [u64],
+    minute_cuts: &mut [u64],
+    interval_states: &mut [u64],
     states: &[u32],
-    counts: &[u8],
+    span_counts: &[u8],
     spans: &[u64],
     lists: &[u16],
-    node: usize,
-    count: usize,
+    box_index: usize,
+    word_count: usize,
 ) -> bool
-    requires { ⌜ Ready (now states) (now counts) (now spans) (now lists) (length (now other)) node ⌝ }
-    requires { ⌜ Scratch (length (now stated)) (length (now spanned)) (length (now strokes)) (length (now cuts)) (length (now painted)) ⌝ }
-    requires { ⌜ count ≤ length (now words) ⌝ }
-    ensures { λ r. ⌜ r ≡ sameList eqb (boxWords (now (states .entry)) (now (counts .entry)) (now (spans .entry)) (now (lists .entry)) node)
-        (part (now (words .entry)) 0 count) ⌝ }
+    requires { ⌜ Ready (now states) (now «span_counts») (now spans) (now lists) (length (now other)) «box_index» ⌝ }
+    requires { ⌜ Scratch (length (now «span_states»)) (length (now «span_codes»)) (length (now strokes)) (length (now «minute_cuts»))
+        (length (now «interval_states»)) ⌝ }
+    requires { ⌜ «word_count» ≤ length (now words) ⌝ }
+    ensures { λ r. ⌜ r ≡ sameList eqb (boxWords (now (states .entry)) (now («span_counts» .entry)) (now (spans .entry)) (now (lists .entry)) «box_index»)
+        (part (now (words .entry)) 0 «word_count») ⌝ }
 {
-    let length = fold_box(
+    let other_count = fold_box(
         other,
-        stated,
-        spanned,
+        span_states,
+        span_codes,
         strokes,
-        cuts,
-        painted,
+        minute_cuts,
+        interval_states,
         states,
-        counts,
+        span_counts,
         spans,
         lists,
-        node,
+        box_index,
     );
-    if length == count {
-        day_words::same_words(other, words, 0, count)
+    if other_count == word_count {
+        day_flat::same_words(other, words, word_count)
     } else {
         false
     }

@@ -1,6 +1,5 @@
 -- DAYS, OVER THE ENDS OF YEARS: how long a year is, a day is the one before the day after it, weekdays follow each other, and where one comes
 -- by walking some days on or back.
--- Assumes nothing.
 use mathlib.Core.Path.{_≡_, refl, ap, _∙_}
 use mathlib.Core.Bool.{Bool, true, false, cond}
 use mathlib.Core.Logic.{⊎-elim}

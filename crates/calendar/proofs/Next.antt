@@ -1,6 +1,5 @@
 -- THE DAY AFTER A DATE is a date, the day after it in the year, and the weekdays of both follow each other, over the ends of months and years
 -- too. Rests on the laws of dates and of days.
--- Assumes nothing.
 use mathlib.Core.Path.{_≡_, refl, sym, ap, _∙_}
 use mathlib.Core.Bool.{Bool, true, false}
 use Prim.Native.Nat.{ℕ, suc, _+_, _-_, _%_, _≤_, _<_}

@@ -1,5 +1,4 @@
 -- What the calendar answers for a year, a month and a day: the point of the date, or none. Rests on definition's specs/Date.
--- Assumes nothing.
 use mathlib.Core.List.{List, [], _∷_}
 use mathlib.Core.Option.{Option, none, some}
 use Prim.Native.Nat.{ℕ}

@@ -1,5 +1,4 @@
 -- A day that its year has. Rests on definition's specs/Date.
--- Assumes nothing.
 use Prim.Native.Nat.{_≤_}
 use Rattle.definition.specs.Date.{YearDay, yearLength}
 

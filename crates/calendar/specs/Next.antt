@@ -1,5 +1,4 @@
 -- The day after a date: in the same month; else the first of the next month; else 1 January of the next year.
--- Assumes nothing.
 use mathlib.Core.Bool.{true, false}
 use Prim.Native.Nat.{ℕ, suc}
 use lib.Dec.{ltb}

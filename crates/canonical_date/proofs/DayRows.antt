@@ -1,5 +1,4 @@
--- The rows of a rule's days, one behind the other: how far a row goes, how many ranges it gives, and the ways out of the reader of rows.
--- Assumes nothing.
+-- The rows of a rule's days, one behind the other: how far a row goes, how many ranges it gives, and one lemma for each return of the reader of rows.
 use mathlib.Core.Path.{_≡_, refl, sym, ap, ap₂, _∙_}
 use mathlib.Core.List.{List}
 use mathlib.Core.Option.{Option, none, some}
@@ -62,7 +61,7 @@ module _ (sort : ℕ) (sheet : List ℕ) (b : Bytes sheet) where
 pub count-few : (s : List ℕ) (h sort n q : ℕ) → countAt s h sort ≡ got n q → n ≤ 16
 count-few s h sort n q e = leb-true _ _ (field-passed _ _ _ s (h + 10 * sort) n q e)
 
--- ## The ways out
+-- ## One lemma for each return
 module _ (s : List ℕ) (h sort p : ℕ) (l c : List ℕ) where
   pub rows-refused : (k i q : ℕ) → countAt s h sort ≡ refused i q → loaded l c none ≡ loadRows k s h sort p l c
   unfolding loadRows

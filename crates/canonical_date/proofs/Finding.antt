@@ -11,7 +11,7 @@ use Rattle.definition.specs.Rule.{Rule}
 use Rattle.definition.proofs.Bits.{Bytes}
 use Rattle.definition.proofs.Lengths.{rule-short}
 use Rattle.definition.proofs.RuleParts.{RuleParts, rule-parts}
-use Rattle.sheet.specs.Begin.{ruleAt, Readable}
+use Rattle.sheet.specs.Begin.{ruleReadAt, Readable}
 use Rattle.tables.specs.Rules.{DaysHeld}
 use Rattle.canonical_date.specs.declared.days.Days.{Days}
 use Rattle.canonical_date.specs.declared.days.Days.the-variants.{Spans, Stops}
@@ -25,7 +25,7 @@ use Rattle.canonical_date.proofs.Table.{table-selector, table-counts}
 
 module _ (sheet : List ℕ) (b : Bytes sheet) (p : ℕ) (readable : Readable (sheetBits sheet) p) (low : p < 2 ^ 25) (l c : List ℕ) (room : 256 ≤ length l) (seats : 4 ≤ length c) where
   abbrev r : Rule
-  r = ruleAt (sheetBits sheet) p
+  r = ruleReadAt (sheetBits sheet) p
 
   w : RuleParts (sheetBits sheet) p r (readable .end)
   w = rule-parts (sheetBits sheet) p r (readable .end) (readable .read)

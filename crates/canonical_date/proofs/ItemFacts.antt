@@ -1,12 +1,11 @@
 -- What is known of an item that does not stop: it takes at most 52 bits, and gives one or two ranges within its dimension's bounds.
--- Assumes nothing.
 use mathlib.Core.Path.{_≡_, refl, sym, ap, _∙_, subst}
 use mathlib.Core.List.{List}
 use mathlib.Core.Option.{Option, none, some}
 use mathlib.Core.Bool.{Bool, true, false, _&&_, cond}
-use Prim.Native.Nat.{ℕ, suc, _+_, _≤_, _<_}
+use Prim.Native.Nat.{ℕ, _+_, _≤_, _<_}
 use native.Mathlib.Omega.{arith}
-use lib.Dec.{eqb, ltb}
+use lib.Dec.{eqb}
 use lib.ListN.{length}
 use Rattle.laws.specs.Lists.{All, onlyIf}
 use Rattle.laws.proofs.Lists.{All-map}
@@ -18,6 +17,7 @@ use Rattle.definition.specs.Sheet.{yearRange, monthdayRange, weekRange, weekDay
 use Rattle.definition.specs.Range.{Ends, split}
 use Rattle.definition.specs.Stop.{everyNth}
 use Rattle.definition.proofs.Bits.{Bytes}
+use Rattle.definition.proofs.Points.{split-few}
 use Rattle.definition.proofs.Faithful.{Faithful, Always}
 use Rattle.definition.proofs.Reading.{Short}
 use Rattle.definition.proofs.Lengths.{years-short, monthdays-short, weeks-short, weekdays-short}
@@ -72,14 +72,6 @@ weekdays-split (fixedDays m n o i j) f R h = ((m, n), weekday-lawful (fixedDays 
 weekdays-split (holiday k o) f R h = some-other R h
 
 -- ## The facts
-split-few : (b : Range) (e : Ends) → length (split b e) ≤ 2
-unfolding split
-split-few b e = go (ltb (e .0) (suc (e .1))) refl
-  where
-    go : (t : Bool) → ltb (e .0) (suc (e .1)) ≡ t → length (split b e) ≤ 2
-    go true k = rw (k, split) (omega arith)
-    go false k = rw (k, split) (omega arith)
-
 told-facts : {A : Type 0} (L : Layout A) (says : A → Option (List Range)) (b : Range) (m : ℕ) → m ≤ 52 → b .1 ≤ 10000 → Faithful Always L → Short L m → Splits L says b
     → (sheet : List ℕ) → Bytes sheet → (p : ℕ) (R : List Range) (q : ℕ) → told says (L .read (sheetBits sheet) p) ≡ some (R, q) → ItemFacts b p R q
 told-facts L says b m l top a short splits sheet bytes p R q e =

@@ -1,6 +1,5 @@
 -- What a row of items means: where no item stops it, the ranges of the definition; where one does, no end. Said once over the layout of
 -- the items, and then for each sort.
--- Assumes nothing.
 use mathlib.Core.Path.{_≡_, refl, sym, ap, _∙_}
 use mathlib.Core.List.{List, [], _∷_, _++_, flatMap}
 use mathlib.Core.Option.{Option, none, some}

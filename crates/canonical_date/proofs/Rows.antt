@@ -1,5 +1,4 @@
--- The ways out of the readers of a row: the items one by one, and the whole dimension where there is none.
--- Assumes nothing.
+-- One lemma for each return of the readers of a row: the items one by one, and the whole dimension where there is none.
 use mathlib.Core.Path.{_≡_, refl, sym, ap, ap₂, _∙_}
 use mathlib.Core.List.{List, [], _∷_, _++_}
 use mathlib.Core.Option.{Option, none, some}

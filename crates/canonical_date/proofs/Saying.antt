@@ -1,5 +1,4 @@
--- What an item's reading says: the ways out of the readers of items, and that the ends that were read lie within their bounds.
--- Assumes nothing.
+-- What an item's reading says: one lemma for each return of the readers of items, and that the ends that were read lie within their bounds.
 use mathlib.Core.Path.{_≡_, sym, ap, ap₂, _∙_}
 use mathlib.Core.List.{List}
 use mathlib.Core.Option.{Option, none, some}
@@ -19,7 +18,7 @@ use Rattle.definition.proofs.SheetRead.{carried}
 use Rattle.definition.proofs.Lawful.{Bounded, year-lawful, month-lawful, week-lawful, weekday-lawful}
 use Rattle.canonical_date.specs.Says.{told, boundsOf, itemSays, yearSays, monthSays, weekSays, weekdaySays}
 
--- ## The ways out
+-- ## One lemma for each return
 module _ {A : Type 0} (says : A → Option (List Range)) (w : Read A) where
   pub said : (x : A) (q : ℕ) (R : List Range) → w ≡ got x q → says x ≡ some R → some (R, q) ≡ told says w
   said x q R e h = sym (rw (e, h))

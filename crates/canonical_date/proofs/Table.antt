@@ -1,5 +1,4 @@
 -- The rows of a rule's ranges, read from the table: they are the definition's selector.
--- Assumes nothing.
 use mathlib.Core.Path.{_≡_, refl, ap, ap₂, _∙_}
 use mathlib.Core.List.{List, [], _∷_, map}
 use mathlib.Core.Bool.{Bool, true, false}

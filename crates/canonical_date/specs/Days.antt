@@ -1,5 +1,4 @@
 -- A rule's four rows of days, one behind the other, into the table of ranges; up to the first item that stops.
--- Assumes nothing.
 use mathlib.Core.List.{List}
 use mathlib.Core.Option.{Option, none, some}
 use Prim.Native.Nat.{ℕ, zero, suc, _+_, _*_}

@@ -1,5 +1,4 @@
 -- A row of items as ranges, and the table of ranges: a dimension has its row at 64 times its number, as start, end, start, end ..
--- Assumes nothing.
 use mathlib.Core.List.{List, [], _∷_, _++_}
 use mathlib.Core.Option.{Option, none, some}
 use mathlib.Core.Bool.{cond}

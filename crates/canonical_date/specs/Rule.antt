@@ -1,5 +1,4 @@
 -- A rule's days: whether an item stops it, and its ranges as rows of the table.
--- Assumes nothing.
 use mathlib.Core.List.{List, [], _∷_}
 use mathlib.Core.Bool.{Bool, _||_, not}
 use Prim.Native.Nat.{ℕ, _+_, _*_}

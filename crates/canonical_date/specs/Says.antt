@@ -1,5 +1,4 @@
 -- What an item of days says: its ranges, or nothing where it stops its rule (01, "Stoppers"). And what the reader of an item answers.
--- Assumes nothing.
 use mathlib.Core.List.{List}
 use mathlib.Core.Option.{Option, none, some}
 use mathlib.Core.Bool.{_&&_, cond}

@@ -5,12 +5,14 @@ use bounded::Split;
 use bounded::StrictRange;
 use bounded::WeekNum;
 use bounded::Year;
+use casts::u64_to_u8;
+use casts::u64_to_u16;
 use item::day::Monthday;
 use item::day::Stepped;
 use item::day::WeekDay;
 ghost use mathlib.Core.Path.{_≡_};
 ghost use Prim.Native.Nat.{_<_, _^_};
-ghost use Rattle.definition.specs.Field.{Layout, sheetBits};
+ghost use Rattle.definition.specs.Field.{sheetBits};
 ghost use Rattle.definition.specs.Sheet.{yearRange, monthdayRange, weekRange, weekDayRange};
 ghost use Rattle.bounded.specs.Strict.{pairOf};
 ghost use Rattle.canonical_date.specs.Says.{boundsOf, yearSays, monthSays, weekSays, weekdaySays, told, itemSays, itemOf};
@@ -19,20 +21,6 @@ ghost use Rattle.canonical_date.specs.Says.{boundsOf, yearSays, monthSay
 pub enum Canonical {
     Ranges(Split, usize),
     Stops,
-}
-
-pub fn number16(x: u64) -> u16
-    requires { ⌜ x < 65536 ⌝ }
-    ensures { λ r. ⌜ r ≡ x ⌝ }
-{
-    x as u16
-}
-
-pub fn number8(x: u64) -> u8
-    requires { ⌜ x < 256 ⌝ }
-    ensures { λ r. ⌜ r ≡ x ⌝ }
-{
-    x as u8
 }
 
 // "a step other than 1" stops.
@@ -45,7 +33,7 @@ fn years_at(sheet: &[u8], at: usize) -> Canonical
         return Canonical::Stops;
     };
     if step == 1 {
-        let split = Year::split_inverted_range(Year(number16(start)), Year(number16(end)));
+        let split = Year::split_inverted_range(Year(u64_to_u16(start)), Year(u64_to_u16(end)));
         return Canonical::Ranges(split, next);
     }
     Canonical::Stops
@@ -59,7 +47,7 @@ fn months_at(sheet: &[u8], at: usize) -> Canonical
     let read = item::day::monthday_range_at(sheet, at);
     match read {
         Monthday::Months(start, end, next) => {
-            let split = Month::split_inverted_range(Month(number8(start)), Month(number8(end)));
+            let split = Month::split_inverted_range(Month(u64_to_u8(start)), Month(u64_to_u8(end)));
             Canonical::Ranges(split, next)
         }
         Monthday::MonthsOf(start, end, year, next) => Canonical::Stops,
@@ -78,7 +66,10 @@ fn weeks_at(sheet: &[u8], at: usize) -> Canonical
         return Canonical::Stops;
     };
     if every == 1 {
-        let split = WeekNum::split_inverted_range(WeekNum(number8(start)), WeekNum(number8(end)));
+        let split = WeekNum::split_inverted_range(
+            WeekNum(u64_to_u8(start)),
+            WeekNum(u64_to_u8(end)),
+        );
         return Canonical::Ranges(split, next);
     }
     Canonical::Stops
@@ -93,8 +84,8 @@ fn weekdays_at(sheet: &[u8], at: usize) -> Canonical
     match read {
         WeekDay::Fixed(start, end, offset, from_start, from_end, next) => {
             if item::day::every_week(offset, from_start, from_end) {
-                let first = OrderedWeekday(number8(start));
-                let last = OrderedWeekday(number8(end));
+                let first = OrderedWeekday(u64_to_u8(start));
+                let last = OrderedWeekday(u64_to_u8(end));
                 Canonical::Ranges(OrderedWeekday::split_inverted_range(first, last), next)
             } else {
                 Canonical::Stops

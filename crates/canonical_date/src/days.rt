@@ -6,7 +6,7 @@ ghost use mathlib.Core.Path.{_≡_};
 ghost use Prim.Native.Nat.{_+_, _-_, _*_, _/_, _≤_, _<_, _^_};
 ghost use lib.ListN.{length};
 ghost use Rattle.definition.specs.Field.{sheetBits};
-ghost use Rattle.sheet.specs.Begin.{ruleAt, Readable};
+ghost use Rattle.sheet.specs.Begin.{ruleReadAt, Readable};
 ghost use Rattle.canonical_date.specs.Days.{loaded, daysOf, loadRows, daysLoaded};
 ghost use Rattle.canonical_date.specs.Found.{Found};
 
@@ -31,11 +31,11 @@ fn rows(
     at: usize,
     sort: usize,
     ranges: &mut [u16],
-    counts: &mut [u16],
+    range_counts: &mut [u16],
 ) -> Days
-    requires { ⌜ (sort ≤ 4) × (head < 2 ^ 27) × (at + (4 - sort) * 832 < 2 ^ 27) × (256 ≤ length (now ranges)) × (4 ≤ length (now counts)) ⌝ }
-    ensures { λ r. ⌜ loaded (now (ranges .exit)) (now (counts .exit)) (daysOf r)
-        ≡ loadRows (4 - sort) (sheetBits (now (sheet .entry))) head sort at (now (ranges .entry)) (now (counts .entry)) ⌝ }
+    requires { ⌜ (sort ≤ 4) × (head < 2 ^ 27) × (at + (4 - sort) * 832 < 2 ^ 27) × (256 ≤ length (now ranges)) × (4 ≤ length (now «range_counts»)) ⌝ }
+    ensures { λ r. ⌜ loaded (now (ranges .exit)) (now («range_counts» .exit)) (daysOf r)
+        ≡ loadRows (4 - sort) (sheetBits (now (sheet .entry))) head sort at (now (ranges .entry)) (now («range_counts» .entry)) ⌝ }
 {
     let count = field::count_at(sheet, head + width::ITEM_COUNT * sort);
     let Taken::Value(items, after) = count else {
@@ -47,19 +47,19 @@ fn rows(
     let row = crate::row::row_at(sheet, at, sort, items, ranges);
     match row {
         Row::Ranges(place, next) => {
-            counts[sort] = ranges_before(sort, place);
-            rows(sheet, head, next, sort + 1, ranges, counts)
+            range_counts[sort] = ranges_before(sort, place);
+            rows(sheet, head, next, sort + 1, ranges, range_counts)
         }
         Row::Stops => Days::Stops,
     }
 }
 
 // The days of the rule at a bit: their ranges in the table, up to the first item that stops.
-pub fn rule_ranges(sheet: &[u8], at: usize, ranges: &mut [u16], counts: &mut [u16]) -> Days
+pub fn rule_ranges(sheet: &[u8], at: usize, ranges: &mut [u16], range_counts: &mut [u16]) -> Days
     requires { ⌜ Readable (sheetBits (now sheet)) at ⌝ }
-    requires { ⌜ (at < 2 ^ 25) × (256 ≤ length (now ranges)) × (4 ≤ length (now counts)) ⌝ }
-    ensures { λ r. ⌜ (loaded (now (ranges .exit)) (now (counts .exit)) (daysOf r) ≡ daysLoaded (sheetBits (now (sheet .entry))) at (now (ranges .entry)) (now (counts .entry)))
-        × Found (sheetBits (now (sheet .entry))) (ruleAt (sheetBits (now (sheet .entry))) at) r ⌝ }
+    requires { ⌜ (at < 2 ^ 25) × (256 ≤ length (now ranges)) × (4 ≤ length (now «range_counts»)) ⌝ }
+    ensures { λ r. ⌜ (loaded (now (ranges .exit)) (now («range_counts» .exit)) (daysOf r) ≡ daysLoaded (sheetBits (now (sheet .entry))) at (now (ranges .entry)) (now («range_counts» .entry)))
+        × Found (sheetBits (now (sheet .entry))) (ruleReadAt (sheetBits (now (sheet .entry))) at) r ⌝ }
 {
     rows(
         sheet,
@@ -67,6 +67,6 @@ pub fn rule_ranges(sheet: &[u8], at: usize, ranges: &mut [u16], counts: &mut [u1
         at + width::HEAD,
         0,
         ranges,
-        counts,
+        range_counts,
     )
 }

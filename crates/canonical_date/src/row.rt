@@ -45,19 +45,26 @@ fn put_split(ranges: &mut [u16], place: usize, split: Split) -> usize
 }
 
 // Some items of a sort, one behind the other, up to the first that stops.
-fn items(sheet: &[u8], at: usize, sort: usize, left: u64, ranges: &mut [u16], place: usize) -> Row
-    requires { ⌜ (at + left * 52 < 2 ^ 29) × (place + left * 4 ≤ length (now ranges)) ⌝ }
-    ensures { λ r. ⌜ (rowOf r ≡ answered (place + length (flat (itemsRanges sort left (sheetBits (now (sheet .entry))) at))) (itemsEnd sort left (sheetBits (now (sheet .entry))) at))
-        × (now (ranges .exit) ≡ sets (now (ranges .entry)) place (flat (itemsRanges sort left (sheetBits (now (sheet .entry))) at))) ⌝ }
+fn items(
+    sheet: &[u8],
+    at: usize,
+    sort: usize,
+    items_left: u64,
+    ranges: &mut [u16],
+    place: usize,
+) -> Row
+    requires { ⌜ (at + «items_left» * 52 < 2 ^ 29) × (place + «items_left» * 4 ≤ length (now ranges)) ⌝ }
+    ensures { λ r. ⌜ (rowOf r ≡ answered (place + length (flat (itemsRanges sort «items_left» (sheetBits (now (sheet .entry))) at))) (itemsEnd sort «items_left» (sheetBits (now (sheet .entry))) at))
+        × (now (ranges .exit) ≡ sets (now (ranges .entry)) place (flat (itemsRanges sort «items_left» (sheetBits (now (sheet .entry))) at))) ⌝ }
 {
-    if left == 0 {
+    if items_left == 0 {
         return Row::Ranges(place, at);
     }
     let item = crate::canonical::item_at(sheet, at, sort);
     match item {
         Canonical::Ranges(split, next) => {
             let after = put_split(ranges, place, split);
-            items(sheet, next, sort, left - 1, ranges, after)
+            items(sheet, next, sort, items_left - 1, ranges, after)
         }
         Canonical::Stops => Row::Stops,
     }

@@ -10,15 +10,15 @@ use lib.Seq.{sets, length-sets, getD-set-same}
 use Rattle.laws.specs.Lists.{All}
 use Rattle.laws.proofs.Stores.{sets-append}
 use Rattle.definition.specs.Day.{simple, day}
-use Rattle.span_number.specs.Number.{spanAt}
+use Rattle.codes.specs.Number.{spanAt}
 use Rattle.words.specs.Words.{part}
 use Rattle.day_paint.specs.Stroke.{strokesOfRun, strokesFrom, shown}
 use Rattle.day_paint.specs.Piece.{Piece, pieceStart, pieceState, dayPieces}
 use Rattle.day_paint.proofs.MeanPiece.{Tiles, pieces-tile}
-use Rattle.day_row.specs.Row.{classesWords}
+use Rattle.day_sweep.specs.Row.{timeLimit, classesWords}
 use Rattle.canonical_time.specs.Flatten.{sameStates, statesFrom, spansFrom}
 use Rattle.day_group.specs.Groups.{groupWords}
-use Rattle.day_words.specs.Day.{flat, listRules}
+use Rattle.day_flat.specs.Day.{flat, listRules}
 use Rattle.words.proofs.Sets.{part-sets, length-part, getD-sets}
 use Rattle.canonical_time.proofs.FlattenReturns.{length-same, Flattened}
 use Rattle.canonical_time.proofs.MeanPieces.{tiles-small}
@@ -68,7 +68,7 @@ laid-small s a (x ∷ t) h l (suc k) m =
 
 pub cuts-bounded : (before cuts q : List ℕ) (k m : ℕ) → cuts ≡ sets before 0 (map pieceStart (dayPieces q k) ++ 1440 ∷ []) → m ≡ length (dayPieces q k)
     → m < length before
-    → (j : ℕ) → j ≤ m → getD cuts j 0 < 524288
+    → (j : ℕ) → j ≤ m → getD cuts j 0 < timeLimit
 cuts-bounded before cuts q k m e f room j l =
     let ws : List ℕ = map pieceStart (dayPieces q k) ++ 1440 ∷ [] in
     let size : length ws ≡ suc m = length-append (map pieceStart (dayPieces q k)) (1440 ∷ []) ∙ omega (arith, length-map (dayPieces q k) pieceStart) in
@@ -136,9 +136,9 @@ module _ (states counts spans list xs₀ xs ps₀ ps q₀ q cs₀ cs vs₀ vs ou
       (at ≡ length (flat (day (listRules states counts spans list 0 L))))
   painted-laid e = laid [] (no-groups xs ps 0 N (sym (stroked .1) ∙ e)) out₁ at refl (omega arith)
 
-  pub grouped-laid : (out₂ : List ℕ) (r : ℕ) → (out₂ ≡ sets out₁ at (groupWords xs ps 0 (N - 0))) × (r ≡ at + length (groupWords xs ps 0 (N - 0)))
+  pub grouped-laid : (out₂ : List ℕ) (r : ℕ) → (out₂ ≡ sets out₁ at (groupWords xs ps 0 N)) × (r ≡ at + length (groupWords xs ps 0 N))
       → (out₂ ≡ sets out₀ 0 (flat (day (listRules states counts spans list 0 L)))) × (r ≡ length (flat (day (listRules states counts spans list 0 L))))
-  grouped-laid out₂ r g = let z : N ≡ N - 0 = omega arith in laid (groupWords xs ps 0 (N - 0)) (ap (groupWords xs ps 0) z) out₂ r (g .0) (g .1)
+  grouped-laid out₂ r g = laid (groupWords xs ps 0 N) refl out₂ r (g .0) (g .1)
 
 pub few-strokes : (xs ps : List ℕ) (k r : ℕ) → k ≡ length (strokesFrom xs ps 0 r) → k ≤ r
 few-strokes xs ps k r e = omega (arith, strokes-few xs ps 0 r)

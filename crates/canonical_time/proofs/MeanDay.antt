@@ -12,22 +12,22 @@ use Rattle.grid.specs.Cut.{Range, sameRange, between, starts, asJoined}
 use Rattle.grid.proofs.Interval.{Rising}
 use Rattle.definition.specs.Rule.{State, closed, sameState}
 use Rattle.definition.specs.Day.{Stated, Day, flattened, painting, grouped, stateClass, stateClasses, painted, asEntry, paintedEntries, sortedEntry, dayOf, entryOf, day}
-use Rattle.span_number.specs.Number.{stateNumber, stateAt, spanNumber}
+use Rattle.codes.specs.Number.{stateNumber, stateCoded, spanNumber}
 use Rattle.words.specs.Words.{part, entryWords}
 use Rattle.day_paint.specs.Stroke.{strokesFrom, shown}
 use Rattle.day_paint.specs.Piece.{Piece, pieceStart, pieceState}
-use Rattle.day_row.specs.Row.{isOfClass, clearFrom, classLeft, classesWords}
+use Rattle.day_sweep.specs.Row.{isOfClass, clearFrom, classLeft, classesWords}
 use Rattle.canonical_time.specs.Flatten.{statesFrom, spansFrom}
 use Rattle.day_group.specs.Groups.{groupWords}
-use Rattle.day_words.specs.Day.{flat, listRules, pairs}
+use Rattle.day_flat.specs.Day.{flat, listRules, pairs}
 use Rattle.words.proofs.Sets.{part-front}
 use Rattle.canonical_time.proofs.MeanList.{pairs-list}
 use Rattle.canonical_time.proofs.MeanPieces.{pieceRange, tiles-between, tiles-rise, tiles-shown, groups-pieces}
 use Rattle.day_paint.proofs.MeanStroke.{strokeAt, strokes-paint, shown-mean}
 use Rattle.day_paint.proofs.MeanPiece.{Tiles}
 use Rattle.day_group.proofs.MeanGroup.{groups-mean}
-use Rattle.day_row.proofs.ClearedCells.{length-clear}
-use Rattle.day_row.proofs.MeanClass.{intervalsAt, Agree, class-mean}
+use Rattle.day_sweep.proofs.ClearedCells.{length-clear}
+use Rattle.day_sweep.proofs.MeanClass.{intervalsAt, Agree, class-mean}
 
 flat-append : (d e : Day) → flat (d ++ e) ≡ flat d ++ flat e
 unfolding flat
@@ -118,11 +118,11 @@ module _ (states counts spans list : List ℕ) (i r : ℕ) (xs ps cs vs : List �
       laid-cells ∙ tiles-shown (shown 65536 strokes) 0 1440 P tiles
       ∙ ap (map (shown 65536 strokes)) (sym (part-front cs 0 n (map pieceStart P) 1440 laid-cuts (counted ∙ sym (length-map P pieceStart))))
 
-  means : (m : ℕ) → painted ys (m ∷ []) ≡ stateAt (shown 65536 strokes m)
-  means m = sym (shown-mean 65536 strokes m ∙ (unfold stateAt in refl))
+  means : (m : ℕ) → painted ys (m ∷ []) ≡ stateCoded (shown 65536 strokes m)
+  means m = sym (shown-mean 65536 strokes m ∙ (unfold stateCoded in refl))
 
   shows : Agree cs (λ is. painted ys (starts is)) vs 0 n
-  shows k l h = means (getD cs k 0) ∙ ap stateAt (sym (part-at vs cs (shown 65536 strokes) 0 n cells k l h))
+  shows k l h = means (getD cs k 0) ∙ ap stateCoded (sym (part-at vs cs (shown 65536 strokes) 0 n cells k l h))
 
   painted-words : classesWords cs n 1 vs 5 ≡ flat (paintedEntries ys)
   unfolding paintedEntries upFrom

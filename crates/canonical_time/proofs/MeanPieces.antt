@@ -16,7 +16,7 @@ use Rattle.grid.proofs.Interval.{block, block-all, Rising, rising-apart, rising
 use Rattle.definition.specs.Rule.{State, closed, sameState}
 use Rattle.definition.specs.Day.{minuteBounds, stateClasses}
 use Rattle.definition.proofs.Same.{exact-state}
-use Rattle.span_number.specs.Number.{stateAt}
+use Rattle.codes.specs.Number.{stateCoded}
 use Rattle.day_paint.specs.Piece.{Piece, pieceStart, pieceEnd, pieceState}
 use Rattle.day_paint.proofs.MeanPiece.{Tiles, tiles-up}
 
@@ -51,17 +51,17 @@ module _ (f : ℕ → ℕ) where
   tiles-small a b [] l h = (omega arith, tt)
   tiles-small a b (t ∷ P) l h = (omega (arith, h .0, h .1, tiles-up f (t .1) b P (h .3)), tiles-small (t .1) b P l (h .3))
 
-  tiles-constant : (g : Map ℕ State) → ((m : ℕ) → g (m ∷ []) ≡ stateAt (f m)) → (a b : ℕ) (P : List Piece) → Tiles f a b P
+  tiles-constant : (g : Map ℕ State) → ((m : ℕ) → g (m ∷ []) ≡ stateCoded (f m)) → (a b : ℕ) (P : List Piece) → Tiles f a b P
       → All (λ i. All (λ x. g (i .0 ∷ []) ≡ g (x ∷ [])) (block i)) (map pieceRange P)
   tiles-constant g e a b [] h = tt
   tiles-constant g e a b (t ∷ P) h = (
     block-all (pieceRange t) (omega (arith, h .0, h .1)) (λ x. g (t .0 ∷ []) ≡ g (x ∷ []))
-        (λ x l k. e (t .0) ∙ ap stateAt (h .2 (t .0) (omega (arith, h .0)) (omega (arith, h .0, h .1)) ∙ sym (h .2 x (omega (arith, h .0)) k)) ∙ sym (e x)),
+        (λ x l k. e (t .0) ∙ ap stateCoded (h .2 (t .0) (omega (arith, h .0)) (omega (arith, h .0, h .1)) ∙ sym (h .2 x (omega (arith, h .0)) k)) ∙ sym (e x)),
     tiles-constant g e (t .1) b P (h .3),
   )
 
 -- ## THE MINUTES OF A DAY ARE ITS PIECES
-module _ (f : ℕ → ℕ) (P : List Piece) (h : Tiles f 0 1440 P) (g : Map ℕ State) (e : (m : ℕ) → g (m ∷ []) ≡ stateAt (f m)) where
+module _ (f : ℕ → ℕ) (P : List Piece) (h : Tiles f 0 1440 P) (g : Map ℕ State) (e : (m : ℕ) → g (m ∷ []) ≡ stateCoded (f m)) where
   fills : Fills (block ∷ [])
   fills = (λ i. tt, tt)
 

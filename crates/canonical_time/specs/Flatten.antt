@@ -1,5 +1,4 @@
 -- A list of rule numbers over tables: a state for each rule, how many spans it has, and these from sixteen times its number on.
--- Assumes nothing.
 use mathlib.Core.List.{List, [], _∷_, _++_}
 use Prim.Native.Nat.{ℕ, zero, suc, _+_, _*_}
 use lib.ListN.{getD}

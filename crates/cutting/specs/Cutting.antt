@@ -1,4 +1,4 @@
--- Rows of cuts at equal distances: what the cutting asks for.
+-- Rows of cuts at equal distances: what the rows of cuts must be.
 use mathlib.Core.Path.{_≡_}
 use mathlib.Core.List.{List}
 use Prim.Native.Nat.{ℕ, _*_, _≤_, _<_}

@@ -1,4 +1,8 @@
 // Each dimension cut at both ends of the drained rules' ranges, and the number of boxes between the cuts.
+use bounded::Month;
+use bounded::OrderedWeekday;
+use bounded::WeekNum;
+use bounded::Year;
 ghost use mathlib.Core.Path.{_≡_};
 ghost use mathlib.Core.List.{List, []};
 ghost use Prim.Native.Nat.{_*_, _≤_, _<_};
@@ -12,42 +16,70 @@ ghost use Rattle.tables.specs.Cuts.{CutBy, Cut};
 ghost use Rattle.cutting.specs.Cutting.{Placed, Rows};
 
 // A row for each dimension, one behind the other.
-fn place_rows(rows: &mut [u16], places: u16)
-    requires { ⌜ (length (now rows) ≡ 4) × (places < 16384) ⌝ }
-    ensures { λ _. ⌜ Placed places (now (rows .exit)) ⌝ }
+fn place_rows(row_starts: &mut [u16], places: u16)
+    requires { ⌜ (length (now «row_starts») ≡ 4) × (places < 16384) ⌝ }
+    ensures { λ _. ⌜ Placed places (now («row_starts» .exit)) ⌝ }
 {
-    rows[0] = 0;
-    rows[1] = places;
-    rows[2] = 2 * places;
-    rows[3] = 3 * places;
+    row_starts[0] = 0;
+    row_starts[1] = places;
+    row_starts[2] = 2 * places;
+    row_starts[3] = 3 * places;
 }
 
 // Each dimension with its bounds as its only cuts: weekdays, weeks, months, years.
-fn start_rows(cuts: &mut [u16], sizes: &mut [u16], rows: &mut [u16], places: u16)
-    requires { ⌜ (length (now rows) ≡ 4) × (length (now sizes) ≡ 4) ⌝ }
+fn start_rows(cuts: &mut [u16], sizes: &mut [u16], row_starts: &mut [u16], places: u16)
+    requires { ⌜ (length (now «row_starts») ≡ 4) × (length (now sizes) ≡ 4) ⌝ }
     requires { ⌜ (2 ≤ places) × (places < 16384) × (4 * places ≤ length (now cuts)) ⌝ }
-    ensures { λ _. ⌜ Placed places (now (rows .exit)) × CutBy (now (rows .exit)) (now (sizes .exit)) (now (cuts .exit)) [] dimensions ⌝ }
+    ensures { λ _. ⌜ Placed places (now («row_starts» .exit)) × CutBy (now («row_starts» .exit)) (now (sizes .exit)) (now (cuts .exit)) [] dimensions ⌝ }
 {
-    place_rows(rows, places);
-    paving_cuts::start_row(cuts, sizes, rows, 3, 0, 7);
-    paving_cuts::start_row(cuts, sizes, rows, 2, 1, 54);
-    paving_cuts::start_row(cuts, sizes, rows, 1, 1, 13);
-    paving_cuts::start_row(cuts, sizes, rows, 0, 1900, 10000);
+    place_rows(row_starts, places);
+    paving_cuts::start_row(
+        cuts,
+        sizes,
+        row_starts,
+        3,
+        OrderedWeekday::BOUND_START.0 as u16,
+        OrderedWeekday::BOUND_UPPER.0 as u16,
+    );
+    paving_cuts::start_row(
+        cuts,
+        sizes,
+        row_starts,
+        2,
+        WeekNum::BOUND_START.0 as u16,
+        WeekNum::BOUND_UPPER.0 as u16,
+    );
+    paving_cuts::start_row(
+        cuts,
+        sizes,
+        row_starts,
+        1,
+        Month::BOUND_START.0 as u16,
+        Month::BOUND_UPPER.0 as u16,
+    );
+    paving_cuts::start_row(
+        cuts,
+        sizes,
+        row_starts,
+        0,
+        Year::BOUND_START.0,
+        Year::BOUND_UPPER.0,
+    );
 }
 
 // Cuts the rows at the ranges of some rules, one rule after the other.
 fn cut_rules(
     cuts: &mut [u16],
     sizes: &mut [u16],
-    rows: &[u16],
+    row_starts: &[u16],
     range_counts: &[u16],
     ranges: &[u16],
     rules: usize,
 )
     requires { ⌜ ((rs : List Rule) × RuleDays (now «range_counts») (now ranges) rules rs) ⌝ }
-    requires { ⌜ Rows (rowPlaces rules) (now rows) (now sizes) (length (now cuts)) × CutBy (now rows) (now sizes) (now cuts) [] dimensions ⌝ }
+    requires { ⌜ Rows (rowPlaces rules) (now «row_starts») (now sizes) (length (now cuts)) × CutBy (now «row_starts») (now sizes) (now cuts) [] dimensions ⌝ }
     ensures { λ _. ⌜ ((rs : List Rule) → RuleDays (now («range_counts» .entry)) (now (ranges .entry)) rules rs
-        → CutBy (now (rows .entry)) (now (sizes .exit)) (now (cuts .exit)) rs dimensions) ⌝ }
+        → CutBy (now («row_starts» .entry)) (now (sizes .exit)) (now (cuts .exit)) rs dimensions) ⌝ }
 {
     let mut rule: usize = 0;
     while rule < rules {
@@ -58,7 +90,7 @@ fn cut_rules(
         paving_cuts::cut_rule(
             cuts,
             sizes,
-            rows,
+            row_starts,
             &range_counts[from..to],
             &ranges[first..end],
             4,
@@ -71,17 +103,17 @@ fn cut_rules(
 pub fn cut_all(
     cuts: &mut [u16],
     sizes: &mut [u16],
-    rows: &mut [u16],
+    row_starts: &mut [u16],
     range_counts: &[u16],
     ranges: &[u16],
     rules: usize,
 ) -> u64
     requires { ⌜ ((rs : List Rule) × RuleDays (now «range_counts») (now ranges) rules rs) ⌝ }
-    requires { ⌜ (length (now rows) ≡ 4) × (length (now sizes) ≡ 4) × (4 * rowPlaces rules ≤ length (now cuts)) ⌝ }
+    requires { ⌜ (length (now «row_starts») ≡ 4) × (length (now sizes) ≡ 4) × (4 * rowPlaces rules ≤ length (now cuts)) ⌝ }
     ensures { λ r. ⌜ ((rs : List Rule) → RuleDays (now («range_counts» .entry)) (now (ranges .entry)) rules rs
-        → (r ≡ boxCount dimensions rs) × Cut (now (rows .exit)) (now (sizes .exit)) (now (cuts .exit)) rs) ⌝ }
+        → (r ≡ boxCount dimensions rs) × Cut (now («row_starts» .exit)) (now (sizes .exit)) (now (cuts .exit)) rs) ⌝ }
 {
-    start_rows(cuts, sizes, rows, (2 + 64 * rules) as u16);
-    cut_rules(cuts, sizes, rows, range_counts, ranges, rules);
+    start_rows(cuts, sizes, row_starts, (2 + 64 * rules) as u16);
+    cut_rules(cuts, sizes, row_starts, range_counts, ranges, rules);
     paving_cuts::box_count(sizes, 4)
 }

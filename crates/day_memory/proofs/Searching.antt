@@ -1,46 +1,47 @@
--- The search for a day among the known boxes, on its way and at its end. Rests on prints: equal words have equal ones.
--- Assumes nothing.
+-- The search for a day among the known boxes, on its way and at its end. Rests on hashes: equal words have equal ones.
 use mathlib.Core.Path.{_≡_, refl, sym, ap, _∙_}
 use mathlib.Core.List.{List}
 use mathlib.Core.Bool.{Bool, true, false, true≢false}
 use Prim.Native.Nat.{ℕ, _+_, _≤_, _<_}
 use native.Mathlib.Omega.{arith}
 use lib.Dec.{eqb, ltb}
-use lib.ListN.{getD}
 use borrow.Author.Tests.{eqb-true, eqb-false, ltb-true, ltb-false}
 use Rattle.laws.specs.Tests.{sameList}
 use Rattle.laws.proofs.Tests.{exact-eqb, exact-list}
-use Rattle.day_words.specs.Day.{fingerprintOf}
+use Rattle.memory.specs.Rows.{boxAt, dayHashAt, hashOf}
 use Rattle.memory.specs.declared.Found.the-variants.{At, Nothing}
-use Rattle.day_memory.specs.Known.{Printed, SameWords}
+use Rattle.day_memory.specs.Known.{DaysHashed, SameWords}
 
-module _ (W : ℕ → List ℕ) (known w : List ℕ) (many next : ℕ) where
-  -- from one known box up to another no day has the words
+module _ (W : ℕ → List ℕ) (memory w : List ℕ) (known : ℕ) where
+  -- up to a row no known day has the words
   abbrev pub Passed : ℕ → Type 0
-  Passed candidate = (candidate ≤ many) × ((k : ℕ) → next ≤ k → k < candidate → W (getD known k 0) ≡ w → ⊥)
+  Passed row = (row ≤ known) × ((k : ℕ) → k < row → W (boxAt memory k) ≡ w → ⊥)
 
-  pub none-left : (candidate : ℕ) → many ≤ candidate → Passed candidate → SameWords W known w next many Nothing
-  none-left candidate m passed k l n e = passed .1 k l (omega arith) e
+  pub none-left : (row : ℕ) → known ≤ row → Passed row → SameWords W memory w known Nothing
+  none-left row l passed k m e = passed .1 k (omega arith) e
 
-  pub day-found : (candidate : ℕ) → candidate < many → (node : ℕ) → node ≡ getD known candidate 0 → true ≡ sameList eqb (W node) w → SameWords W known w next many (At node)
-  day-found candidate l node e h = (candidate, l, e, exact-list exact-eqb .equal (W node) w (sym h))
+  pub day-found : (row : ℕ) → row < known → (box : ℕ) → box ≡ boxAt memory row → true ≡ sameList eqb (W box) w → SameWords W memory w known (At box)
+  day-found row l box e h = (row, l, e, exact-list exact-eqb .equal (W box) w (sym h))
 
-module _ (W : ℕ → List ℕ) (known prints w : List ℕ) (print many : ℕ) (own : print ≡ fingerprintOf 0 w) (printed : Printed W known prints many) where
-  -- the next place of the print
-  abbrev First : ℕ → ℕ → Type 0
-  First next candidate = (next ≤ candidate) × (candidate ≤ many) × ((k : ℕ) → next ≤ k → k < candidate → getD prints k 0 ≡ print → ⊥)
+  module _ (hash : ℕ) (own : hash ≡ hashOf w) (hashed : DaysHashed W memory known) where
+    -- the next row that has the hash
+    abbrev First : ℕ → ℕ → Type 0
+    First next row = (next ≤ row) × (row ≤ known) × ((k : ℕ) → next ≤ k → k < row → dayHashAt memory k ≡ hash → ⊥)
 
-  pub first-passed : (next candidate : ℕ) → First next candidate → Passed W known w many next candidate
-  first-passed next candidate first =
-      let b = first .1 in
-      (b, λ k l m e. first .2 k l m (printed k (omega (arith, b)) ∙ ap (fingerprintOf 0) e ∙ sym own))
+    -- before it no day has the words
+    hash-passed : (next row : ℕ) → First next row → (k : ℕ) → next ≤ k → k < row → W (boxAt memory k) ≡ w → ⊥
+    hash-passed next row first k l m e = let b = first .1 in first .2 k l m (hashed k (omega (arith, b)) ∙ ap (λ v. hashOf v) e ∙ sym own)
 
-  pub more-passed : (next candidate : ℕ) → Passed W known w many next candidate → (node : ℕ) → node ≡ getD known candidate 0 → false ≡ sameList eqb (W node) w
-      → (further : ℕ) → First (candidate + 1) further → Passed W known w many next further
-  more-passed next candidate passed node e h further first = (first .1, λ k l m q. go k l m q (ltb k candidate) refl (eqb k candidate) refl)
-    where
-      go : (k : ℕ) → next ≤ k → k < further → W (getD known k 0) ≡ w → (b : Bool) → ltb k candidate ≡ b → (d : Bool) → eqb k candidate ≡ d → ⊥
-      go k l m q true b d x = passed .1 k l (ltb-true k candidate b) q
-      go k l m q false b true x =
-          true≢false (sym (exact-list exact-eqb .self w) ∙ ap (λ v. sameList eqb v w) (sym q ∙ ap (λ j. W (getD known j 0)) (eqb-true k candidate x) ∙ ap W (sym e)) ∙ sym h)
-      go k l m q false b false x = first-passed (candidate + 1) further first .1 k (omega (arith, ltb-false k candidate b, eqb-false k candidate x)) m q
+    pub first-passed : (row : ℕ) → First 0 row → Passed row
+    first-passed row first = (first .1, λ k m e. hash-passed 0 row first k (omega arith) m e)
+
+    pub more-passed : (row : ℕ) → Passed row → (box : ℕ) → box ≡ boxAt memory row → false ≡ sameList eqb (W box) w
+        → (further : ℕ) → First (row + 1) further → Passed further
+    more-passed row passed box e h further first = (first .1, λ k m q. go k m q (ltb k row) refl (eqb k row) refl)
+      where
+        go : (k : ℕ) → k < further → W (boxAt memory k) ≡ w → (b : Bool) → ltb k row ≡ b → (d : Bool) → eqb k row ≡ d → ⊥
+        go k m q true b d x = passed .1 k (ltb-true k row b) q
+        go k m q false b true x =
+            let own-words : W box ≡ w = ap W e ∙ ap (λ j. W (boxAt memory j)) (sym (eqb-true k row x)) ∙ q in
+            true≢false (sym (exact-list exact-eqb .self w) ∙ ap (λ v. sameList eqb v w) (sym own-words) ∙ sym h)
+        go k m q false b false x = hash-passed (row + 1) further first k (omega (arith, ltb-false k row b, eqb-false k row x)) m q

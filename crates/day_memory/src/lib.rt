@@ -1,65 +1,68 @@
-// The days that were met: a day's words are looked for among the known boxes' days, which are folded again and compared, prints first.
+// A day is looked for among the days of the lists met before: where the hash is the same, the list is folded again and the words are
+// compared. `find_day` has more than twelve parameters: the scratch of a day is six slices (`other`, `span_states`, `span_codes`, `strokes`,
+// `minute_cuts`, `interval_states`), the rules' times are three, and the language lends no struct of slices.
 use box_day::same_day;
+use casts::u16_to_usize;
 use memory::Found;
 use memory::next_place;
 ghost use mathlib.Core.Path.{_≡_};
-ghost use Prim.Native.Nat.{ℕ, _≤_, _<_};
-ghost use lib.ListN.{length, getD};
+ghost use Prim.Native.Nat.{ℕ, _*_, _≤_, _<_};
+ghost use lib.ListN.{length};
 ghost use Rattle.words.specs.Words.{part};
-ghost use Rattle.day_words.specs.Day.{fingerprintOf};
+ghost use Rattle.memory.specs.Rows.{memoryPlaces, boxAt, hashOf};
 ghost use Rattle.box_day.specs.Boxes.{Scratch};
 ghost use Rattle.tables.specs.Days.{boxWords, Ready};
-ghost use Rattle.day_memory.specs.Known.{Printed, SameWords};
+ghost use Rattle.day_memory.specs.Known.{DaysHashed, SameWords};
 
-// The first known box, from one on, whose day has the words of another day, so many.
+// Looks for a day's words among so many rows: answers the box of a row whose day has the same words, or that there is none.
 pub fn find_day(
     words: &[u64],
     other: &mut [u64],
-    stated: &mut [u32],
-    spanned: &mut [u64],
+    span_states: &mut [u32],
+    span_codes: &mut [u64],
     strokes: &mut [u64],
-    cuts: &mut [u64],
-    painted: &mut [u64],
+    minute_cuts: &mut [u64],
+    interval_states: &mut [u64],
     states: &[u32],
-    counts: &[u8],
+    span_counts: &[u8],
     spans: &[u64],
     lists: &[u16],
-    known: &[u16],
-    prints: &[u64],
-    count: usize,
-    print: u64,
-    many: usize,
-    next: usize,
+    memory: &[u16],
+    word_count: usize,
+    day_hash: u16,
+    known_count: usize,
 ) -> Found
-    requires { ⌜ ((r : ℕ) → r < many → Ready (now states) (now counts) (now spans) (now lists) (length (now other)) (getD (now known) r 0)) ⌝ }
-    requires { ⌜ Scratch (length (now stated)) (length (now spanned)) (length (now strokes)) (length (now cuts)) (length (now painted)) ⌝ }
-    requires { ⌜ (many ≤ length (now known)) × (many ≤ length (now prints)) × (next ≤ many) × (count ≤ length (now words)) ⌝ }
-    requires { ⌜ (print ≡ fingerprintOf 0 (part (now words) 0 count))
-        × Printed (boxWords (now states) (now counts) (now spans) (now lists)) (now known) (now prints) many ⌝ }
-    ensures { λ r. ⌜ SameWords (boxWords (now (states .entry)) (now (counts .entry)) (now (spans .entry)) (now (lists .entry))) (now (known .entry))
-        (part (now (words .entry)) 0 count) next many r ⌝ }
+    requires { ⌜ ((r : ℕ) → r < «known_count»
+        → Ready (now states) (now «span_counts») (now spans) (now lists) (length (now other)) (boxAt (now memory) r)) ⌝ }
+    requires { ⌜ Scratch (length (now «span_states»)) (length (now «span_codes»)) (length (now strokes)) (length (now «minute_cuts»))
+        (length (now «interval_states»)) ⌝ }
+    requires { ⌜ («known_count» * memoryPlaces ≤ length (now memory)) × («word_count» ≤ length (now words)) ⌝ }
+    requires { ⌜ («day_hash» ≡ hashOf (part (now words) 0 «word_count»))
+        × DaysHashed (boxWords (now states) (now «span_counts») (now spans) (now lists)) (now memory) «known_count» ⌝ }
+    ensures { λ r. ⌜ SameWords (boxWords (now (states .entry)) (now («span_counts» .entry)) (now (spans .entry)) (now (lists .entry)))
+        (now (memory .entry)) (part (now (words .entry)) 0 «word_count») «known_count» r ⌝ }
 {
-    let mut candidate = next_place(prints, print, many, next);
-    while candidate < many {
-        let node = paving::wide(known[candidate]);
+    let mut row = next_place(memory, memory::DAY_HASH, day_hash, known_count, 0);
+    while row < known_count {
+        let box_index = u16_to_usize(memory[row * memory::MEMORY_PLACES]);
         if same_day(
             words,
             other,
-            stated,
-            spanned,
+            span_states,
+            span_codes,
             strokes,
-            cuts,
-            painted,
+            minute_cuts,
+            interval_states,
             states,
-            counts,
+            span_counts,
             spans,
             lists,
-            node,
-            count,
+            box_index,
+            word_count,
         ) {
-            return Found::At(node);
+            return Found::At(box_index);
         }
-        candidate = next_place(prints, print, many, candidate + 1);
+        row = next_place(memory, memory::DAY_HASH, day_hash, known_count, row + 1);
     }
     Found::Nothing
 }

@@ -7,7 +7,7 @@ use native.Mathlib.Omega.{arith}
 use lib.ListN.{getD, set}
 use borrow.Author.Tests.{eq-eqb, ne-eqb}
 use Rattle.definition.specs.Day.{simple}
-use Rattle.span_number.specs.Number.{spanAt}
+use Rattle.codes.specs.Number.{spanAt}
 use Rattle.day_paint.specs.Stroke.{strokeNumber, strokesOfRun, strokesFrom}
 use Rattle.words.proofs.Sets.{Laid, none-laid, same-laid, one-laid, left-in, left-none}
 

@@ -1,12 +1,11 @@
 -- Painting, in numbers. A stroke is a simple span with its state: state, start and end as digits of one number.
--- Assumes nothing.
 use mathlib.Core.List.{List, [], _∷_}
 use mathlib.Core.Bool.{true, false, _&&_, cond}
 use Prim.Native.Nat.{ℕ, zero, suc, _+_, _*_, _/_, _%_}
 use lib.Dec.{eqb, leb, ltb}
 use lib.ListN.{getD}
 use Rattle.definition.specs.Day.{simple}
-use Rattle.span_number.specs.Number.{spanAt}
+use Rattle.codes.specs.Number.{spanAt}
 
 unfoldable pub strokeNumber : ℕ → ℕ → ℕ
 strokeNumber state span = state * 4194304 + span / 8589934592 * 2048 + span / 16384 % 524288

@@ -1,25 +1,31 @@
 // Which spans of a list paint, and the pieces of a day that they show.
 pub mod piece;
 
-use span_number::end_of;
-use span_number::is_simple;
-use span_number::start_of;
-use words::wide;
+use casts::u32_to_u64;
+use codes::end_of;
+use codes::is_simple;
+use codes::start_of;
 ghost use mathlib.Core.Path.{_≡_};
 ghost use Prim.Native.Nat.{_+_, _-_, _≤_};
 ghost use lib.ListN.{length};
 ghost use lib.Seq.{sets};
-ghost use Rattle.span_number.specs.Number.{spanAt};
+ghost use Rattle.codes.specs.Number.{spanAt};
 ghost use Rattle.definition.specs.Day.{simple};
 ghost use mathlib.Core.Bool.{true};
 ghost use Rattle.day_paint.specs.Stroke.{strokeNumber, strokesOfRun, strokesFrom};
+
+// A stroke is one number: the state, the minute from which it paints, the minute up to which it does. A minute of a day, with the day's
+// end, is below 2048.
+const START_UNIT: u64 = 2048;
+
+const STATE_UNIT: u64 = START_UNIT * START_UNIT;
 
 // A simple span with its state, as one number.
 fn stroke(state: u32, span: u64) -> u64
     requires { ⌜ simple (spanAt span) ≡ true ⌝ }
     ensures { λ r. ⌜ r ≡ strokeNumber state span ⌝ }
 {
-    wide(state) * 4194304 + start_of(span) * 2048 + end_of(span)
+    u32_to_u64(state) * STATE_UNIT + start_of(span) * START_UNIT + end_of(span)
 }
 
 // Writes the strokes of the run of a state from span i on; answers the place after them.

@@ -1,6 +1,8 @@
 // A day as pieces of one state, in rising order. Strokes are painted one over another, so they are asked from the last one back: where a stroke
 // shows, those before it are not asked, and no cut has to be sorted.
-use span_number::CLOSED;
+use crate::START_UNIT;
+use crate::STATE_UNIT;
+use codes::CLOSED;
 ghost use mathlib.Core.Path.{_≡_};
 ghost use mathlib.Core.List.{[], _∷_, _++_, map};
 ghost use Prim.Native.Nat.{_+_, _*_, _<_, _≤_};
@@ -9,25 +11,28 @@ ghost use lib.Seq.{sets};
 ghost use Rattle.day_paint.specs.Stroke.{strokeState, strokeStart, strokeEnd};
 ghost use Rattle.day_paint.specs.Piece.{pieceStart, pieceState, earlier, meets, lastMeeting, pieces, dayPieces};
 
+// The minute at which a day ends.
+const DAY_END: u64 = 1440;
+
 // A stroke's state.
 fn stroke_state(x: u64) -> u64
     ensures { λ r. ⌜ r ≡ strokeState x ⌝ }
 {
-    x / 4194304
+    x / STATE_UNIT
 }
 
 // The minute from which a stroke paints.
 fn stroke_start(x: u64) -> u64
     ensures { λ r. ⌜ r ≡ strokeStart x ⌝ }
 {
-    x / 2048 % 2048
+    x / START_UNIT % START_UNIT
 }
 
 // The minute up to which it does.
 fn stroke_end(x: u64) -> u64
     ensures { λ r. ⌜ r ≡ strokeEnd x ⌝ }
 {
-    x % 2048
+    x % START_UNIT
 }
 
 // The earlier of two minutes.
@@ -124,7 +129,7 @@ pub fn write_pieces(starts: &mut [u64], states: &mut [u64], strokes: &[u64], k: 
         × (now (states .exit) ≡ sets (now (states .entry)) 0 (map pieceState (dayPieces (now (strokes .entry)) k)))
         × (r ≡ length (dayPieces (now (strokes .entry)) k)) × (r ≤ 2 * k + 1) ⌝ }
 {
-    let m = write_range(starts, states, 0, strokes, k, 0, 1440);
-    starts[m] = 1440;
+    let m = write_range(starts, states, 0, strokes, k, 0, DAY_END);
+    starts[m] = DAY_END;
     m
 }

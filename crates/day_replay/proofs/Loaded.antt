@@ -1,5 +1,4 @@
 -- Tables that are loaded and a list of known rules meet what the making of a day asks for. Rests on the bound of a day's words.
--- Assumes nothing.
 use mathlib.Core.Path.{_≡_, refl}
 use mathlib.Core.List.{List}
 use mathlib.Core.Bool.{Bool, true, false, false≢true}
@@ -9,8 +8,8 @@ use lib.Dec.{eqb, ltb}
 use lib.ListN.{length, getD, List·getD-eq-default}
 use borrow.Author.Tests.{eqb-true, eqb-false, ltb-true, ltb-false}
 use Rattle.definition.specs.Day.{day}
-use Rattle.day_words.specs.Day.{flat, listRules}
-use Rattle.day_words.proofs.Room.{day-room}
+use Rattle.day_flat.specs.Day.{flat, listRules}
+use Rattle.day_flat.proofs.Room.{day-room}
 use Rattle.tables.specs.Days.{Tables}
 use Rattle.day_replay.specs.Lent.{Loaded}
 

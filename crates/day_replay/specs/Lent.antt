@@ -1,5 +1,4 @@
 -- What the program lends to make days of lists of up to 32 rules: room for the words of a day and for scratch; and loaded tables.
--- Assumes nothing.
 use mathlib.Core.List.{List}
 use Prim.Native.Nat.{ℕ, _≤_}
 use lib.ListN.{length, getD}

@@ -2,6 +2,7 @@
 use super::digest::few;
 use super::digest::with_days;
 use super::rule_tables::load;
+use casts::usize_to_u64;
 ghost use mathlib.Core.Path.{_≡_};
 ghost use Prim.Native.Nat.{_≤_};
 ghost use lib.ListN.{length};
@@ -59,51 +60,47 @@ fn rule_numbers() -> [u16; 32]
     ]
 }
 
-fn wide(n: usize) -> u64 {
-    n as u64
-}
-
 // The record's rules are loaded; are the days of their lists those of the digest? In the buffers that are lent.
 fn agrees_in(
     body: &[u8],
     rules: usize,
     digest: usize,
     out: &mut [u64],
-    stated: &mut [u32],
-    spanned: &mut [u64],
+    span_states: &mut [u32],
+    span_codes: &mut [u64],
     strokes: &mut [u64],
-    cuts: &mut [u64],
-    cells: &mut [u64],
+    minute_cuts: &mut [u64],
+    interval_states: &mut [u64],
     states: &mut [u32],
-    counts: &mut [u8],
+    span_counts: &mut [u8],
     spans: &mut [u64],
     list: &[u16],
 ) -> bool
-    requires { ⌜ Lent (length (now out)) (length (now stated)) (length (now spanned)) (length (now strokes)) (length (now cuts)) (length (now cells)) ⌝ }
-    requires { ⌜ (32 ≤ length (now states)) × (32 ≤ length (now counts)) × (512 ≤ length (now spans)) × (length (now list) ≡ 32) ⌝ }
+    requires { ⌜ Lent (length (now out)) (length (now «span_states»)) (length (now «span_codes»)) (length (now strokes)) (length (now «minute_cuts»)) (length (now «interval_states»)) ⌝ }
+    requires { ⌜ (32 ≤ length (now states)) × (32 ≤ length (now «span_counts»)) × (512 ≤ length (now spans)) × (length (now list) ≡ 32) ⌝ }
 {
     if 32 < rules {
         return false;
     }
-    let loaded = load(states, counts, spans, body, 0, 0, rules);
+    let loaded = load(states, span_counts, spans, body, 0, 0, rules);
     if loaded {
-        if few(counts, counts.len()) {
+        if few(span_counts, span_counts.len()) {
             let found = with_days(
                 0,
                 out,
-                stated,
-                spanned,
+                span_states,
+                span_codes,
                 strokes,
-                cuts,
-                cells,
+                minute_cuts,
+                interval_states,
                 states,
-                counts,
+                span_counts,
                 spans,
                 &list[..rules],
                 0,
                 0,
             );
-            return found == wide(digest);
+            return found == usize_to_u64(digest);
         }
         return false;
     }
@@ -111,28 +108,28 @@ fn agrees_in(
 }
 
 pub fn agrees(body: &[u8], rules: usize, digest: usize) -> bool {
-    let mut out = scratch::words();
-    let mut stated = scratch::states();
-    let mut spanned = scratch::spans();
-    let mut strokes = scratch::ends();
-    let mut cuts = scratch::ends();
-    let mut cells = scratch::ends();
+    let mut out = buffers::words();
+    let mut span_states = buffers::states();
+    let mut span_codes = buffers::spans();
+    let mut strokes = buffers::ends();
+    let mut minute_cuts = buffers::ends();
+    let mut interval_states = buffers::ends();
     let mut states = rule_states();
-    let mut counts = rule_counts();
-    let mut spans = scratch::spans();
+    let mut span_counts = rule_counts();
+    let mut spans = buffers::spans();
     let list = rule_numbers();
     agrees_in(
         body,
         rules,
         digest,
         &mut out,
-        &mut stated,
-        &mut spanned,
+        &mut span_states,
+        &mut span_codes,
         &mut strokes,
-        &mut cuts,
-        &mut cells,
+        &mut minute_cuts,
+        &mut interval_states,
         &mut states,
-        &mut counts,
+        &mut span_counts,
         &mut spans,
         &list,
     )

@@ -1,7 +1,9 @@
 // A digest of the days of lists: of each day one of its words, how many words it has, and its class.
 use canonical_time::normalize_time_rules;
-use day_words::class::day_class;
-use day_words::fingerprint;
+use casts::u8_to_u64;
+use casts::usize_to_u64;
+use day_flat::class::day_class;
+use day_flat::fingerprint;
 ghost use mathlib.Core.Path.{_≡_};
 ghost use mathlib.Core.Bool.{true};
 ghost use Prim.Native.Nat.{ℕ, _<_, _≤_};
@@ -16,15 +18,15 @@ fn mix(digest: u64, number: u64) -> u64
 }
 
 // Does each of the first n rules have sixteen spans at most?
-pub fn few(counts: &[u8], n: usize) -> bool
-    requires { ⌜ n ≤ length (now counts) ⌝ }
-    ensures { λ r. ⌜ (r ≡ true → (k : ℕ) → k < n → getD (now (counts .entry)) k 0 ≤ 16) ⌝ }
+pub fn few(span_counts: &[u8], n: usize) -> bool
+    requires { ⌜ n ≤ length (now «span_counts») ⌝ }
+    ensures { λ r. ⌜ (r ≡ true → (k : ℕ) → k < n → getD (now («span_counts» .entry)) k 0 ≤ 16) ⌝ }
 {
     if n == 0 {
         return true;
     }
-    if counts[n - 1] <= 16 {
-        return few(counts, n - 1);
+    if span_counts[n - 1] <= 16 {
+        return few(span_counts, n - 1);
     }
     false
 }
@@ -43,39 +45,31 @@ fn known(list: &[u16], n: usize) -> bool
     false
 }
 
-fn word(n: usize) -> u64 {
-    n as u64
-}
-
-fn word_of_class(class: u8) -> u64 {
-    class as u64
-}
-
 // The digest with a day of n words.
 fn with_words(digest: u64, out: &[u64], n: usize) -> u64
     requires { ⌜ (digest < 1000003) × (n ≤ length (now out)) ⌝ }
     ensures { λ r. ⌜ r < 1000003 ⌝ }
 {
-    let words = mix(mix(digest, fingerprint(out, n)), word(n));
-    mix(words, word_of_class(day_class(out, n)))
+    let words = mix(mix(digest, fingerprint(out, n)), usize_to_u64(n));
+    mix(words, u8_to_u64(day_class(out, n)))
 }
 
 // The digest with a list's day.
 fn with_day(
     digest: u64,
     out: &mut [u64],
-    stated: &mut [u32],
-    spanned: &mut [u64],
+    span_states: &mut [u32],
+    span_codes: &mut [u64],
     strokes: &mut [u64],
-    cuts: &mut [u64],
-    cells: &mut [u64],
+    minute_cuts: &mut [u64],
+    interval_states: &mut [u64],
     states: &[u32],
-    counts: &[u8],
+    span_counts: &[u8],
     spans: &[u64],
     list: &[u16],
 ) -> u64
-    requires { ⌜ Lent (length (now out)) (length (now stated)) (length (now spanned)) (length (now strokes)) (length (now cuts)) (length (now cells)) ⌝ }
-    requires { ⌜ Loaded (now states) (now counts) (now spans) ⌝ }
+    requires { ⌜ Lent (length (now out)) (length (now «span_states»)) (length (now «span_codes»)) (length (now strokes)) (length (now «minute_cuts»)) (length (now «interval_states»)) ⌝ }
+    requires { ⌜ Loaded (now states) (now «span_counts») (now spans) ⌝ }
     requires { ⌜ digest < 1000003 ⌝ }
     ensures { λ r. ⌜ r < 1000003 ⌝ }
 {
@@ -85,13 +79,13 @@ fn with_day(
     if known(list, list.len()) {
         let n = normalize_time_rules(
             out,
-            stated,
-            spanned,
+            span_states,
+            span_codes,
             strokes,
-            cuts,
-            cells,
+            minute_cuts,
+            interval_states,
             states,
-            counts,
+            span_counts,
             spans,
             list,
         );
@@ -104,20 +98,20 @@ fn with_day(
 pub fn with_days(
     digest: u64,
     out: &mut [u64],
-    stated: &mut [u32],
-    spanned: &mut [u64],
+    span_states: &mut [u32],
+    span_codes: &mut [u64],
     strokes: &mut [u64],
-    cuts: &mut [u64],
-    cells: &mut [u64],
+    minute_cuts: &mut [u64],
+    interval_states: &mut [u64],
     states: &[u32],
-    counts: &[u8],
+    span_counts: &[u8],
     spans: &[u64],
     list: &[u16],
     begin: usize,
     end: usize,
 ) -> u64
-    requires { ⌜ Lent (length (now out)) (length (now stated)) (length (now spanned)) (length (now strokes)) (length (now cuts)) (length (now cells)) ⌝ }
-    requires { ⌜ Loaded (now states) (now counts) (now spans) ⌝ }
+    requires { ⌜ Lent (length (now out)) (length (now «span_states»)) (length (now «span_codes»)) (length (now strokes)) (length (now «minute_cuts»)) (length (now «interval_states»)) ⌝ }
+    requires { ⌜ Loaded (now states) (now «span_counts») (now spans) ⌝ }
     requires { ⌜ (digest < 1000003) × (length (now list) ≤ 32) × (begin ≤ end) × (end ≤ length (now list)) ⌝ }
     ensures { λ r. ⌜ r < 1000003 ⌝ }
 {
@@ -125,26 +119,26 @@ pub fn with_days(
         let more = with_day(
             digest,
             out,
-            stated,
-            spanned,
+            span_states,
+            span_codes,
             strokes,
-            cuts,
-            cells,
+            minute_cuts,
+            interval_states,
             states,
-            counts,
+            span_counts,
             spans,
             &list[begin..end + 1],
         );
         return with_days(
             more,
             out,
-            stated,
-            spanned,
+            span_states,
+            span_codes,
             strokes,
-            cuts,
-            cells,
+            minute_cuts,
+            interval_states,
             states,
-            counts,
+            span_counts,
             spans,
             list,
             begin,
@@ -155,13 +149,13 @@ pub fn with_days(
         return with_days(
             digest,
             out,
-            stated,
-            spanned,
+            span_states,
+            span_codes,
             strokes,
-            cuts,
-            cells,
+            minute_cuts,
+            interval_states,
             states,
-            counts,
+            span_counts,
             spans,
             list,
             begin + 1,

@@ -5,7 +5,7 @@ mod digest;
 mod rule_tables;
 
 use libc::STDOUT_FILENO;
-use records::number;
+use replay_records::number;
 
 enum Compared {
     Same,
@@ -21,7 +21,7 @@ struct Tally {
 // What follows a record's numbers is read and compared. A file that ends in between differs.
 fn compare_body(fd: i32, rules: usize, digest: usize, size: usize) -> Compared {
     let mut body = io::buffer();
-    let got = records::take(fd, &mut body, size);
+    let got = replay_records::take(fd, &mut body, size);
     if got == size && agree::agrees(&body[..got], rules, digest) {
         Compared::Same
     } else {

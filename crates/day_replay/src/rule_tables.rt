@@ -1,26 +1,18 @@
 // The tables of a record: for each rule its state, how many spans it has, and these.
-use records::number;
-ghost use mathlib.Core.Path.{_≡_};
-ghost use Prim.Native.Nat.{_+_, _*_, _<_, _≤_};
+use casts::u8_to_u64;
+use casts::u8_to_usize;
+use casts::usize_to_u64;
+use replay_records::number;
+ghost use Prim.Native.Nat.{_+_, _*_, _≤_};
 ghost use lib.ListN.{length};
-
-fn wide(n: usize) -> u64
-    ensures { λ r. ⌜ r ≡ n ⌝ }
-{
-    n as u64
-}
-
-fn count(byte: u8) -> usize
-    ensures { λ r. ⌜ (r ≡ byte) × (r < 256) ⌝ }
-{
-    byte as usize
-}
 
 // The span of seven bytes at a place.
 fn span(s: &[u8], at: usize) -> u64
     requires { ⌜ at + 7 ≤ length (now s) ⌝ }
 {
-    wide(number(s, at)) * 4294967296 + wide(number(s, at + 3)) * 256 + wide(count(s[at + 6]))
+    usize_to_u64(number(s, at)) * 4294967296
+        + usize_to_u64(number(s, at + 3)) * 256
+        + u8_to_u64(s[at + 6])
 }
 
 // So many spans from a place of the bytes on, to a place of the table on.
@@ -43,7 +35,7 @@ fn state(s: &[u8], at: usize) -> u32
 // The rules from one on, from a place of the bytes on: are the bytes these rules and no more?
 pub fn load(
     states: &mut [u32],
-    counts: &mut [u8],
+    span_counts: &mut [u8],
     spans: &mut [u64],
     body: &[u8],
     at: usize,
@@ -51,31 +43,31 @@ pub fn load(
     rules: usize,
 ) -> bool
     requires { ⌜ (rule ≤ rules) × (rules ≤ 32) × (at ≤ length (now body)) ⌝ }
-    requires { ⌜ (32 ≤ length (now states)) × (32 ≤ length (now counts)) × (512 ≤ length (now spans)) ⌝ }
+    requires { ⌜ (32 ≤ length (now states)) × (32 ≤ length (now «span_counts»)) × (512 ≤ length (now spans)) ⌝ }
 {
     if rule == rules {
         return at == body.len();
     }
-    let left = body.len() - at;
-    if left < 4 {
+    let bytes_left = body.len() - at;
+    if bytes_left < 4 {
         return false;
     }
-    let many = count(body[at + 3]);
-    if 16 < many {
+    let span_count = u8_to_usize(body[at + 3]);
+    if 16 < span_count {
         return false;
     }
-    if left - 4 < 7 * many {
+    if bytes_left - 4 < 7 * span_count {
         return false;
     }
     states[rule] = state(body, at);
-    counts[rule] = body[at + 3];
-    load_spans(spans, 16 * rule, body, at + 4, many);
+    span_counts[rule] = body[at + 3];
+    load_spans(spans, 16 * rule, body, at + 4, span_count);
     load(
         states,
-        counts,
+        span_counts,
         spans,
         body,
-        at + 4 + 7 * many,
+        at + 4 + 7 * span_count,
         rule + 1,
         rules,
     )

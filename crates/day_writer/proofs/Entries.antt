@@ -1,31 +1,23 @@
 -- A day in words, entry by entry: the first entry's state, count and spans, and the day behind them. Rests on the numbers of states.
--- Assumes nothing.
 use mathlib.Core.Path.{_≡_, refl, sym, ap, ap₂, _∙_, subst}
 use mathlib.Core.List.{List, [], _∷_, _++_, map}
 use Prim.Native.Nat.{ℕ, zero, suc, _+_, _-_, _*_, _≤_, _<_, _^_}
 use native.Mathlib.Omega.{arith}
-use lib.ListN.{length, take, drop, getD}
-use lib.Seq.{drop-cons}
+use lib.ListN.{length, drop, getD}
 use Rattle.laws.specs.Lists.{All}
 use Rattle.definition.specs.Rule.{Kind, Open, Closed, Unknown, kindNumber, Span}
 use Rattle.definition.specs.Day.{Day}
-use Rattle.span_number.specs.Number.{stateNumber, stateAt, spanNumber, spanAt}
-use Rattle.span_number.proofs.Numbers.{state-number}
+use Rattle.codes.specs.Number.{stateNumber, stateCoded, spanNumber, spanAt}
+use Rattle.codes.proofs.Numbers.{state-number}
 use Rattle.words.specs.Words.{part, entryWords}
-use Rattle.day_words.specs.Day.{flat, unflatFrom, unflat}
+use Rattle.words.proofs.Sets.{part-taken}
+use Rattle.day_flat.specs.Day.{flat, unflatFrom, unflat}
 use Rattle.rule_writer.specs.Rows.{spansAt}
 use Rattle.rule_writer.proofs.Rows.{spans-length}
 use Rattle.day_writer.specs.Rules.{dayIn, Whole}
 use Rattle.tables.specs.Days.{Carried}
 
 -- ## Parts
-part-taken : (s : List ℕ) (at n : ℕ) → at + n ≤ length s → take n (drop at s) ≡ part s at n
-unfolding part
-part-taken s at zero h = refl
-part-taken s at (suc n) h =
-    let next : suc at ≡ at + 1 = omega arith in
-    ap (take (suc n)) (drop-cons s at 0 (omega arith)) ∙ ap (getD s at 0 ∷_) (ap (λ k. take n (drop k s)) next ∙ part-taken s (at + 1) n (omega arith))
-
 -- a part that is one text and another: where the second stands
 part-behind : (words xs ys : List ℕ) (at n : ℕ) → part words at n ≡ xs ++ ys → (part words (at + length xs) (n - length xs) ≡ ys) × (length xs ≤ n)
 unfolding part
@@ -65,11 +57,11 @@ kind-below Open = omega arith
 kind-below Closed = omega arith
 kind-below Unknown = omega arith
 
-state-below : (n : ℕ) → stateAt n .comment < 65536 → n < 196608
+state-below : (n : ℕ) → stateCoded n .comment < 65536 → n < 196608
 unfolding stateNumber
 state-below n h =
-    let k : kindNumber (stateAt n .kind) * 65536 + stateAt n .comment ≡ n = state-number n in
-    omega (arith, h, k, kind-below (stateAt n .kind))
+    let k : kindNumber (stateCoded n .kind) * 65536 + stateCoded n .comment ≡ n = state-number n in
+    omega (arith, h, k, kind-below (stateCoded n .kind))
 
 -- ## The first entry
 -- what stands where a day in words goes on
@@ -77,8 +69,8 @@ pub record Step (words : List ℕ) (at n many : ℕ) : Type 0 where
   pub within : 2 + many ≤ n
   pub few : many < 2 ^ 10
   pub state : getD words at 0 < 196608
-  pub first : Carried (stateAt (getD words at 0), spansAt words (at + 2) many)
-  pub entry : dayIn words at n ≡ (stateAt (getD words at 0), spansAt words (at + 2) many) ∷ dayIn words (at + 2 + many) (n - 2 - many)
+  pub first : Carried (stateCoded (getD words at 0), spansAt words (at + 2) many)
+  pub entry : dayIn words at n ≡ (stateCoded (getD words at 0), spansAt words (at + 2) many) ∷ dayIn words (at + 2 + many) (n - 2 - many)
   pub behind : Whole words (at + 2 + many) (n - 2 - many)
 
 module _ (words : List ℕ) (at : ℕ) where
@@ -130,10 +122,10 @@ module _ (words : List ℕ) (at : ℕ) where
       day : read .1 ≡ dayIn words (at + 2 + many) (suc (suc n) - 2 - many)
       day = ap (λ r. r .1) all ∙ ap₂ (dayIn words) next left
 
-      entry : dayIn words at (suc (suc n)) ≡ (stateAt (getD words at 0), spansAt words (at + 2) many) ∷ dayIn words (at + 2 + many) (suc (suc n) - 2 - many)
-      entry = λ i. (stateAt (getD words at 0), spans i) ∷ day i
+      entry : dayIn words at (suc (suc n)) ≡ (stateCoded (getD words at 0), spansAt words (at + 2) many) ∷ dayIn words (at + 2 + many) (suc (suc n) - 2 - many)
+      entry = λ i. (stateCoded (getD words at 0), spans i) ∷ day i
 
-      each : Carried (stateAt (getD words at 0), spansAt words (at + 2) many) × All Carried (dayIn words (at + 2 + many) (suc (suc n) - 2 - many))
+      each : Carried (stateCoded (getD words at 0), spansAt words (at + 2) many) × All Carried (dayIn words (at + 2 + many) (suc (suc n) - 2 - many))
       each = subst (All Carried) entry (w .carried)
 
       back : part words (at + 2 + many) (suc (suc n) - 2 - many) ≡ flat (dayIn words (at + 2 + many) (suc (suc n) - 2 - many))

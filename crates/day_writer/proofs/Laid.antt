@@ -1,6 +1,5 @@
 -- A day's rules: entry by entry, over runs as the definition's rules of a page, and their bits one rule after the other. Rests on the law
 -- that a rule laid over runs is the rule over their items.
--- Assumes nothing.
 use mathlib.Core.Path.{_≡_, refl, sym, ap, ap₂, _∙_}
 use mathlib.Core.List.{List, [], _∷_, _++_, map, flatMap}
 use Prim.Native.Nat.{ℕ, suc, _+_, _-_}
@@ -13,7 +12,7 @@ use Rattle.definition.specs.Point.{dimensions}
 use Rattle.definition.specs.Day.{Day}
 use Rattle.definition.specs.Group.{laidOver, asRule, asRules, rulesOf}
 use Rattle.words.specs.Words.{part}
-use Rattle.day_words.specs.Day.{unflatFrom}
+use Rattle.day_flat.specs.Day.{unflatFrom}
 use Rattle.rule_writer.specs.Rows.{spansAt}
 use Rattle.rule_writer.specs.Written.{itemsIn, ruleBits}
 use Rattle.tables.specs.Items.{overItems, rowsBelow}

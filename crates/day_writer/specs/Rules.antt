@@ -1,6 +1,5 @@
 -- A day's rules over items, in the definition's words, and the bits of rules; and a day that stands whole in words. 01, "From points to
 -- rules": "Write the list's entries as rules over these sets' maximal runs, first Normal, others Additional".
--- Assumes nothing.
 use mathlib.Core.Path.{_≡_}
 use mathlib.Core.List.{List, [], _∷_, flatMap}
 use Prim.Native.Nat.{ℕ, _+_, _≤_}
@@ -13,11 +12,15 @@ use Rattle.definition.specs.Point.{dimensions}
 use Rattle.definition.specs.Day.{Day}
 use Rattle.definition.specs.Group.{asRule}
 use Rattle.words.specs.Words.{part}
-use Rattle.day_words.specs.Day.{flat, unflat}
+use Rattle.day_flat.specs.Day.{flat, unflat}
 use Rattle.tables.specs.Days.{Carried}
 use Rattle.tables.specs.Items.{overItems}
 
--- the same entry by entry: the first with an operator's number, all others Additional
+-- the bits that a day's rules take for each of its words, at most: a rule has fewer than 2 ^ 18 and stands as two words at least
+abbrev pub bitsPerWord : ℕ
+bitsPerWord = 131072
+
+-- a day's rules entry by entry: the first with an operator's number, all others Additional
 unfoldable pub entryRules : ℕ → List (List Ends) → Day → List Rule
 entryRules operator E [] = []
 entryRules operator E (e ∷ d) = overItems dimensions E (asRule (operatorOf operator) e) ∷ entryRules 1 E d

@@ -1,14 +1,15 @@
 // A day's rules over items, measured and written: the first entry Normal, all others Additional. The day stands as words, entry after
 // entry: its state, how many spans, their numbers; the items stand as counts of pairs by sorts and the pairs' ends, as in `rule_writer`.
+use casts::u64_to_usize;
 use rule_size::rule_bits;
 use rule_writer::rule::put_rule;
 ghost use mathlib.Core.Path.{_≡_};
 ghost use mathlib.Core.List.{List};
 ghost use Prim.Native.Nat.{ℕ, _*_, _≤_, _<_, _^_};
 ghost use lib.ListN.{length, getD};
-ghost use Rattle.item_writer.specs.Written.{Room, Wrote};
+ghost use Rattle.item_writer.specs.Written.{RoomFor, Wrote};
 ghost use Rattle.tables.specs.Items.{rowPlace, Rows, rowsBelow};
-ghost use Rattle.day_writer.specs.Rules.{entryRules, rulesBits, dayIn, Whole};
+ghost use Rattle.day_writer.specs.Rules.{bitsPerWord, entryRules, rulesBits, dayIn, Whole};
 ghost use Rattle.tables.specs.Pages.{dayRules};
 
 pub struct Measure {
@@ -16,29 +17,27 @@ pub struct Measure {
     pub bits: usize,
 }
 
-// A count of spans, as a length.
-fn narrow(word: u64) -> usize
-    ensures { λ r. ⌜ r ≡ word ⌝ }
-{
-    word as usize
-}
-
 // How many rules the entries in so many words from a place on are, and how many bits these take, whatever the operators and the ends.
-fn measure_entries(words: &[u64], at: usize, rest: usize, counts: &[u16]) -> Measure
-    requires { ⌜ (4 ≤ length (now counts)) × ((sort : ℕ) → getD (now counts) sort 0 < 2 ^ 10) ⌝ }
-    requires { ⌜ Whole (now words) at rest ⌝ }
-    requires { ⌜ rest < 2 ^ 32 ⌝ }
-    ensures { λ r. ⌜ ((operator : ℕ) (ends : List ℕ) → rowPlace (now (counts .entry)) 4 ≤ length ends
-        → (length (entryRules operator (rowsBelow ends (now (counts .entry)) 4) (dayIn (now (words .entry)) at rest)) ≡ r .rules)
-        × (length (rulesBits (entryRules operator (rowsBelow ends (now (counts .entry)) 4) (dayIn (now (words .entry)) at rest))) ≡ r .bits))
-        × (r .rules ≤ rest) × (r .bits ≤ 131072 * rest) ⌝ }
+fn measure_entries(words: &[u64], at: usize, words_left: usize, item_counts: &[u16]) -> Measure
+    requires { ⌜ (4 ≤ length (now «item_counts»)) × ((sort : ℕ) → getD (now «item_counts») sort 0 < 2 ^ 10) ⌝ }
+    requires { ⌜ Whole (now words) at «words_left» ⌝ }
+    requires { ⌜ «words_left» < 2 ^ 32 ⌝ }
+    ensures { λ r. ⌜ ((operator : ℕ) (ends : List ℕ) → rowPlace (now («item_counts» .entry)) 4 ≤ length ends
+        → (length (entryRules operator (rowsBelow ends (now («item_counts» .entry)) 4) (dayIn (now (words .entry)) at «words_left»)) ≡ r .rules)
+        × (length (rulesBits (entryRules operator (rowsBelow ends (now («item_counts» .entry)) 4) (dayIn (now (words .entry)) at «words_left»))) ≡ r .bits))
+        × (r .rules ≤ «words_left») × (r .bits ≤ bitsPerWord * «words_left») ⌝ }
 {
-    if rest == 0 {
+    if words_left == 0 {
         return Measure { rules: 0, bits: 0 };
     }
-    let many = narrow(words[at + 1]);
-    let first = rule_bits(counts, words, at + 2, many);
-    let behind = measure_entries(words, at + 2 + many, rest - 2 - many, counts);
+    let span_count = u64_to_usize(words[at + 1]);
+    let first = rule_bits(item_counts, words, at + 2, span_count);
+    let behind = measure_entries(
+        words,
+        at + 2 + span_count,
+        words_left - 2 - span_count,
+        item_counts,
+    );
     Measure {
         rules: behind.rules + 1,
         bits: first + behind.bits,
@@ -46,16 +45,16 @@ fn measure_entries(words: &[u64], at: usize, rest: usize, counts: &[u16]) -> Mea
 }
 
 // How many rules a day of so many words is, and how many bits these take, whatever the ends.
-pub fn measure_day(words: &[u64], count: usize, counts: &[u16]) -> Measure
-    requires { ⌜ (4 ≤ length (now counts)) × ((sort : ℕ) → getD (now counts) sort 0 < 2 ^ 10) ⌝ }
+pub fn measure_day(words: &[u64], count: usize, item_counts: &[u16]) -> Measure
+    requires { ⌜ (4 ≤ length (now «item_counts»)) × ((sort : ℕ) → getD (now «item_counts») sort 0 < 2 ^ 10) ⌝ }
     requires { ⌜ Whole (now words) 0 count ⌝ }
     requires { ⌜ count < 2 ^ 32 ⌝ }
-    ensures { λ r. ⌜ ((ends : List ℕ) → rowPlace (now (counts .entry)) 4 ≤ length ends
-        → (length (dayRules (rowsBelow ends (now (counts .entry)) 4) (dayIn (now (words .entry)) 0 count)) ≡ r .rules)
-        × (length (rulesBits (dayRules (rowsBelow ends (now (counts .entry)) 4) (dayIn (now (words .entry)) 0 count))) ≡ r .bits))
-        × (r .rules ≤ count) × (r .bits ≤ 131072 * count) ⌝ }
+    ensures { λ r. ⌜ ((ends : List ℕ) → rowPlace (now («item_counts» .entry)) 4 ≤ length ends
+        → (length (dayRules (rowsBelow ends (now («item_counts» .entry)) 4) (dayIn (now (words .entry)) 0 count)) ≡ r .rules)
+        × (length (rulesBits (dayRules (rowsBelow ends (now («item_counts» .entry)) 4) (dayIn (now (words .entry)) 0 count))) ≡ r .bits))
+        × (r .rules ≤ count) × (r .bits ≤ bitsPerWord * count) ⌝ }
 {
-    measure_entries(words, 0, count, counts)
+    measure_entries(words, 0, count, item_counts)
 }
 
 // The entries in so many words from a place on as rules, the first with a given operator.
@@ -65,40 +64,41 @@ fn write_entries(
     operator: u64,
     words: &[u64],
     next: usize,
-    rest: usize,
+    words_left: usize,
     ends: &[u16],
-    counts: &[u16],
+    item_counts: &[u16],
 ) -> usize
     requires { ⌜ operator < 3 ⌝ }
-    requires { ⌜ Whole (now words) next rest ⌝ }
-    requires { ⌜ Rows (now ends) (now counts) ⌝ }
-    requires { ⌜ Room (length (now out)) at (rulesBits (entryRules operator (rowsBelow (now ends) (now counts) 4) (dayIn (now words) next rest))) ⌝ }
-    ensures { λ r. ⌜ Wrote (now (out .entry)) at (rulesBits (entryRules operator (rowsBelow (now (ends .entry)) (now (counts .entry)) 4) (dayIn (now (words .entry)) next rest))) (now (out .exit)) r ⌝ }
+    requires { ⌜ Whole (now words) next «words_left» ⌝ }
+    requires { ⌜ Rows (now ends) (now «item_counts») ⌝ }
+    requires { ⌜ RoomFor (length (now out)) at (rulesBits (entryRules operator (rowsBelow (now ends) (now «item_counts») 4) (dayIn (now words) next «words_left»))) ⌝ }
+    ensures { λ r. ⌜ Wrote (now (out .entry)) at
+        (rulesBits (entryRules operator (rowsBelow (now (ends .entry)) (now («item_counts» .entry)) 4) (dayIn (now (words .entry)) next «words_left»))) (now (out .exit)) r ⌝ }
 {
-    if rest == 0 {
+    if words_left == 0 {
         return at;
     }
-    let many = narrow(words[next + 1]);
+    let span_count = u64_to_usize(words[next + 1]);
     let behind = put_rule(
         out,
         at,
         operator,
         words[next],
         ends,
-        counts,
+        item_counts,
         words,
         next + 2,
-        many,
+        span_count,
     );
     write_entries(
         out,
         behind,
         1,
         words,
-        next + 2 + many,
-        rest - 2 - many,
+        next + 2 + span_count,
+        words_left - 2 - span_count,
         ends,
-        counts,
+        item_counts,
     )
 }
 
@@ -109,12 +109,12 @@ pub fn write_day(
     words: &[u64],
     count: usize,
     ends: &[u16],
-    counts: &[u16],
+    item_counts: &[u16],
 ) -> usize
     requires { ⌜ Whole (now words) 0 count ⌝ }
-    requires { ⌜ Rows (now ends) (now counts) ⌝ }
-    requires { ⌜ Room (length (now out)) at (rulesBits (dayRules (rowsBelow (now ends) (now counts) 4) (dayIn (now words) 0 count))) ⌝ }
-    ensures { λ r. ⌜ Wrote (now (out .entry)) at (rulesBits (dayRules (rowsBelow (now (ends .entry)) (now (counts .entry)) 4) (dayIn (now (words .entry)) 0 count))) (now (out .exit)) r ⌝ }
+    requires { ⌜ Rows (now ends) (now «item_counts») ⌝ }
+    requires { ⌜ RoomFor (length (now out)) at (rulesBits (dayRules (rowsBelow (now ends) (now «item_counts») 4) (dayIn (now words) 0 count))) ⌝ }
+    ensures { λ r. ⌜ Wrote (now (out .entry)) at (rulesBits (dayRules (rowsBelow (now (ends .entry)) (now («item_counts» .entry)) 4) (dayIn (now (words .entry)) 0 count))) (now (out .exit)) r ⌝ }
 {
-    write_entries(out, at, 0, words, 0, count, ends, counts)
+    write_entries(out, at, 0, words, 0, count, ends, item_counts)
 }

@@ -1,5 +1,4 @@
 -- Bits, numbers and bytes: what is written in bits is read back. Rests on the kit's laws of powers and lists.
--- Assumes nothing.
 use mathlib.Core.Path.{_≡_, refl, sym, ap, ap₂, _∙_}
 use mathlib.Core.List.{List, [], _∷_, _++_, flatMap}
 use Prim.Native.Nat.{ℕ, zero, suc, _+_, _*_, _%_, _^_, _<_}

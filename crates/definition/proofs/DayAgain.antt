@@ -1,6 +1,5 @@
 -- FOLDING A DAY AGAIN GIVES THE DAY. The painted entries' spans are simple and paint the same map; the first group holds no simple span and
 -- its neighbour has another state; what is sorted stays sorted. Rests on the laws of painting and of groups of consecutive equal state.
--- Assumes nothing.
 use mathlib.Core.Path.{_≡_, refl, sym, ap, ap₂, _∙_, subst}
 use mathlib.Core.List.{List, [], _∷_, _++_, map, flatMap, append-nil}
 use mathlib.Core.Bool.{Bool, true, false, not, cond}

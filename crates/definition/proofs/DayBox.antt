@@ -1,5 +1,4 @@
 -- A day over minutes is the day over the intervals between its spans' ends: the compression law in one dimension.
--- Assumes nothing.
 use mathlib.Core.Path.{_≡_, refl, ap, _∙_}
 use mathlib.Core.List.{List, [], _∷_, _++_, map}
 use mathlib.Core.Bool.{Bool, true, false, _&&_, not, cond, false≢true}

@@ -1,6 +1,5 @@
 -- WHAT HOLDS OF A LIST'S STATES AND SPANS HOLDS OF ITS DAY'S, if it holds of runs of minutes as well. Rests on grid's laws that a group's
 -- value is one of the map's and that its set is part of the dimension.
--- Assumes nothing.
 use mathlib.Core.Path.{_≡_, refl}
 use mathlib.Core.List.{List, [], _∷_, map}
 use mathlib.Core.Logic.{_⊎_, inl, inr}

@@ -1,6 +1,5 @@
 -- HOW LARGE A DAY IS: two for each entry and one for each span come to at most four times the list's spans and one. Rests on grid's laws that
 -- the groups' points are no more than all, and that runs are no more than what they join.
--- Assumes nothing.
 use mathlib.Core.Path.{_≡_, refl, ap}
 use mathlib.Core.List.{List, [], _∷_, map}
 use mathlib.Core.Logic.{inl, inr}

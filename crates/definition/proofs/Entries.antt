@@ -1,6 +1,5 @@
 -- A DAY HAS AT MOST ONE ENTRY MORE THAN ITS LIST, so a group has at most 33 rules. Rests on grid's law that in one dimension no value
 -- comes twice.
--- Assumes nothing.
 use mathlib.Core.Path.{_≡_, refl, ap, _∙_}
 use mathlib.Core.List.{List, [], _∷_, _++_, map, flatMap}
 use mathlib.Core.Logic.{inl, inr}

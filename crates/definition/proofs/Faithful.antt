@@ -1,6 +1,5 @@
 -- A layout is faithful: what it writes it reads back, and what it reads was written there. Proved once for a field and once for each
 -- way of putting layouts together. Rests on the laws of bits.
--- Assumes nothing.
 use mathlib.Core.Path.{_≡_, refl, sym, ap, ap₂, _∙_, subst}
 use mathlib.Core.List.{List, [], _∷_, _++_, flatMap, append-assoc}
 use mathlib.Core.Bool.{Bool, true, false, _&&_}

@@ -1,6 +1,5 @@
 -- The groups of the fold: they are disjoint, they cover exactly the points with a non-empty day, each with its day; and a group has at
 -- most one rule more than the longest list has entries. Rests on grid's laws of groups.
--- Assumes nothing.
 use mathlib.Core.Path.{_≡_, refl, sym, ap, _∙_, subst}
 use mathlib.Core.List.{List, [], _∷_, map}
 use mathlib.Core.Option.{none}

@@ -1,5 +1,4 @@
 -- The layouts of the sheet's items are faithful: put together from the laws of their parts.
--- Assumes nothing.
 use mathlib.Core.Path.{_≡_, refl, sym}
 use mathlib.Core.Option.{Option, none, some}
 use mathlib.Core.Bool.{Bool, true, false, _&&_}

@@ -1,5 +1,4 @@
 -- A rule that a sheet carries has its items within each dimension's bounds, and so its ranges. Rests on the layouts' tests.
--- Assumes nothing.
 use mathlib.Core.Path.{_≡_, refl}
 use mathlib.Core.List.{List, [], _∷_}
 use mathlib.Core.Bool.{Bool, true, false, _&&_}

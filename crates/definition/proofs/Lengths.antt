@@ -1,6 +1,5 @@
 -- How far the reading of each item goes at most, from a time's 19 bits to a span's 52; how far a rule's; and how many digits a number has
 -- in a line. Rests on the laws of readings.
--- Assumes nothing.
 use mathlib.Core.Path.{_≡_, refl, ap}
 use mathlib.Core.List.{List}
 use mathlib.Core.Option.{none}

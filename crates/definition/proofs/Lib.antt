@@ -8,6 +8,7 @@ pub mod SheetRead
 pub mod Same
 pub mod DayBox
 pub mod Lawful
+pub mod Points
 pub mod FoldBox
 pub mod DayHolds
 pub mod Entries

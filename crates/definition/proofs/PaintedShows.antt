@@ -1,6 +1,5 @@
 -- The painted entries of a day show at each minute the state that its painting shows there.
 -- Rests on grid's laws that the groups give the map back and do not meet.
--- Assumes nothing.
 use mathlib.Core.Path.{_≡_, refl, sym, ap, _∙_}
 use mathlib.Core.List.{List, [], _∷_, _++_, map, flatMap, append-assoc}
 use mathlib.Core.Bool.{Bool, true, false, _||_, cond, true≢false}

@@ -1,5 +1,4 @@
 -- A rule that was read, part by part: its title, its five counts, and its five rows of items, each where it stands.
--- Assumes nothing.
 use mathlib.Core.Path.{_≡_, sym, ap, _∙_}
 use mathlib.Core.List.{List}
 use Prim.Native.Nat.{ℕ, _+_, _*_}

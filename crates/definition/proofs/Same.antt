@@ -1,5 +1,4 @@
 -- The tests of equality of states, spans and days are exact. Rests on the tests' laws.
--- Assumes nothing.
 use mathlib.Core.Path.{_≡_, refl, sym, ap, ap₂, _∙_}
 use mathlib.Core.Bool.{true, _&&_, false≢true}
 use lib.Dec.{eqb}

@@ -1,6 +1,5 @@
 -- READING AND WRITING ARE INVERSE. A sheet that is read is its rules written; lawful rules within the limits, written, are read back; and
 -- a reading ends where the fields end. Rests on the items' laws.
--- Assumes nothing.
 use mathlib.Core.Path.{_≡_, refl, sym, ap, ap₂, _∙_, subst}
 use mathlib.Core.List.{List, [], _∷_, _++_}
 use mathlib.Core.Option.{Option, none, some}

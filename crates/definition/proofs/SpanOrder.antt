@@ -1,5 +1,4 @@
 -- 01's order of spans is total, so sorting what is sorted changes nothing.
--- Assumes nothing.
 use mathlib.Core.Path.{_≡_, refl, ap, _∙_}
 use mathlib.Core.List.{List, [], _∷_}
 use mathlib.Core.Bool.{Bool, true, false, _||_, true≢false}

@@ -1,6 +1,5 @@
 -- How many spans an entry of a day has: at most one more than its list has in all. Rests on grid's law that runs are at most every other
 -- interval.
--- Assumes nothing.
 use mathlib.Core.Path.{_≡_, refl, sym, ap, _∙_, subst}
 use mathlib.Core.List.{List, [], _∷_, map}
 use mathlib.Core.Bool.{Bool, true, false, not}

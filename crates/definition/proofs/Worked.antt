@@ -1,5 +1,4 @@
 -- THE WORKED DAYS, over points: computed over boxes, and carried by the law that points are boxes.
--- Assumes nothing.
 use mathlib.Core.Path.{_≡_, refl, ap, _∙_}
 use mathlib.Core.List.{List, [], _∷_, flatMap}
 use mathlib.Core.Bool.{Bool, true, _&&_}

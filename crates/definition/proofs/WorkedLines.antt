@@ -1,5 +1,4 @@
 -- THE WORKED LINES, computed from bytes to bytes.
--- Assumes nothing.
 use mathlib.Core.Path.{_≡_, refl}
 use mathlib.Core.List.{flatMap}
 use mathlib.Core.Bool.{Bool, true, _&&_}

@@ -1,5 +1,4 @@
 -- A result into a buffer: it has room, or 7; and elements stored one after the other from the front on.
--- Assumes nothing.
 use mathlib.Core.Path.{_≡_, ap, _∙_}
 use mathlib.Core.List.{List, _++_}
 use Prim.Native.Nat.{ℕ, _+_, _≤_, _<_}

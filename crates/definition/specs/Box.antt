@@ -1,6 +1,5 @@
 -- 01, "Numbers of the answer": "Boxes: in each dimension take both bounds and all starts and ends of the drained rules' ranges; distinct
 -- values less one are its intervals; multiply the four."
--- Assumes nothing.
 use mathlib.Core.List.{List, [], _∷_, flatMap}
 use Prim.Native.Nat.{ℕ, _*_, _-_}
 use lib.ListN.{length}

@@ -2,7 +2,6 @@
 -- 1 January comes from a table of 400, one entry for each year of the Gregorian cycle".
 -- 02, M-104: "Planners publish week numbers by ISO 8601, where week 1 holds the year's first Thursday. .. The lookup takes the ISO week
 -- from now on. The year in the point stays the calendar year".
--- Assumes nothing.
 use mathlib.Core.List.{List, [], _∷_}
 use mathlib.Core.Bool.{Bool, true, false, _&&_, _||_, not, cond}
 use Prim.Native.Nat.{ℕ, zero, suc, _+_, _-_, _%_}

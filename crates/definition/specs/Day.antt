@@ -4,7 +4,6 @@
 -- span, simple or not, joins groups of consecutive equal state. 4. Result: painted states, each once with all its maximal runs
 -- rising; then the groups, each sorted. Painted order: Open plain, Open commented, Unknown plain, Unknown commented, Closed
 -- commented; inside a class by first minute. Painted plain Closed is dropped."
--- Assumes nothing.
 use mathlib.Core.List.{List, [], _∷_, _++_, map, flatMap}
 use mathlib.Core.Option.{Option, none, some}
 use mathlib.Core.Bool.{Bool, true, false, _&&_, not, cond}

@@ -1,7 +1,6 @@
 -- 01, "The packed sheet": "Bit-packed fields, most significant first, bits counted from 0."
 -- A layout says three things at once: how a value is read at a bit, how it is written, and which values it can carry.
 -- So the layout of the sheet stands once, and what is written can be read back.
--- Assumes nothing.
 use mathlib.Core.List.{List, [], _∷_, _++_, flatMap}
 use mathlib.Core.Bool.{Bool, true, false, _&&_}
 use Prim.Native.Nat.{ℕ, zero, suc, _+_, _*_, _-_, _/_, _%_, _^_}

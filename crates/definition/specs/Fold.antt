@@ -1,7 +1,6 @@
 -- 01, "Numbers of the answer": "The fold answers code, drained, emitted (folded rules only), left (rules copied), bytes written, place. On a
 -- refusal every number but code and place is 0." Order: "1, 2 and 4 as met from the first bit on; then 3, 8, 5, 6, 9, 7". "On code 0
 -- the result stands at the front of the buffer and later bytes are unchanged." "The rules left are copied bit by bit after them."
--- Assumes nothing.
 use mathlib.Core.List.{List, [], _∷_, _++_}
 use mathlib.Core.Option.{Option, none, some}
 use mathlib.Core.Bool.{true, false}
@@ -77,12 +76,12 @@ drain limits rs = judged limits rs (firstTooLong (limits .entries) rs)
 module _ (form : Form) (limits : Limits) where
   -- 7: the buffer has less room than the result
   unfoldable pub fitted : ℕ → List Rule → List Rule → List ℕ → Folded
-  fitted room rs page result = elim (ltb room (length result)) [
+  fitted room rs foldedRules result = elim (ltb room (length result)) [
     | true ↦ refusal noRoom (length result)
     | false ↦ record {
       code = 0;
       drained = length (drained rs);
-      emitted = length page;
+      emitted = length foldedRules;
       left = length (left rs);
       bytes = length result;
       place = 0;
@@ -90,9 +89,9 @@ module _ (form : Form) (limits : Limits) where
     }
   ]
 
-  -- the fold of rules into a buffer of `room` bytes, once the drained ones were judged and folded to a page
+  -- the fold of rules into a buffer of `room` bytes, once the drained ones were judged and folded
   unfoldable pub foldRules : ℕ → List Rule → Drained → List Rule → Folded
-  foldRules room rs judgement page = elim judgement [ over c p ↦ refusal c p | fine ↦ fitted room rs page (encode form limits (page ++ left rs)) ]
+  foldRules room rs judgement foldedRules = elim judgement [ over c p ↦ refusal c p | fine ↦ fitted room rs foldedRules (encode form limits (foldedRules ++ left rs)) ]
 
   -- THE FOLD OF A SHEET, over points
   unfoldable pub fold : ℕ → List ℕ → Folded

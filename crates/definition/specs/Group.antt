@@ -2,7 +2,6 @@
 -- class after class, with growing and emptying, are `groups` of the crate grid (its specs/Group). "Write the list's entries as
 -- rules over these sets' maximal runs, first Normal, others Additional, step 1, offset 0, nth bits all 1; a full dimension has
 -- no items."
--- Assumes nothing.
 use mathlib.Core.List.{List, [], _∷_, map, flatMap}
 use mathlib.Core.Bool.{Bool, true, false, _&&_, cond}
 use Prim.Native.Nat.{ℕ, _-_}

@@ -4,7 +4,6 @@
 -- `"n"`, 0 not written. Nothing stands before the first rule, and no rules give an empty line. Equal ends of a day item with step 1 are written once, a span's
 -- never; any other step follows both ends after `/`." M-112: "comment numbers 1 to 16,777,215, these and steps without leading zeros".
 -- What fits is what has words, with lawful values; nothing is said of counts.
--- Assumes nothing.
 use mathlib.Core.List.{List, [], _∷_, _++_, flatMap}
 use mathlib.Core.Bool.{Bool, true, false, _&&_, not}
 use Prim.Native.Nat.{ℕ, _/_, _%_, _^_}

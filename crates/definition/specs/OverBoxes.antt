@@ -1,6 +1,5 @@
 -- The same definitions over boxes, between the cuts of the rules' ranges, and days over the intervals between their spans' ends: what
 -- computes. No promise speaks of them; proofs/ show that they are the definitions over points and minutes.
--- Assumes nothing.
 use mathlib.Core.List.{List, [], _∷_, _++_, map, flatMap}
 use mathlib.Core.Option.{Option}
 use Prim.Native.Nat.{ℕ}

@@ -1,7 +1,6 @@
 -- 01, "From rules to points": "A point is a weekday, week 1 to 53, month and year 1900 to 9999, whether or not a calendar day has it."
 -- Draining: "A Normal rule that isn't Closed replaces the list at each point it covers by itself alone. Any other appends itself, once
 -- for each combination of one covering range per dimension, so overlaps append repeatedly."
--- Assumes nothing.
 use mathlib.Core.List.{List, [], _∷_, _++_, map, flatMap}
 use mathlib.Core.Option.{Option}
 use mathlib.Core.Bool.{Bool, true, false, _&&_, not, cond}

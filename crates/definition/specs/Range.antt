@@ -1,6 +1,5 @@
 -- 01, "From rules to points", Ranges: "start to end becomes start up to end's successor, excluded. If start is then at or above that
 -- end, it becomes two: lowest up to end, and start up to upper." "A count of 0 days' items means the whole dimension."
--- Assumes nothing.
 use mathlib.Core.List.{List, [], _∷_, flatMap}
 use mathlib.Core.Bool.{true, false}
 use Prim.Native.Nat.{ℕ, suc}

@@ -1,7 +1,6 @@
 -- 01, "The packed sheet": a rule's values. "Operator (0 Normal, 1 Additional, 2 Fallback); kind (0 Open, 1 Closed, 2 Unknown);
 -- comment; .. years, monthdays, weeks, weekdays, spans". And from "Part taken": "spans ordered by start, end, `open_end` (false
 -- first), repeats (none first, then by minutes); fixed times before variable ones; variable times by event, then offset".
--- Assumes nothing.
 use mathlib.Core.List.{List, [], _∷_, _++_}
 use mathlib.Core.Option.{Option, none, some}
 use mathlib.Core.Bool.{Bool, true, false, _&&_, _||_, cond}

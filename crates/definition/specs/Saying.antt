@@ -1,6 +1,5 @@
 -- Demand 3's reading: what rules say at a point and minute, "the last covering span decides, plain Closed where none covers", for any
 -- choice of the minutes that non-simple spans cover, equal spans covering equal minutes.
--- Assumes nothing.
 use mathlib.Core.Path.{_≡_}
 use mathlib.Core.List.{List, map}
 use mathlib.Core.Bool.{Bool, true}

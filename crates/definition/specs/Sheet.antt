@@ -1,6 +1,5 @@
 -- 01, "The packed sheet": "Rule count 16 bits, the rules, then zero bits to the byte's end, then nothing."
 -- Reading refuses by 1, 2 and 4 as met from the first bit on, then by 3; each number of the layout is a field of its own.
--- Assumes nothing.
 use mathlib.Core.List.{List, [], _∷_}
 use mathlib.Core.Option.{Option, none, some}
 use mathlib.Core.Bool.{Bool, true, false, cond}

@@ -1,7 +1,6 @@
 -- 02, M-100: "They need a writer from an accepted sheet to text". "Refusals: 10, exactly when the sheet holds a dated month range, a monthday reference, a holiday, a
 -- weekday offset or unset nth bit, a variable time, repeats, a rule with 0 spans, or a first rule that isn't Normal; place is the first such rule's index; after 3,
 -- before 7."
--- Assumes nothing.
 use mathlib.Core.List.{List, [], _∷_}
 use mathlib.Core.Option.{Option, none, some, Option·map}
 use mathlib.Core.Bool.{Bool, true, false, _||_, not}

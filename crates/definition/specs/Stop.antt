@@ -1,7 +1,6 @@
 -- 01, "From rules to points", Stoppers: "Fallback; a step other than 1; a monthday of tag 1 or 2; a holiday; a weekday offset other than
 -- 0 or any nth bit 0; a span that may reach tomorrow. A span passes if both times are fixed, start < end and end ≤ 24:00, or if
 -- start is variable and end is fixed at 24:00 exactly." Draining: "Rules before the first stopper, in order."
--- Assumes nothing.
 use mathlib.Core.List.{List, [], _∷_}
 use mathlib.Core.Bool.{Bool, true, false, _&&_, _||_, not}
 use Prim.Native.Nat.{ℕ}

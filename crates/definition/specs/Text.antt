@@ -1,7 +1,6 @@
 -- 02, M-100: "a writer from an accepted sheet to text". A text says two things at once: how a value is written, in bytes of ASCII, and which
 -- values it has words for. A text speaks of a whole value and writes some part of it, so that texts one behind the other are texts of one value,
 -- and the text of a rule reads like 02's sentence.
--- Assumes nothing.
 use mathlib.Core.List.{List, [], _∷_, _++_, map, flatMap}
 use mathlib.Core.Bool.{Bool, true, false, _&&_, not, cond}
 use Prim.Native.Nat.{ℕ, zero, suc, _+_, _-_, _/_, _%_, _^_}

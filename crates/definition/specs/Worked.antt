@@ -1,6 +1,5 @@
 -- 01, "Worked days": "P is proved, together, as one table of cases under one statement." P cuts one dimension at a time, so the table
 -- also has the order of growing, pushes in two dimensions, a rule left, spans that stay in groups, and refusals 1 to 6.
--- Assumes nothing.
 use mathlib.Core.Path.{_≡_}
 use mathlib.Core.List.{List, [], _∷_}
 use Prim.Native.Nat.{ℕ, _*_}

@@ -1,6 +1,5 @@
 -- THE WORKED DATES, one table of cases under one statement: the points of days around new years, 4 January of some years, and both ends of the
 -- calendar.
--- Assumes nothing.
 use mathlib.Core.Path.{_≡_}
 use mathlib.Core.List.{List, [], _∷_, _++_}
 use Prim.Native.Nat.{ℕ}

@@ -1,6 +1,5 @@
 -- THE WORKED LINES, one table of cases under one statement, from the bytes of a sheet to the whole answer: what 02's M-100 says of the notation,
 -- each reason of 10 with its place, and the order of codes.
--- Assumes nothing.
 use mathlib.Core.Path.{_≡_}
 use mathlib.Core.List.{List, [], _∷_}
 use Prim.Native.Nat.{ℕ}

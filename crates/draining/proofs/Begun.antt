@@ -1,5 +1,4 @@
 -- The rules at the bits that a check notes are the rules that the definition reads.
--- Assumes nothing.
 use mathlib.Core.Path.{_≡_, ap, _∙_}
 use mathlib.Core.List.{List}
 use Prim.Native.Nat.{ℕ, _+_, _≤_, _<_}
@@ -11,7 +10,7 @@ use Rattle.definition.specs.Rule.{Rule, noRule}
 use Rattle.definition.specs.Sheet.{form1, limits1, decode}
 use Rattle.definition.proofs.Bits.{Bytes}
 use Rattle.sheet.specs.Rules.{begun}
-use Rattle.sheet.specs.Begin.{ruleAt}
+use Rattle.sheet.specs.Begin.{ruleReadAt}
 use Rattle.sheet.proofs.Begins.{rules-begin}
 use Rattle.draining.specs.Table.{rulesFrom}
 use Rattle.draining.proofs.Tabling.{rules-at, rules-length}
@@ -22,7 +21,7 @@ module _ (sheet : List ℕ) (b : Bytes sheet) (rs : List Rule) (q : ℕ) (e : de
   rules-noted = ext-getD noRule _ rs long (λ k l.
       let m : k < length rs = omega (arith, long) in
       let z : 0 + k ≡ k = omega arith in
-      rules-at (sheetBits sheet) (begun sheet begins) (length rs) 0 k m ∙ ap (λ j. ruleAt (sheetBits sheet) (getD (begun sheet begins) j 0)) z
+      rules-at (sheetBits sheet) (begun sheet begins) (length rs) 0 k m ∙ ap (λ j. ruleReadAt (sheetBits sheet) (getD (begun sheet begins) j 0)) z
       ∙ (rules-begin sheet rs q b e begins room k m) .begun-rule)
     where
       long : length (rulesFrom (sheetBits sheet) (begun sheet begins) 0 (length rs)) ≡ length rs

@@ -1,5 +1,5 @@
-pub mod SpanWays
+pub mod SpanReturns
 pub mod SpanMeaning
-pub mod RuleWays
+pub mod RuleReturns
 pub mod Tabling
 pub mod Begun

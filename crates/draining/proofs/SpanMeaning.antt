@@ -1,5 +1,4 @@
 -- What the spans that are loaded mean: the numbers of the rule's spans before the first that may reach tomorrow; and whether there is one.
--- Assumes nothing.
 use mathlib.Core.Path.{_≡_, refl, sym, ap, _∙_}
 use mathlib.Core.List.{List, [], _∷_, map}
 use mathlib.Core.Option.{some}
@@ -14,9 +13,9 @@ use Rattle.definition.proofs.Bits.{Bytes}
 use Rattle.definition.proofs.Items.{span-faithful}
 use Rattle.definition.proofs.SheetRead.{carried}
 use Rattle.definition.proofs.Reading.{all-parts}
-use Rattle.span_number.specs.Number.{spanNumber, spanAt}
-use Rattle.span_number.proofs.Numbers.{number-span}
-use Rattle.span_number.proofs.Carried.{span-carried, span-numbered}
+use Rattle.codes.specs.Number.{spanNumber, spanAt}
+use Rattle.codes.proofs.Numbers.{number-span}
+use Rattle.codes.proofs.Carried.{span-carried, span-numbered}
 use Rattle.draining.specs.Span.{numberAt, spanNumbers, spansStop}
 use Rattle.draining.specs.Rule.{today}
 

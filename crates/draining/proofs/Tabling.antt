@@ -4,21 +4,20 @@ use mathlib.Core.List.{List, _++_, map}
 use mathlib.Core.Bool.{Bool, true, false, false≢true}
 use Prim.Native.Nat.{ℕ, zero, suc, _+_, _*_, _-_, _^_, _≤_, _<_}
 use native.Mathlib.Omega.{arith}
-use lib.Dec.{eqb}
 use lib.ListN.{length, getD, set, take, drop, length-map}
 use lib.Seq.{sets, getD-set-same, getD-set-other}
-use borrow.Author.Tests.{eqb-true, eqb-false}
+use borrow.Author.Count.{below-more}
 use Rattle.laws.proofs.Flags.{split-or}
 use Rattle.laws.specs.Lists.{anyOf}
 use Rattle.definition.specs.Rule.{Rule, noRule}
 use Rattle.definition.specs.Stop.{spanStops, stops, drained}
 use Rattle.definition.proofs.Bits.{Bytes}
 use Rattle.definition.proofs.Drained.{drained-fewer, drained-each}
-use Rattle.sheet.specs.Begin.{ruleAt, Readable}
+use Rattle.sheet.specs.Begin.{ruleReadAt, Readable}
 use Rattle.tables.specs.Ranges.{tableRow}
 use Rattle.tables.specs.Rules.{TimesAt, DaysHeld}
 use Rattle.tables.proofs.Ranges.{row-kept, row-new, part-length}
-use Rattle.span_number.specs.Number.{stateNumber, spanNumber}
+use Rattle.codes.specs.Number.{stateNumber, spanNumber}
 use Rattle.canonical_date.specs.Rule.{daysStop}
 use Rattle.canonical_date.specs.Days.{Loaded, daysLoaded}
 use Rattle.canonical_date.proofs.Finding.{days-held}
@@ -26,7 +25,7 @@ use Rattle.canonical_date.proofs.Table.{sets-before, sets-inside}
 use Rattle.draining.specs.Rule.{loadedSpans, partsStop, replaceNumber, setUnless, DrainedRule}
 use Rattle.draining.specs.Table.{TabledAt, Tabled, rulesFrom}
 use Rattle.draining.proofs.SpanMeaning.{today-all}
-use Rattle.draining.proofs.RuleWays.{stops-parts, spans-few}
+use Rattle.draining.proofs.RuleReturns.{stops-parts, spans-few}
 use Rattle.definition.specs.Field.{sheetBits}
 
 -- ## Rows of the tables
@@ -80,11 +79,11 @@ module _ (x : Rule) (i : ℕ) (st co sp re st′ co′ sp′ re′ : List ℕ) (
 
 -- ## The rules before the first stopper
 module _ (s begins : List ℕ) where
-  pub rules-at : (n i k : ℕ) → k < n → getD (rulesFrom s begins i n) k noRule ≡ ruleAt s (getD begins (i + k) 0)
+  pub rules-at : (n i k : ℕ) → k < n → getD (rulesFrom s begins i n) k noRule ≡ ruleReadAt s (getD begins (i + k) 0)
   unfolding rulesFrom
   rules-at zero i k h = absurd (omega arith)
-  rules-at (suc n) i zero h = let z : i ≡ i + 0 = omega arith in ap (λ j. ruleAt s (getD begins j 0)) z
-  rules-at (suc n) i (suc k) h = let z : i + 1 + k ≡ i + suc k = omega arith in rules-at n (i + 1) k (omega arith) ∙ ap (λ j. ruleAt s (getD begins j 0)) z
+  rules-at (suc n) i zero h = let z : i ≡ i + 0 = omega arith in ap (λ j. ruleReadAt s (getD begins j 0)) z
+  rules-at (suc n) i (suc k) h = let z : i + 1 + k ≡ i + suc k = omega arith in rules-at n (i + 1) k (omega arith) ∙ ap (λ j. ruleReadAt s (getD begins j 0)) z
 
   pub rules-length : (n i : ℕ) → length (rulesFrom s begins i n) ≡ n
   unfolding rulesFrom
@@ -92,11 +91,11 @@ module _ (s begins : List ℕ) where
   rules-length (suc n) i = ap suc (rules-length n (i + 1))
 
   -- from place i on: one more, none, or the end
-  pub drained-more : (n m i : ℕ) → n ≡ suc m → stops (ruleAt s (getD begins i 0)) ≡ false → length (drained (rulesFrom s begins i n)) ≡ suc (length (drained (rulesFrom s begins (i + 1) m)))
+  pub drained-more : (n m i : ℕ) → n ≡ suc m → stops (ruleReadAt s (getD begins i 0)) ≡ false → length (drained (rulesFrom s begins i n)) ≡ suc (length (drained (rulesFrom s begins (i + 1) m)))
   unfolding rulesFrom drained
   drained-more n m i z e = rw (z, e, rulesFrom, drained)
 
-  pub drained-none : (n m i : ℕ) → n ≡ suc m → stops (ruleAt s (getD begins i 0)) ≡ true → length (drained (rulesFrom s begins i n)) ≡ 0
+  pub drained-none : (n m i : ℕ) → n ≡ suc m → stops (ruleReadAt s (getD begins i 0)) ≡ true → length (drained (rulesFrom s begins i n)) ≡ 0
   unfolding rulesFrom drained
   drained-none n m i z e = rw (z, e, rulesFrom, drained)
 
@@ -105,26 +104,20 @@ module _ (s begins : List ℕ) where
   drained-end n i z = rw (z, rulesFrom, drained)
 
   -- rows for each rule below the number of drained rules are the tables of the drained rules
-  pub tabled : (n i : ℕ) (st co sp re cn ra : List ℕ) → i ≡ length (drained (rulesFrom s begins 0 n)) → ((k : ℕ) → k < i → TabledAt st co sp re cn ra k (ruleAt s (getD begins k 0)))
+  pub tabled : (n i : ℕ) (st co sp re cn ra : List ℕ) → i ≡ length (drained (rulesFrom s begins 0 n)) → ((k : ℕ) → k < i → TabledAt st co sp re cn ra k (ruleReadAt s (getD begins k 0)))
       → Tabled st co sp re cn ra (drained (rulesFrom s begins 0 n))
   tabled n i st co sp re cn ra e h k m =
       let z : 0 + k ≡ k = omega arith in
-      subst (TabledAt st co sp re cn ra k)
-      (sym (drained-each (rulesFrom s begins 0 n) k m .0 ∙ rules-at n 0 k (omega (arith, drained-fewer (rulesFrom s begins 0 n), rules-length n 0)) ∙ ap (λ j. ruleAt s (getD begins j 0)) z)) (h k (omega arith))
+      let below : k < n = omega (arith, drained-fewer (rulesFrom s begins 0 n), rules-length n 0) in
+      let same = drained-each (rulesFrom s begins 0 n) k m .0 ∙ rules-at n 0 k below ∙ ap (λ j. ruleReadAt s (getD begins j 0)) z in
+      subst (TabledAt st co sp re cn ra k) (sym same) (h k (omega arith))
 
 -- ## Rule after rule
-below-more : (P : ℕ → Type 0) (i : ℕ) → ((k : ℕ) → k < i → P k) → P i → (k : ℕ) → k < suc i → P k
-below-more P i h p k l = go (eqb k i) refl
-  where
-    go : (t : Bool) → eqb k i ≡ t → P k
-    go true e = subst P (sym (eqb-true k i e)) p
-    go false e = h k (omega (arith, eqb-false k i e))
-
 -- the first i of n rules are drained into the tables
 pub record Draining (s begins : List ℕ) (n : ℕ) (st co sp re cn ra : List ℕ) (i : ℕ) : Type 0 where
   pub within : i ≤ n
   pub number : i + length (drained (rulesFrom s begins i (n - i))) ≡ length (drained (rulesFrom s begins 0 n))
-  pub rows : (k : ℕ) → k < i → TabledAt st co sp re cn ra k (ruleAt s (getD begins k 0))
+  pub rows : (k : ℕ) → k < i → TabledAt st co sp re cn ra k (ruleReadAt s (getD begins k 0))
 
 module _ (s begins : List ℕ) (n : ℕ) (st co sp re cn ra : List ℕ) where
   pub drain-first : Draining s begins n st co sp re cn ra 0
@@ -143,13 +136,14 @@ module _ (s begins : List ℕ) (n : ℕ) (st co sp re cn ra : List ℕ) where
 
 -- rule i, with its own row of the ranges and of their counts written anew
 module _ (sheet : List ℕ) (bytes : Bytes sheet) (begins : List ℕ) (n : ℕ) (st co sp re cn ra : List ℕ) (i : ℕ) (l : i < n) (w : Draining (sheetBits sheet) begins n st co sp re cn ra i)
-    (st′ co′ sp′ re′ : List ℕ) (d : DrainedRule (ruleAt (sheetBits sheet) (getD begins i 0)) i st co sp re st′ co′ sp′ re′) (t : Bool) (h : t ≡ stops (ruleAt (sheetBits sheet) (getD begins i 0)))
+    (st′ co′ sp′ re′ : List ℕ) (d : DrainedRule (ruleReadAt (sheetBits sheet) (getD begins i 0)) i st co sp re st′ co′ sp′ re′)
+    (t : Bool) (h : t ≡ stops (ruleReadAt (sheetBits sheet) (getD begins i 0)))
     (all-counts : i * 4 + 4 ≤ length cn) (all-ranges : i * 256 + 256 ≤ length ra) where
   abbrev s : List ℕ
   s = sheetBits sheet
 
   abbrev r : Rule
-  r = ruleAt s (getD begins i 0)
+  r = ruleReadAt s (getD begins i 0)
 
   -- the rows as they were, and as the rule's days fill them
   abbrev old-ranges : List ℕ
@@ -168,14 +162,14 @@ module _ (sheet : List ℕ) (bytes : Bytes sheet) (begins : List ℕ) (n : ℕ) 
     abbrev ra′ : List ℕ
     ra′ = take (i * 256) ra ++ (ranges ++ drop (i * 256 + 256 - i * 256) (drop (i * 256) ra))
 
-    kept : (k : ℕ) → k < i → TabledAt st′ co′ sp′ re′ cn′ ra′ k (ruleAt s (getD begins k 0))
+    kept : (k : ℕ) → k < i → TabledAt st′ co′ sp′ re′ cn′ ra′ k (ruleReadAt s (getD begins k 0))
     kept k m =
         let before = w .rows k m in (
-          times-kept r i st co sp re st′ co′ sp′ re′ d k (ruleAt s (getD begins k 0)) m (before .0),
+          times-kept r i st co sp re st′ co′ sp′ re′ d k (ruleReadAt s (getD begins k 0)) m (before .0),
           record {
             replacing-held = replacing-kept r i st co sp re st′ co′ sp′ re′ d k m ∙ before .1 .replacing-held;
-            days-held = subst (λ c. DaysHeld c (tableRow ra′ k 256) (ruleAt s (getD begins k 0))) (sym (row-kept cn counts _ i 4 (omega arith) k m))
-                (subst (λ q. DaysHeld (tableRow cn k 4) q (ruleAt s (getD begins k 0))) (sym (row-kept ra ranges _ i 256 (omega arith) k m)) (before .1 .days-held));
+            days-held = subst (λ c. DaysHeld c (tableRow ra′ k 256) (ruleReadAt s (getD begins k 0))) (sym (row-kept cn counts _ i 4 (omega arith) k m))
+                (subst (λ q. DaysHeld (tableRow cn k 4) q (ruleReadAt s (getD begins k 0))) (sym (row-kept ra ranges _ i 256 (omega arith) k m)) (before .1 .days-held));
           },
         )
 
@@ -203,5 +197,5 @@ module _ (sheet : List ℕ) (bytes : Bytes sheet) (begins : List ℕ) (n : ℕ) 
         rw e (record {
           within = omega arith;
           number = omega (arith, w .number, more);
-          rows = λ k m. below-more (λ k. TabledAt st′ co′ sp′ re′ cn′ ra′ k (ruleAt s (getD begins k 0))) i kept new k (omega arith);
+          rows = λ k m. below-more (λ k. TabledAt st′ co′ sp′ re′ cn′ ra′ k (ruleReadAt s (getD begins k 0))) i kept new k (omega arith);
         })

@@ -1,5 +1,4 @@
 -- A rule in the tables: its state, how many spans it has, these from sixteen times its number on, and whether it replaces.
--- Assumes nothing.
 use mathlib.Core.Path.{_≡_}
 use mathlib.Core.List.{List, [], _∷_, map}
 use mathlib.Core.Option.{Option, none, some}
@@ -12,7 +11,7 @@ use Rattle.definition.specs.Rule.{Span, Rule}
 use Rattle.definition.specs.Stop.{isFallback, spanStops, stops}
 use Rattle.definition.specs.Point.{replaces}
 use Rattle.canonical_date.specs.Rule.{daysStop}
-use Rattle.span_number.specs.Number.{stateNumber, spanNumber}
+use Rattle.codes.specs.Number.{stateNumber, spanNumber}
 use Rattle.draining.specs.declared.rule.Load.{Load}
 use Rattle.draining.specs.declared.rule.Load.the-variants.{Spans, Stops}
 

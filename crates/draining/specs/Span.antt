@@ -1,5 +1,4 @@
 -- A rule's spans as numbers, one behind the other, up to the first that may reach tomorrow.
--- Assumes nothing.
 use mathlib.Core.List.{List, [], _∷_}
 use mathlib.Core.Option.{Option, none, some}
 use mathlib.Core.Bool.{Bool, true, false, cond}
@@ -8,7 +7,7 @@ use Rattle.definition.specs.Field.{Read, got, refused}
 use Rattle.definition.specs.Rule.{Span}
 use Rattle.definition.specs.Sheet.{span}
 use Rattle.definition.specs.Stop.{spanStops}
-use Rattle.span_number.specs.Number.{spanNumber, spanAt}
+use Rattle.codes.specs.Number.{spanNumber, spanAt}
 use Rattle.draining.specs.declared.span.NumberRead.{NumberRead}
 use Rattle.draining.specs.declared.span.NumberRead.the-variants as numberRead
 

@@ -4,7 +4,7 @@ use mathlib.Core.List.{List, [], _∷_}
 use Prim.Native.Nat.{ℕ, zero, suc, _+_, _<_}
 use lib.ListN.{length, getD}
 use Rattle.definition.specs.Rule.{Rule}
-use Rattle.sheet.specs.Begin.{ruleAt}
+use Rattle.sheet.specs.Begin.{ruleReadAt}
 use Rattle.tables.specs.Ranges.{tableRow}
 use Rattle.tables.specs.Rules as tables
 use Rattle.tables.specs.Rules.{TimesAt, DaysHeld}
@@ -26,4 +26,4 @@ Tabled states counts spans replacing rangeCounts ranges rs = (k : ℕ) → k < l
 -- the rules that begin at n noted bits from place i on
 unfoldable pub rulesFrom : List ℕ → List ℕ → ℕ → ℕ → List Rule
 rulesFrom s begins i zero = []
-rulesFrom s begins i (suc n) = ruleAt s (getD begins i 0) ∷ rulesFrom s begins (i + 1) n
+rulesFrom s begins i (suc n) = ruleReadAt s (getD begins i 0) ∷ rulesFrom s begins (i + 1) n

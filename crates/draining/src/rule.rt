@@ -1,5 +1,6 @@
 // One rule, from the sheet to the tables; or that it stops.
 use canonical_date::days::Days;
+use casts::u64_to_u8;
 use sheet::rule::TitleRead;
 ghost use mathlib.Core.Path.{_≡_};
 ghost use mathlib.Core.List.{map};
@@ -12,9 +13,9 @@ ghost use Rattle.definition.specs.Field.{sheetBits};
 ghost use Rattle.definition.specs.Rule.{operatorOf, kindOf};
 ghost use Rattle.definition.specs.Stop.{isFallback, stops};
 ghost use Rattle.definition.specs.Point.{isNormal, isClosed};
-ghost use Rattle.sheet.specs.Begin.{ruleAt, Readable};
+ghost use Rattle.sheet.specs.Begin.{ruleReadAt, Readable};
 ghost use Rattle.canonical_date.specs.Days.{daysLoaded};
-ghost use Rattle.span_number.specs.Number.{stateNumber, stateOf, spanNumber};
+ghost use Rattle.codes.specs.Number.{stateNumber, stateOf, spanNumber};
 ghost use Rattle.draining.specs.Rule.{loadedSpans, partsStop, loadOf, SetRule, DrainedRule};
 
 // How many spans a rule has; or an item or a span stops it.
@@ -30,16 +31,16 @@ fn load_rule(
     rule: usize,
     spans: &mut [u64],
     ranges: &mut [u16],
-    counts: &mut [u16],
+    range_counts: &mut [u16],
 ) -> Load
     requires { ⌜ Readable (sheetBits (now sheet)) at ⌝ }
-    requires { ⌜ (at < 2 ^ 25) × (rule * 16 + 16 ≤ length (now spans)) × (256 ≤ length (now ranges)) × (4 ≤ length (now counts)) ⌝ }
-    ensures { λ r. ⌜ (loadOf r ≡ cond (partsStop (ruleAt (sheetBits (now (sheet .entry))) at)) none (some (length ((ruleAt (sheetBits (now (sheet .entry))) at) .spans))))
-        × (now (spans .exit) ≡ sets (now (spans .entry)) (rule * 16) (map spanNumber (loadedSpans (ruleAt (sheetBits (now (sheet .entry))) at))))
-        × (now (ranges .exit) ≡ (daysLoaded (sheetBits (now (sheet .entry))) at (now (ranges .entry)) (now (counts .entry))) .ranges)
-        × (now (counts .exit) ≡ (daysLoaded (sheetBits (now (sheet .entry))) at (now (ranges .entry)) (now (counts .entry))) .counts) ⌝ }
+    requires { ⌜ (at < 2 ^ 25) × (rule * 16 + 16 ≤ length (now spans)) × (256 ≤ length (now ranges)) × (4 ≤ length (now «range_counts»)) ⌝ }
+    ensures { λ r. ⌜ (loadOf r ≡ cond (partsStop (ruleReadAt (sheetBits (now (sheet .entry))) at)) none (some (length ((ruleReadAt (sheetBits (now (sheet .entry))) at) .spans))))
+        × (now (spans .exit) ≡ sets (now (spans .entry)) (rule * 16) (map spanNumber (loadedSpans (ruleReadAt (sheetBits (now (sheet .entry))) at))))
+        × (now (ranges .exit) ≡ (daysLoaded (sheetBits (now (sheet .entry))) at (now (ranges .entry)) (now («range_counts» .entry))) .ranges)
+        × (now («range_counts» .exit) ≡ (daysLoaded (sheetBits (now (sheet .entry))) at (now (ranges .entry)) (now («range_counts» .entry))) .counts) ⌝ }
 {
-    let days = canonical_date::days::rule_ranges(sheet, at, ranges, counts);
+    let days = canonical_date::days::rule_ranges(sheet, at, ranges, range_counts);
     match days {
         Days::Spans(count, place) => {
             if crate::span::load_spans(sheet, place, count, spans, rule * 16) {
@@ -96,7 +97,7 @@ fn set_rule(
 ) -> bool
     requires { ⌜ Readable (sheetBits (now sheet)) at ⌝ }
     requires { ⌜ (at < 2 ^ 25) × (count ≤ 16) × (rule < length (now states)) × (rule < length (now «span_counts»)) × (rule < length (now replacing)) ⌝ }
-    ensures { λ r. ⌜ SetRule (ruleAt (sheetBits (now (sheet .entry))) at) rule count (now (states .entry)) (now («span_counts» .entry)) (now (replacing .entry))
+    ensures { λ r. ⌜ SetRule (ruleReadAt (sheetBits (now (sheet .entry))) at) rule count (now (states .entry)) (now («span_counts» .entry)) (now (replacing .entry))
         (now (states .exit)) (now («span_counts» .exit)) (now (replacing .exit)) r ⌝ }
 {
     let title = sheet::rule::title_at(sheet, at);
@@ -106,7 +107,7 @@ fn set_rule(
                 return true;
             }
             states[rule] = state_number(kind, comment);
-            span_counts[rule] = canonical_date::canonical::number8(count);
+            span_counts[rule] = u64_to_u8(count);
             replacing[rule] = replace_number(operator, kind);
             false
         }
@@ -123,19 +124,19 @@ pub fn drain_rule(
     span_counts: &mut [u8],
     spans: &mut [u64],
     replacing: &mut [u8],
-    counts: &mut [u16],
+    range_counts: &mut [u16],
     ranges: &mut [u16],
 ) -> bool
     requires { ⌜ Readable (sheetBits (now sheet)) at ⌝ }
     requires { ⌜ (at < 2 ^ 25) × (rule * 16 + 16 ≤ length (now spans)) × (rule < length (now states)) × (rule < length (now «span_counts»)) × (rule < length (now replacing)) ⌝ }
-    requires { ⌜ (256 ≤ length (now ranges)) × (4 ≤ length (now counts)) ⌝ }
-    ensures { λ r. ⌜ (r ≡ stops (ruleAt (sheetBits (now (sheet .entry))) at))
-        × DrainedRule (ruleAt (sheetBits (now (sheet .entry))) at) rule (now (states .entry)) (now («span_counts» .entry)) (now (spans .entry)) (now (replacing .entry))
+    requires { ⌜ (256 ≤ length (now ranges)) × (4 ≤ length (now «range_counts»)) ⌝ }
+    ensures { λ r. ⌜ (r ≡ stops (ruleReadAt (sheetBits (now (sheet .entry))) at))
+        × DrainedRule (ruleReadAt (sheetBits (now (sheet .entry))) at) rule (now (states .entry)) (now («span_counts» .entry)) (now (spans .entry)) (now (replacing .entry))
         (now (states .exit)) (now («span_counts» .exit)) (now (spans .exit)) (now (replacing .exit))
-        × (now (ranges .exit) ≡ (daysLoaded (sheetBits (now (sheet .entry))) at (now (ranges .entry)) (now (counts .entry))) .ranges)
-        × (now (counts .exit) ≡ (daysLoaded (sheetBits (now (sheet .entry))) at (now (ranges .entry)) (now (counts .entry))) .counts) ⌝ }
+        × (now (ranges .exit) ≡ (daysLoaded (sheetBits (now (sheet .entry))) at (now (ranges .entry)) (now («range_counts» .entry))) .ranges)
+        × (now («range_counts» .exit) ≡ (daysLoaded (sheetBits (now (sheet .entry))) at (now (ranges .entry)) (now («range_counts» .entry))) .counts) ⌝ }
 {
-    let load = load_rule(sheet, at, rule, spans, ranges, counts);
+    let load = load_rule(sheet, at, rule, spans, ranges, range_counts);
     match load {
         Load::Spans(count) => set_rule(sheet, at, rule, count, states, span_counts, replacing),
         Load::Stops => true,

@@ -1,6 +1,6 @@
 // A rule's spans as numbers.
-use canonical_date::canonical::number8;
-use canonical_date::canonical::number16;
+use casts::u64_to_u8;
+use casts::u64_to_u16;
 use item::time::SpanRead;
 use item::time::Time;
 ghost use mathlib.Core.Path.{_≡_};
@@ -11,8 +11,8 @@ ghost use lib.ListN.{length};
 ghost use lib.Seq.{sets};
 ghost use Rattle.definition.specs.Field.{sheetBits};
 ghost use Rattle.item.specs.Answer.{asTime};
-ghost use Rattle.span_number.specs.Number.{timeNumber};
-ghost use Rattle.span_number.specs.Carried.{CarriedTime};
+ghost use Rattle.codes.specs.Number.{timeNumber};
+ghost use Rattle.codes.specs.Carried.{CarriedTime};
 ghost use Rattle.draining.specs.Span.{numberOf, numberAt, spanNumbers, spansStop};
 
 // A span's number and the bit after it.
@@ -26,9 +26,9 @@ fn time_number(time: Time) -> u64
     ensures { λ r. ⌜ r ≡ timeNumber (asTime time) ⌝ }
 {
     match time {
-        Time::Fixed(minutes) => span_number::fixed_time(number16(minutes)),
+        Time::Fixed(minutes) => codes::fixed_time(u64_to_u16(minutes)),
         Time::Variable(event, offset) => {
-            span_number::variable_time(number8(event), number16(offset))
+            codes::variable_time(u64_to_u8(event), u64_to_u16(offset))
         }
     }
 }
@@ -49,7 +49,7 @@ fn number_at(sheet: &[u8], at: usize) -> NumberRead
         SpanRead::Span(start, end, open_end, repeats, next) => {
             let first = time_number(start);
             let last = time_number(end);
-            let number = span_number::span(first, last, open_bit(open_end), repeats);
+            let number = codes::span(first, last, open_bit(open_end), repeats);
             NumberRead::Span(number, next)
         }
         SpanRead::Refused(code, place) => NumberRead::Refused,
@@ -57,20 +57,20 @@ fn number_at(sheet: &[u8], at: usize) -> NumberRead
 }
 
 // The numbers of some spans, one behind the other, up to the first that may reach tomorrow; whether there is one.
-pub fn load_spans(sheet: &[u8], at: usize, left: u64, spans: &mut [u64], place: usize) -> bool
-    requires { ⌜ (at + left * 52 < 2 ^ 29) × (place + left ≤ length (now spans)) ⌝ }
-    ensures { λ r. ⌜ (r ≡ spansStop left (sheetBits (now (sheet .entry))) at)
-        × (now (spans .exit) ≡ sets (now (spans .entry)) place (spanNumbers left (sheetBits (now (sheet .entry))) at)) ⌝ }
+pub fn load_spans(sheet: &[u8], at: usize, spans_left: u64, spans: &mut [u64], place: usize) -> bool
+    requires { ⌜ (at + «spans_left» * 52 < 2 ^ 29) × (place + «spans_left» ≤ length (now spans)) ⌝ }
+    ensures { λ r. ⌜ (r ≡ spansStop «spans_left» (sheetBits (now (sheet .entry))) at)
+        × (now (spans .exit) ≡ sets (now (spans .entry)) place (spanNumbers «spans_left» (sheetBits (now (sheet .entry))) at)) ⌝ }
 {
-    if left == 0 {
+    if spans_left == 0 {
         return false;
     }
     let read = number_at(sheet, at);
     match read {
         NumberRead::Span(number, next) => {
-            if span_number::no_overlap_with_next_day(number) {
+            if codes::no_overlap_with_next_day(number) {
                 spans[place] = number;
-                return load_spans(sheet, next, left - 1, spans, place + 1);
+                return load_spans(sheet, next, spans_left - 1, spans, place + 1);
             }
             true
         }

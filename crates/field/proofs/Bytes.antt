@@ -1,5 +1,4 @@
 -- Whole bytes: which of them a field spans, and the field as it is taken from their number. Rests on the laws of fields in parts.
--- Assumes nothing.
 use mathlib.Core.Path.{_≡_, sym, ap, _∙_}
 use mathlib.Core.List.{List, [], _∷_, _++_, flatMap}
 use Prim.Native.Nat.{ℕ, suc, _+_, _*_, _-_, _/_, _%_, _^_, _≤_, _<_}

@@ -1,5 +1,4 @@
 -- A field that is tested, from the field of any value: what was read stands where the test passes, and a refusal stands.
--- Assumes nothing.
 use mathlib.Core.Path.{_≡_, refl, sym, ap, ap₂, _∙_}
 use mathlib.Core.List.{List}
 use mathlib.Core.Bool.{Bool, true, false, cond}

@@ -1,5 +1,4 @@
 -- What a field's answer says: the value and the bit after it, or the refusal.
--- Assumes nothing.
 use Prim.Native.Nat.{ℕ}
 use Rattle.definition.specs.Field.{Read, got, refused}
 use Rattle.field.specs.declared.Taken.{Taken}

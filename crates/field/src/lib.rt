@@ -3,6 +3,7 @@
 // reaches further.
 pub mod width;
 
+use casts::u8_to_u64;
 ghost use mathlib.Core.Path.{_≡_};
 ghost use Prim.Native.Nat.{_+_, _*_, _-_, _%_, _≤_, _<_, _^_};
 ghost use lib.ListN.{length};
@@ -15,12 +16,6 @@ ghost use Rattle.field.specs.Answer.{asRead};
 pub enum Taken {
     Value(u64, usize),
     Refused(u8, usize),
-}
-
-fn wide(x: u8) -> u64
-    ensures { λ r. ⌜ (r ≡ x) × (r < 256) ⌝ }
-{
-    x as u64
 }
 
 // The last bits of a number, as many as `count`.
@@ -39,7 +34,7 @@ pub fn bytes_at(sheet: &[u8], first: usize, past: usize) -> u64
     let mut number: u64 = 0;
     let mut index = first;
     while index < past {
-        number = number * 256 + wide(sheet[index]);
+        number = number * 256 + u8_to_u64(sheet[index]);
         index += 1;
     }
     number

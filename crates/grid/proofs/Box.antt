@@ -1,6 +1,5 @@
 -- POINTS ARE BOXES. For any bounds and any ranges between them, the groups over all points of a map that goes by the ranges' marks
 -- are the groups over the boxes between their cuts. Rests on the compression law and on the cuts' laws.
--- Assumes nothing.
 use mathlib.Core.Path.{_≡_, refl, sym, ap, ap₂, _∙_}
 use mathlib.Core.List.{List, [], _∷_, map}
 use mathlib.Core.Bool.{Bool, false}

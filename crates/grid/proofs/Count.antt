@@ -1,5 +1,4 @@
 -- How many: there are no more groups than points, and maximal runs are at most every other interval. Rests on the popped groups' laws.
--- Assumes nothing.
 use mathlib.Core.Path.{_≡_, refl, sym}
 use mathlib.Core.List.{List, [], _∷_}
 use mathlib.Core.Logic.{_⊎_, inl, inr}

@@ -1,6 +1,5 @@
 -- The groups of a map: they give the map back at every point, so they cover just the points that are not empty, each with its
 -- value; and no two of them meet. Rests on the popped groups' laws and on steps.
--- Assumes nothing.
 use mathlib.Core.Path.{_≡_, refl, sym, ap, _∙_}
 use mathlib.Core.List.{List, [], _∷_, _++_}
 use mathlib.Core.Logic.{_⊎_, inl, inr}

@@ -1,6 +1,5 @@
 -- In one dimension no value comes twice among the groups, so there are no more of them than values to choose from. Rests on the
 -- popped groups' laws.
--- Assumes nothing.
 use mathlib.Core.Path.{_≡_, refl, sym, ap, _∙_, subst}
 use mathlib.Core.List.{List, [], _∷_, _++_, map, map-append}
 use mathlib.Core.Logic.{_⊎_, inl, inr}

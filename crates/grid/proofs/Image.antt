@@ -2,7 +2,6 @@
 -- values be renamed one to one where they are in use: then the groups of the coarse map, imaged, are the groups of the fine one.
 -- It carries boxes to points, interval numbers to boxes, day numbers to days, and intervals of minutes to minutes.
 -- Rests on the laws of `flatMap` and of steps.
--- Assumes nothing.
 use mathlib.Core.Path.{_≡_, refl, sym, ap, ap₂, _∙_, subst}
 use mathlib.Core.List.{List, [], _∷_, _++_, map, flatMap, map-append}
 use mathlib.Core.Option.{Option, none, some, Option·map}

@@ -1,6 +1,5 @@
 -- Intervals as blocks of coordinates: rising ones lie apart, and their joined runs are the runs of their coordinates.
 -- Rests on the laws of numbers.
--- Assumes nothing.
 use mathlib.Core.Path.{_≡_, refl, sym, ap, _∙_}
 use mathlib.Core.List.{List, [], _∷_, _++_, flatMap}
 use mathlib.Core.Bool.{Bool, true, false}

@@ -1,5 +1,4 @@
 -- Interval numbers as coordinates: interval x lies between cut x and the next. Rests on the laws of intervals.
--- Assumes nothing.
 use mathlib.Core.Path.{_≡_, refl, sym, ap, _∙_}
 use mathlib.Core.List.{List, _++_, flatMap}
 use mathlib.Core.Bool.{Bool, true, false}

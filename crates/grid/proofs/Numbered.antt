@@ -1,5 +1,4 @@
 -- Values by numbers: 0 for none, else one more than the number of the first cell that has the value.
--- Assumes nothing.
 use mathlib.Core.Path.{_≡_, refl, sym, _∙_}
 use mathlib.Core.Bool.{Bool, true, false}
 use Prim.Native.Nat.{ℕ, zero, suc, _<_}

@@ -1,5 +1,4 @@
 -- A popped set is a part of the dimensions, and none of its lists is empty. Rests on the lists' laws.
--- Assumes nothing.
 use mathlib.Core.Path.{_≡_, refl}
 use mathlib.Core.List.{List, [], _∷_}
 use mathlib.Core.Option.{Option, none, some}

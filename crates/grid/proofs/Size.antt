@@ -1,6 +1,5 @@
 -- How many points the groups take: all of them together no more than there are. Where each popped group weighs no more than the points that
 -- it empties, all groups weigh no more than the points. Rests on the popped groups' laws.
--- Assumes nothing.
 use mathlib.Core.Path.{_≡_, refl, sym, ap, _∙_, subst}
 use mathlib.Core.List.{List, [], _∷_}
 use mathlib.Core.Option.{Option, none, some}

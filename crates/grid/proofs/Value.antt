@@ -1,6 +1,5 @@
 -- A popped group has one value on its whole set; where none is popped, no point matches; and each pop leaves fewer that do.
 -- Rests on the lists' laws.
--- Assumes nothing.
 use mathlib.Core.Path.{_≡_, refl, sym, subst}
 use mathlib.Core.List.{List, [], _∷_}
 use mathlib.Core.Option.{Option, none, some}

@@ -1,6 +1,5 @@
 -- How wide the groups' sets are: no list of theirs is empty, so that the coordinates of a set are hardly more than its points. Rests on the
 -- popped groups' laws.
--- Assumes nothing.
 use mathlib.Core.List.{List, [], _∷_}
 use mathlib.Core.Bool.{Bool}
 use Prim.Native.Nat.{ℕ, zero, suc, _+_, _*_, _≤_}

@@ -2,7 +2,6 @@
 -- "Class after class, while a point matches: take the first by weekday, week, month, year. Grow the year set to all years with
 -- that same list; then months good for all those years; then weeks; then weekdays. .. Empty the box; go on."
 -- The dimensions are a parameter: the fold has four of them, a painted day has one, the minutes.
--- Assumes nothing.
 use mathlib.Core.List.{List, [], _∷_, _++_}
 use mathlib.Core.Option.{Option, none, some}
 use mathlib.Core.Bool.{Bool, true, false, _&&_, cond}

@@ -1,5 +1,4 @@
 -- What an export leaves in a lent slice: "a slice too short for them is answered no, with nothing written anywhere".
--- Assumes nothing.
 use mathlib.Core.Bool.{Bool, cond}
 use mathlib.Core.List.{List}
 use Prim.Native.Nat.{ℕ}

@@ -1,5 +1,5 @@
 // The entries for C and Rust: an answer's numbers go, in document 01's order, into a lent slice of 64-bit numbers. A slice too short for
-// them is writeNumbers no, and nothing is written anywhere; a longer one keeps its later numbers.
+// them is answered no, and nothing is written anywhere; a longer one keeps its later numbers.
 use answers::Written;
 ghost use mathlib.Core.Path.{_≡_};
 ghost use Prim.Native.Nat.{_≤_};

@@ -1,5 +1,4 @@
 -- The return of a reader whose field was refused: the refusal stands.
--- Assumes nothing.
 use mathlib.Core.Path.{_≡_, sym, ap, _∙_}
 use Prim.Native.Nat.{ℕ}
 use Rattle.definition.specs.Field.{Read, refused}

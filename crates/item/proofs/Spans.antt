@@ -1,5 +1,4 @@
 -- One lemma for each return of the readers of repeats and of spans. Rests on the laws of readings.
--- Assumes nothing.
 use mathlib.Core.Path.{_≡_, sym, ap, _∙_}
 use mathlib.Core.List.{List}
 use mathlib.Core.Option.{Option, none}

@@ -1,5 +1,4 @@
 -- What the answers of readers say, as readings of the definition; and the refusal of a reader whose field was refused.
--- Assumes nothing.
 use mathlib.Core.Option.{Option, none, some}
 use Prim.Native.Nat.{ℕ, zero, suc}
 use Rattle.definition.specs.Field.{Read, got, refused}

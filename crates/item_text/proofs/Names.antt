@@ -1,5 +1,4 @@
 -- The names of months and weekdays, found in one row of bytes: one computed test over each table.
--- Assumes nothing.
 use mathlib.Core.Path.{_≡_, refl, sym, ap, _∙_}
 use mathlib.Core.List.{List, [], map}
 use mathlib.Core.Bool.{Bool, true}

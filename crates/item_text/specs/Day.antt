@@ -1,5 +1,4 @@
 -- The text of an item of days by its sort: 0 years, 1 months, 2 weeks, else weekdays.
--- Assumes nothing.
 use mathlib.Core.List.{List, [], _++_}
 use mathlib.Core.Bool.{cond}
 use Prim.Native.Nat.{ℕ}

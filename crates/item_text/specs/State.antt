@@ -1,5 +1,4 @@
 -- The two parts of a state's text.
--- Assumes nothing.
 use mathlib.Core.List.{List, [], _++_}
 use mathlib.Core.Bool.{_&&_, cond}
 use Prim.Native.Nat.{ℕ}

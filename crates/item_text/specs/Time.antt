@@ -1,5 +1,4 @@
 -- The text of a span between two fixed times.
--- Assumes nothing.
 use mathlib.Core.List.{List}
 use mathlib.Core.Bool.{Bool}
 use mathlib.Core.Option.{none}

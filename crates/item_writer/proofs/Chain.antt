@@ -1,5 +1,4 @@
 -- Writers one behind the other: bits stored, then more bits behind them, are all of them stored; and room for all is room for each.
--- Assumes nothing.
 use mathlib.Core.Path.{_≡_, refl, sym, ap, _∙_, subst}
 use mathlib.Core.List.{List, [], _++_}
 use Prim.Native.Nat.{ℕ, _+_}
@@ -9,7 +8,7 @@ use lib.Seq.{sets, length-sets}
 use Rattle.laws.proofs.Stores.{sets-append}
 use Rattle.definition.specs.Field.{sheetBits}
 use Rattle.definition.proofs.Bits.{length-sheetBits}
-use Rattle.item_writer.specs.Written.{Room, Wrote}
+use Rattle.item_writer.specs.Written.{RoomFor, Wrote}
 
 module _ {old xs mid : List ℕ} {at place : ℕ} (first : Wrote old at xs mid place) where
   -- no bit more, no bit less
@@ -24,18 +23,18 @@ module _ {old xs mid : List ℕ} {at place : ℕ} (first : Wrote old at xs mid p
   }
 
   -- behind what was written there is room for the rest
-  pub room-rest : (ys : List ℕ) → Room (length old) at (xs ++ ys) → Room (length mid) place ys
+  pub room-rest : (ys : List ℕ) → RoomFor (length old) at (xs ++ ys) → RoomFor (length mid) place ys
   room-rest ys r = record {
     inside = omega (arith, r .inside, first .behind, length-append xs ys, same-size);
     low = omega (arith, r .low, first .behind, length-append xs ys);
   }
 
-pub room-first : {size at : ℕ} (xs ys : List ℕ) → Room size at (xs ++ ys) → Room size at xs
+pub room-first : {size at : ℕ} (xs ys : List ℕ) → RoomFor size at (xs ++ ys) → RoomFor size at xs
 room-first xs ys r = record { inside = omega (arith, r .inside, length-append xs ys); low = omega (arith, r .low, length-append xs ys) }
 
 -- ## The same bits, said in another way
-pub room-as : {size at : ℕ} {xs ys : List ℕ} → xs ≡ ys → Room size at xs → Room size at ys
-room-as {size} {at} e r = subst (Room size at) e r
+pub room-as : {size at : ℕ} {xs ys : List ℕ} → xs ≡ ys → RoomFor size at xs → RoomFor size at ys
+room-as {size} {at} e r = subst (RoomFor size at) e r
 
 pub wrote-as : {old xs ys out : List ℕ} {at next : ℕ} → xs ≡ ys → Wrote old at ys out next → Wrote old at xs out next
 wrote-as {old} {xs} {ys} {out} {at} {next} e w = subst (λ new. Wrote old at new out next) (sym e) w

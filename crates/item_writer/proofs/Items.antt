@@ -1,5 +1,4 @@
 -- The bits of weekdays; and of a time, of repeats and of a span, by their number, with what a lawful one's number is below.
--- Assumes nothing.
 use mathlib.Core.Path.{_≡_, sym, ap, _∙_}
 use mathlib.Core.List.{_++_, append-assoc, append-nil}
 use mathlib.Core.Bool.{true, _&&_}
@@ -10,8 +9,8 @@ use Rattle.laws.proofs.Flags.{split-and}
 use Rattle.definition.specs.Field.{bits, Layout, field, plain, noBits, _then_, via, tagged}
 use Rattle.definition.specs.Rule.{bySize}
 use Rattle.definition.specs.Sheet.{weekdayOf, weekDayRange, timeOf, time, repeatsOf, flagBit, repeatsLayout, span}
-use Rattle.span_number.specs.Number.{timeAt, repeatsAt, spanAt}
-use Rattle.span_number.proofs.Numbers.{flag-number}
+use Rattle.codes.specs.Number.{timeAt, repeatsAt, spanAt}
+use Rattle.codes.proofs.Numbers.{flag-number}
 use Rattle.item_writer.specs.Written.{daysFrom}
 
 -- ## Weekdays

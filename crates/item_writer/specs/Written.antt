@@ -1,6 +1,5 @@
 -- What a writer asks for and what it leaves: bits stored in a buffer from a place on, every other bit as it was, and the place after
 -- them. And the items of days that the fold writes: "step 1, offset 0, nth bits all 1".
--- Assumes nothing.
 use mathlib.Core.Path.{_≡_}
 use mathlib.Core.List.{List}
 use Prim.Native.Nat.{ℕ, _+_, _*_, _≤_, _<_, _^_}
@@ -15,7 +14,7 @@ abbrev pub Fits : ℕ → ℕ → Type 0
 Fits width value = (width ≤ 32) × (value < 2 ^ width)
 
 -- a buffer of so many bytes has room for some bits from a place on, and places fit a machine word
-pub record Room (size at : ℕ) (new : List ℕ) : Type 0 where
+pub record RoomFor (size at : ℕ) (new : List ℕ) : Type 0 where
   pub inside : at + length new ≤ 8 * size
   pub low : at + length new < 2 ^ 62
 

@@ -7,13 +7,13 @@ ghost use mathlib.Core.Bool.{true};
 ghost use lib.ListN.{length};
 ghost use Rattle.definition.specs.Field.{Layout};
 ghost use Rattle.definition.specs.Sheet.{time, repeatsLayout, span};
-ghost use Rattle.span_number.specs.Number.{timeAt, repeatsAt, spanAt};
-ghost use Rattle.item_writer.specs.Written.{Room, Wrote};
+ghost use Rattle.codes.specs.Number.{timeAt, repeatsAt, spanAt};
+ghost use Rattle.item_writer.specs.Written.{RoomFor, Wrote};
 
 // "A time is tag 0 and 12 bits of minutes (0 to 2880), or tag 1, event 2, offset 16 two's complement."
 pub fn put_time(out: &mut [u8], at: usize, number: u64) -> usize
     requires { ⌜ time .fits (timeAt number) ≡ true ⌝ }
-    requires { ⌜ Room (length (now out)) at (time .write (timeAt number)) ⌝ }
+    requires { ⌜ RoomFor (length (now out)) at (time .write (timeAt number)) ⌝ }
     ensures { λ r. ⌜ Wrote (now (out .entry)) at (time .write (timeAt number)) (now (out .exit)) r ⌝ }
 {
     if number < 262144 {
@@ -35,7 +35,7 @@ pub fn put_time(out: &mut [u8], at: usize, number: u64) -> usize
 // "repeats flag 1 and, if it is set, 12 bits of minutes": 0 for none, else one more than the minutes.
 fn put_repeats(out: &mut [u8], at: usize, number: u64) -> usize
     requires { ⌜ repeatsLayout .fits (repeatsAt number) ≡ true ⌝ }
-    requires { ⌜ Room (length (now out)) at (repeatsLayout .write (repeatsAt number)) ⌝ }
+    requires { ⌜ RoomFor (length (now out)) at (repeatsLayout .write (repeatsAt number)) ⌝ }
     ensures { λ r. ⌜ Wrote (now (out .entry)) at (repeatsLayout .write (repeatsAt number)) (now (out .exit)) r ⌝ }
 {
     if number == 0 {
@@ -48,11 +48,11 @@ fn put_repeats(out: &mut [u8], at: usize, number: u64) -> usize
 // "Span: start, end, `open_end` 1, repeats flag 1 and, if it is set, 12 bits of minutes."
 pub fn put_span(out: &mut [u8], at: usize, number: u64) -> usize
     requires { ⌜ span .fits (spanAt number) ≡ true ⌝ }
-    requires { ⌜ Room (length (now out)) at (span .write (spanAt number)) ⌝ }
+    requires { ⌜ RoomFor (length (now out)) at (span .write (spanAt number)) ⌝ }
     ensures { λ r. ⌜ Wrote (now (out .entry)) at (span .write (spanAt number)) (now (out .exit)) r ⌝ }
 {
-    let end_at = put_time(out, at, span_number::start_of(number));
-    let open_end_at = put_time(out, end_at, span_number::end_of(number));
+    let end_at = put_time(out, at, codes::start_of(number));
+    let open_end_at = put_time(out, end_at, codes::end_of(number));
     let repeats_at = put(out, open_end_at, width::FLAG, number / 8192 % 2);
     put_repeats(out, repeats_at, number % 8192)
 }

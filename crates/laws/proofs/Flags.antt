@@ -1,5 +1,4 @@
 -- Laws of flags (`Bool`).
--- Assumes nothing.
 use mathlib.Core.Path.{_≡_, refl, sym}
 use mathlib.Core.Bool.{Bool, true, false, _&&_, _||_, cond, true≢false, false≢true}
 use lib.Dec.{eqb}

@@ -1,5 +1,4 @@
 -- Laws of the numbers from one on. Rests on the lists' laws.
--- Assumes nothing.
 use mathlib.Core.Path.{_≡_, refl, ap, ap₂, _∙_}
 use mathlib.Core.List.{_∷_, _++_, map}
 use mathlib.Core.Bool.{Bool, true, false}

@@ -1,6 +1,5 @@
 -- Laws of `flatMap`: where a test or an answer is constant on what each element is replaced by, and how it goes over lists behind each other.
 -- Rests on the lists' laws.
--- Assumes nothing.
 use mathlib.Core.Path.{_≡_, refl, sym, ap, ap₂, _∙_}
 use mathlib.Core.List.{List, [], _∷_, _++_, map, flatMap, append-nil, append-assoc}
 use mathlib.Core.Option.{Option, none, some, Option·map}

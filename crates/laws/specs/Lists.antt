@@ -1,5 +1,4 @@
 -- Lists: the words that the definitions and their laws share. No word of the domain stands here.
--- Assumes nothing.
 use mathlib.Core.List.{List, [], _∷_}
 use mathlib.Core.Option.{Option, none, some}
 use mathlib.Core.Bool.{Bool, true, false, _&&_, _||_, cond}

@@ -1,5 +1,4 @@
 -- Tests of equality that compute, for lists, pairs, options and flags.
--- Assumes nothing.
 use mathlib.Core.Path.{_≡_}
 use mathlib.Core.List.{List, [], _∷_}
 use mathlib.Core.Option.{Option, none, some}

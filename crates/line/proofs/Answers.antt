@@ -1,5 +1,4 @@
 -- What is measured and written, and the definition's answer.
--- Assumes nothing.
 use mathlib.Core.Path.{_≡_, sym, ap, _∙_, subst}
 use mathlib.Core.List.{List}
 use mathlib.Core.Option.{none, Option·some-ne-none}

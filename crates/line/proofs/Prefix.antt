@@ -1,5 +1,4 @@
 -- The line and the first rule without words, one rule more at a time. Rests on the definition alone, and on where rules begin.
--- Assumes nothing.
 use mathlib.Core.Path.{_≡_, refl, sym, ap, _∙_}
 use mathlib.Core.List.{List, [], _∷_, _++_, map, flatMap, map-append, append-nil, append-assoc}
 use mathlib.Core.Option.{Option, none, some, Option·map, Option·some-ne-none}
@@ -17,7 +16,7 @@ use Rattle.definition.specs.Point.{isNormal}
 use Rattle.definition.specs.Text.{Text, isNone}
 use Rattle.definition.specs.Line.{before, ruleText, lineOf}
 use Rattle.definition.specs.Show.{firstIndex, wordless, firstWordless}
-use Rattle.sheet.specs.Begin.{ruleAt}
+use Rattle.sheet.specs.Begin.{ruleReadAt}
 use Rattle.sheet.specs.Rules.{rulesAt}
 use Rattle.rule_text.specs.Rule.{shownText, lacksWords}
 
@@ -90,19 +89,19 @@ wordless-stays (x ∷ xs) ys k e = go (isNormal (x .operator)) refl
 
 -- ## The rules at their beginnings
 module _ (s begins : List ℕ) where
-  pub rules-next : (n : ℕ) → rulesAt s begins n ++ (ruleAt s (getD begins n 0) ∷ []) ≡ rulesAt s begins (suc n)
+  pub rules-next : (n : ℕ) → rulesAt s begins n ++ (ruleReadAt s (getD begins n 0) ∷ []) ≡ rulesAt s begins (suc n)
   unfolding rulesAt from
   rules-next n =
       let z : n + 1 ≡ suc n = omega arith in
-      sym (map-append (λ k. ruleAt s (getD begins k 0)) (from 0 n) (n ∷ [])) ∙ ap (map (λ k. ruleAt s (getD begins k 0)))
+      sym (map-append (λ k. ruleReadAt s (getD begins k 0)) (from 0 n) (n ∷ [])) ∙ ap (map (λ k. ruleReadAt s (getD begins k 0)))
       (from-append 0 n 1 n (omega arith) ∙ ap (from 0) z)
 
   -- so many rules, and those behind them
-  pub rules-rest : (n k : ℕ) → k ≤ n → rulesAt s begins k ++ map (λ j. ruleAt s (getD begins j 0)) (from k (n - k)) ≡ rulesAt s begins n
+  pub rules-rest : (n k : ℕ) → k ≤ n → rulesAt s begins k ++ map (λ j. ruleReadAt s (getD begins j 0)) (from k (n - k)) ≡ rulesAt s begins n
   unfolding rulesAt
   rules-rest n k l =
       let z : k + (n - k) ≡ n = omega arith in
-      sym (map-append (λ j. ruleAt s (getD begins j 0)) (from 0 k) (from k (n - k))) ∙ ap (map (λ j. ruleAt s (getD begins j 0)))
+      sym (map-append (λ j. ruleReadAt s (getD begins j 0)) (from 0 k) (from k (n - k))) ∙ ap (map (λ j. ruleReadAt s (getD begins j 0)))
       (from-append 0 k (n - k) k (omega arith) ∙ ap (from 0) z)
 
   pub rules-none : (n : ℕ) → isNone (rulesAt s begins n) ≡ eqb n 0

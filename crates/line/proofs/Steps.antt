@@ -1,5 +1,4 @@
 -- The walk over the rules: what is put so far is the line of the rules so far, all of them have words, and it is short.
--- Assumes nothing.
 use mathlib.Core.Path.{_≡_, refl, sym, ap, ap₂, _∙_}
 use mathlib.Core.List.{List, _++_}
 use mathlib.Core.Option.{none, some}
@@ -19,7 +18,7 @@ use Rattle.definition.specs.Show.{firstIndex, firstWordless}
 use Rattle.definition.proofs.Bits.{Bytes}
 use Rattle.definition.proofs.SheetRead.{carried, rule-faithful}
 use Rattle.lines.proofs.Short.{rule-text-short, before-short}
-use Rattle.sheet.specs.Begin.{ruleAt, Readable}
+use Rattle.sheet.specs.Begin.{ruleReadAt, Readable}
 use Rattle.sheet.specs.Rules.{rulesAt}
 use Rattle.sheet.proofs.Begins.{rules-many}
 use Rattle.text.specs.Put.{Put}
@@ -51,13 +50,13 @@ shown-short first r h = omega (arith, length-append (startText first (r .operato
     start false = before-short (r .operator)
 
 pub next-short : (sheet : List ℕ) → Bytes sheet → (p : ℕ) → Readable (sheetBits sheet) p → (first : Bool)
-    → length (shownText first (ruleAt (sheetBits sheet) p)) ≤ 2048
+    → length (shownText first (ruleReadAt (sheetBits sheet) p)) ≤ 2048
 next-short sheet bytes p readable first =
-    shown-short first _ (rule-text-short (ruleAt (sheetBits sheet) p) (carried (rule-faithful form1 limits1) sheet bytes p _ (readable .end) (readable .read)))
+    shown-short first _ (rule-text-short (ruleReadAt (sheetBits sheet) p) (carried (rule-faithful form1 limits1) sheet bytes p _ (readable .end) (readable .read)))
 
 module _ {s begins l : List ℕ} {i to : ℕ} {m : List ℕ} (walked : Walked s begins l i to m) where
   abbrev next : Rule
-  next = ruleAt s (getD begins i 0)
+  next = ruleReadAt s (getD begins i 0)
 
   -- the line of one rule more, and the first of one rule more that has no words
   line-next : lineOf (rulesAt s begins i) ++ shownText (eqb i 0) next ≡ lineOf (rulesAt s begins (suc i))

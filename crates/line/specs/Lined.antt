@@ -1,5 +1,4 @@
 -- What is answered of n rules at their noted beginnings, and what the buffer then holds.
--- Assumes nothing.
 use mathlib.Core.Path.{_≡_}
 use mathlib.Core.List.{List}
 use mathlib.Core.Option.{none, some}

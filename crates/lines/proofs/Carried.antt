@@ -1,5 +1,4 @@
 -- What a rule that a sheet carries keeps to, beside the bounds of its days: its steps, its times, its comment and its counts. Rests on the layouts' tests.
--- Assumes nothing.
 use mathlib.Core.Path.{_≡_}
 use mathlib.Core.List.{List, [], _∷_, _++_}
 use mathlib.Core.Bool.{Bool, true, _&&_, false≢true}

@@ -1,5 +1,4 @@
 -- WHAT IS SHOWN HAS WORDS: rules that a sheet carries, where none is refused by 10, are a line. Rests on what a sheet's rules keep to.
--- Assumes nothing.
 use mathlib.Core.Path.{_≡_, refl, ap, subst}
 use mathlib.Core.List.{List}
 use mathlib.Core.Option.{none, Option·some-ne-none}

@@ -1,5 +1,4 @@
 -- Which elements of a list pass a test: none, and the first that does. Rests on the lists' laws.
--- Assumes nothing.
 use mathlib.Core.Path.{_≡_, refl, sym, ap}
 use mathlib.Core.List.{List, [], _∷_}
 use mathlib.Core.Option.{Option, none, some, Option·map, Option·some-ne-none}

@@ -1,5 +1,4 @@
 -- NOTHING BUT PRINTABLE ASCII IS WRITTEN, of values that have words. One law for each way to make a text, so that the line's law reads like the line.
--- Assumes nothing.
 use mathlib.Core.Path.{_≡_, refl}
 use mathlib.Core.List.{List, [], _∷_, map}
 use mathlib.Core.Bool.{Bool, true, false, _&&_, cond, not}

@@ -1,6 +1,5 @@
 -- HOW LONG A TEXT IS: a rule that a sheet carries takes no more than 1,024 bytes of a line, also where it has no words. Rests on what a sheet's rule
 -- keeps to, and on numbers having few digits.
--- Assumes nothing.
 use mathlib.Core.Path.{_≡_, refl}
 use mathlib.Core.List.{List, [], _∷_, _++_, map, flatMap}
 use mathlib.Core.Bool.{Bool, true, false, cond}

@@ -1,5 +1,4 @@
 -- Two boxes' lists compared, number by number, their counts first; and a search that found one. Rests on parts of a buffer.
--- Assumes nothing.
 use mathlib.Core.Path.{_≡_, refl, sym, ap, ap₂, _∙_}
 use mathlib.Core.List.{List, [], _∷_, map}
 use mathlib.Core.Bool.{Bool, true, false, _&&_}
@@ -13,6 +12,7 @@ use Rattle.laws.specs.Tests.{sameList}
 use Rattle.laws.proofs.Tests.{exact-eqb, exact-list}
 use Rattle.words.specs.Words.{part}
 use Rattle.words.proofs.Sets.{part-step, part-none}
+use Rattle.memory.specs.Rows.{boxAt}
 use Rattle.tables.specs.Sizes.{listPlaces}
 use Rattle.tables.specs.Lists.{listOf}
 
@@ -57,11 +57,11 @@ unfolding part from
 part-map s at k zero = refl
 part-map s at k (suc n) = ap (getD s (at + k) 0 ∷_) (part-map s at (suc k) n ∙ ap (λ j. part s j n) (let z : at + suc k ≡ at + k + 1 = omega arith in z))
 
-pub list-part : (lists : List ℕ) (node : ℕ) → listOf lists node ≡ part lists (node * listPlaces + 1) (getD lists (node * listPlaces) 0)
+pub list-part : (lists : List ℕ) (box : ℕ) → listOf lists box ≡ part lists (box * listPlaces + 1) (getD lists (box * listPlaces) 0)
 unfolding listOf
-list-part lists node =
-    part-map lists (node * listPlaces + 1) 0 (getD lists (node * listPlaces) 0)
-    ∙ ap (λ j. part lists j (getD lists (node * listPlaces) 0)) (let z : node * listPlaces + 1 + 0 ≡ node * listPlaces + 1 = omega arith in z)
+list-part lists box =
+    part-map lists (box * listPlaces + 1) 0 (getD lists (box * listPlaces) 0)
+    ∙ ap (λ j. part lists j (getD lists (box * listPlaces) 0)) (let z : box * listPlaces + 1 + 0 ≡ box * listPlaces + 1 = omega arith in z)
 
 first : List ℕ → ℕ
 first [] = 0
@@ -82,15 +82,16 @@ same-list lists a b numbers n h = list-part lists a ∙ ap (part lists (a * list
         ∙ ap (part lists (b * listPlaces)) n
 
 -- ## A search for a list that found one
-module _ (known : List ℕ) (node next many other : ℕ) (before : (r : ℕ) → r < many → getD known r 0 < node) (l : next < many) (e : other ≡ getD known next 0) where
-  pub known-low : other < node
-  known-low = let b : getD known next 0 < node = before next l in omega (arith, b)
+module _ (memory : List ℕ) (box row known other : ℕ) (before : (r : ℕ) → r < known → boxAt memory r < box) (l : row < known) (e : other ≡ boxAt memory row) where
+  pub known-low : other < box
+  known-low = let b : boxAt memory row < box = before row l in omega (arith, b)
 
   -- its numbers are there where those of the later box are
-  pub known-room : (lists : List ℕ) (numbers : ℕ) → node * listPlaces + listPlaces ≤ length lists → numbers ≤ listPlaces
-      → (other * listPlaces + numbers ≤ length lists) × (node * listPlaces + numbers ≤ length lists)
+  pub known-room : (lists : List ℕ) (numbers : ℕ) → box * listPlaces + listPlaces ≤ length lists → numbers ≤ listPlaces
+      → (other * listPlaces + numbers ≤ length lists) × (box * listPlaces + numbers ≤ length lists)
   known-room lists numbers room fits = (omega (arith, known-low), omega arith)
 
-  pub list-found : (lists : List ℕ) (numbers : ℕ) → numbers ≡ suc (getD lists (node * listPlaces) 0)
-      → true ≡ sameList eqb (part lists (other * listPlaces) numbers) (part lists (node * listPlaces) numbers) → (other < node) × (listOf lists other ≡ listOf lists node)
-  list-found lists numbers n h = (known-low, same-list lists other node numbers n h)
+  pub list-found : (lists : List ℕ) (numbers : ℕ) → numbers ≡ suc (getD lists (box * listPlaces) 0)
+      → true ≡ sameList eqb (part lists (other * listPlaces) numbers) (part lists (box * listPlaces) numbers)
+      → (other < box) × (listOf lists other ≡ listOf lists box)
+  list-found lists numbers n h = (known-low, same-list lists other box numbers n h)

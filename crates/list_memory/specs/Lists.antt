@@ -1,5 +1,4 @@
 -- What is asked of a box's list, and what a search for it answers.
--- Assumes nothing.
 use mathlib.Core.Path.{_≡_}
 use mathlib.Core.List.{List}
 use Prim.Native.Nat.{ℕ, _+_, _*_, _≤_, _<_}
@@ -10,10 +9,10 @@ use Rattle.memory.specs.declared.Found.{Found}
 use Rattle.memory.specs.declared.Found.the-variants.{At, Nothing}
 
 -- a box whose list is there and within the limit
-abbrev pub Listed : List ℕ → ℕ → Type 0
-Listed lists node = (node * listPlaces + listPlaces ≤ length lists) × (getD lists (node * listPlaces) 0 ≤ listLimit)
+abbrev pub HasList : List ℕ → ℕ → Type 0
+HasList lists box = (box * listPlaces + listPlaces ≤ length lists) × (getD lists (box * listPlaces) 0 ≤ listLimit)
 
 -- a box before it that has the same list
 abbrev pub SameList : List ℕ → ℕ → Found → Type 0
-SameList lists node (At box) = (box < node) × (listOf lists box ≡ listOf lists node)
-SameList lists node Nothing = Unit {0}
+SameList lists box (At other) = (other < box) × (listOf lists other ≡ listOf lists box)
+SameList lists box Nothing = Unit {0}

@@ -1,4 +1,7 @@
-// The lists that were met: a box's list is looked for among the boxes that are known. Lists are compared, hints first.
+// A box's list is looked for among the lists met before: where the hash is the same, the lists are compared.
+use casts::u16_to_u64;
+use casts::u16_to_usize;
+use casts::u64_to_u16;
 use memory::Found;
 use memory::next_place;
 ghost use mathlib.Core.Path.{_≡_};
@@ -7,10 +10,9 @@ ghost use lib.Dec.{eqb};
 ghost use lib.ListN.{length, getD};
 ghost use Rattle.laws.specs.Tests.{sameList};
 ghost use Rattle.words.specs.Words.{part};
+ghost use Rattle.memory.specs.Rows.{memoryPlaces, boxAt};
 ghost use Rattle.tables.specs.Sizes.{listPlaces};
-ghost use Rattle.list_memory.specs.Lists.{Listed, SameList};
-
-const LIST_PLACES: usize = 33;
+ghost use Rattle.list_memory.specs.Lists.{HasList, SameList};
 
 // Whether so many numbers from two places on are equal.
 fn same_numbers(lists: &[u16], a: usize, b: usize, count: usize) -> bool
@@ -28,55 +30,53 @@ fn same_numbers(lists: &[u16], a: usize, b: usize, count: usize) -> bool
 }
 
 // How many numbers a box's list is, with its count.
-fn list_numbers(lists: &[u16], node: usize) -> usize
-    requires { ⌜ Listed (now lists) node ⌝ }
-    ensures { λ r. ⌜ (r ≡ suc (getD (now (lists .entry)) (node * listPlaces) 0)) × (r ≤ listPlaces) ⌝ }
+fn list_numbers(lists: &[u16], box_index: usize) -> usize
+    requires { ⌜ HasList (now lists) «box_index» ⌝ }
+    ensures { λ r. ⌜ (r ≡ suc (getD (now (lists .entry)) («box_index» * listPlaces) 0)) × (r ≤ listPlaces) ⌝ }
 {
-    paving::wide(lists[node * LIST_PLACES]) + 1
-}
-
-fn long(x: u16) -> u64
-    ensures { λ r. ⌜ (r ≡ x) × (r < 65536) ⌝ }
-{
-    x as u64
+    u16_to_usize(lists[box_index * tables::LIST_PLACES]) + 1
 }
 
 // A number that equal lists share. It only spares comparisons: a list that it hid would be folded once more. So nothing is promised of it.
-pub fn list_hint(lists: &[u16], node: usize) -> u64
-    requires { ⌜ Listed (now lists) node ⌝ }
+pub fn list_hash(lists: &[u16], box_index: usize) -> u16
+    requires { ⌜ HasList (now lists) «box_index» ⌝ }
 {
-    let at = node * LIST_PLACES;
-    let numbers = list_numbers(lists, node);
-    let mut hint: u64 = 0;
+    let at = box_index * tables::LIST_PLACES;
+    let numbers = list_numbers(lists, box_index);
+    let mut hash: u64 = 0;
     let mut i: usize = 0;
     while i < numbers {
-        hint = hint % 281474976710656 * 65521 + long(lists[at + i]);
+        hash = (hash * 40503 + u16_to_u64(lists[at + i])) % 65536;
         i += 1;
     }
-    hint
+    u64_to_u16(hash)
 }
 
-// The first of so many known boxes that has the list of a box.
+// Looks for a box's list among so many rows: answers the box of a row that has the same list, or that there is none.
 pub fn find_list(
     lists: &[u16],
-    known: &[u16],
-    hints: &[u64],
-    node: usize,
-    hint: u64,
-    many: usize,
+    memory: &[u16],
+    box_index: usize,
+    list_hash: u16,
+    known_count: usize,
 ) -> Found
-    requires { ⌜ (many ≤ length (now known)) × (many ≤ length (now hints)) × ((r : ℕ) → r < many → getD (now known) r 0 < node) ⌝ }
-    requires { ⌜ Listed (now lists) node ⌝ }
-    ensures { λ r. ⌜ SameList (now (lists .entry)) node r ⌝ }
+    requires { ⌜ («known_count» * memoryPlaces ≤ length (now memory)) × ((r : ℕ) → r < «known_count» → boxAt (now memory) r < «box_index») ⌝ }
+    requires { ⌜ HasList (now lists) «box_index» ⌝ }
+    ensures { λ r. ⌜ SameList (now (lists .entry)) «box_index» r ⌝ }
 {
-    let numbers = list_numbers(lists, node);
-    let mut next = next_place(hints, hint, many, 0);
-    while next < many {
-        let other = paving::wide(known[next]);
-        if same_numbers(lists, other * LIST_PLACES, node * LIST_PLACES, numbers) {
+    let numbers = list_numbers(lists, box_index);
+    let mut row = next_place(memory, memory::LIST_HASH, list_hash, known_count, 0);
+    while row < known_count {
+        let other = u16_to_usize(memory[row * memory::MEMORY_PLACES]);
+        if same_numbers(
+            lists,
+            other * tables::LIST_PLACES,
+            box_index * tables::LIST_PLACES,
+            numbers,
+        ) {
             return Found::At(other);
         }
-        next = next_place(hints, hint, many, next + 1);
+        row = next_place(memory, memory::LIST_HASH, list_hash, known_count, row + 1);
     }
     Found::Nothing
 }

@@ -2,7 +2,7 @@
 use answers::Answer;
 use answers::lookup_refused;
 use calendar::Dated;
-use drawing::draw_rules;
+use draw_rules::draw_rules;
 use prepare::prepare;
 use state_at::Moment;
 use state_at::answer::numbers_of;

@@ -14,7 +14,7 @@ use Rattle.definition.specs.Box.{boxCount}
 use Rattle.definition.specs.Fold as definition
 use Rattle.definition.specs.Fold.{over, drain, numbers, refusal, buffer, fold}
 use Rattle.answers.specs.declared.Folded.{Folded}
-use Rattle.emission.specs.Emission.{emission}
+use Rattle.fold_write.specs.Emission.{emission}
 use Rattle.answers.specs.Numbers.{foldNumbers}
 use Rattle.normalize.specs.Folds.{Folds}
 use Rattle.definition.proofs.Drained.{drain-many, drain-long, drain-fine}

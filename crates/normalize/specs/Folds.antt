@@ -12,7 +12,7 @@ use Rattle.answers.specs.declared.Folded.{Folded}
 use Rattle.answers.specs.Numbers.{foldNumbers}
 use Rattle.sheet.specs.Parts.{SheetRead, Leaving}
 use Rattle.prepare.specs.Prepared.{ToDraw}
-use Rattle.emission.specs.declared.Left.{Left}
+use Rattle.fold_write.specs.declared.Left.{Left}
 
 -- the rules of a sheet, so many, up to a bit
 abbrev pub Readings : List ℕ → List ℕ → ℕ → ℕ → Type 0

@@ -3,10 +3,10 @@
 // most, since the language lends no struct of slices.
 use answers::Folded;
 use answers::fold_refused;
-use drawing::draw_rules;
-use emission::Left;
-use emission::emit;
-use folding::fold_pages;
+use draw_rules::draw_rules;
+use fold_pages::fold_pages;
+use fold_write::Left;
+use fold_write::emit;
 ghost use mathlib.Core.List.{List};
 ghost use Prim.Native.Nat.{_*_, _≤_};
 ghost use lib.ListN.{length};

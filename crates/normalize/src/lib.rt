@@ -5,7 +5,7 @@ pub mod boxes;
 use answers::Folded;
 use answers::fold_refused;
 use boxes::fold_boxes;
-use emission::Left;
+use fold_write::Left;
 use prepare::prepare;
 ghost use mathlib.Core.Path.{_≡_};
 ghost use mathlib.Core.Bool.{cond};

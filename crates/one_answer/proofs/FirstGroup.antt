@@ -1,5 +1,4 @@
 -- A PROGRAM THAT EMITS THE FIRST GROUP ONLY IS SHUT OUT by P2, whose first group has one rule and whose fold has two.
--- Assumes nothing.
 use mathlib.Core.Path.{_≡_, refl, sym, ap, _∙_}
 use mathlib.Core.List.{List, flatMap}
 use mathlib.Core.Bool.{true}

@@ -1,5 +1,4 @@
 -- A PROGRAM THAT INVENTS A NUMBER IS SHUT OUT: by the fold's promise an answer's numbers are counts, for every sheet.
--- Assumes nothing.
 use mathlib.Core.Path.{_≡_, sym, ap, _∙_}
 use mathlib.Core.List.{List}
 use Prim.Native.Nat.{ℕ}

@@ -1,5 +1,4 @@
 -- NO SECOND ANSWER FITS: two answers, with what the lent slices hold after them, that both meet an entry's promise are equal.
--- Assumes nothing.
 use mathlib.Core.Path.{_≡_, refl, sym, ap, ap₂, _∙_}
 use mathlib.Core.Bool.{Bool}
 use mathlib.Core.List.{List}

@@ -1,6 +1,5 @@
 -- THE PROMISES ARE THE CONTRACTS: what a caller learns of an entry, of its result and of the slices at its exit, is the claim of specs/Promise.
 -- So the theorems on those claims are about the very contracts.
--- Assumes nothing.
 use mathlib.Core.Bool.{Bool}
 use contract.Lifetimes.{Lfts}
 use denote.Ref.{now}

@@ -1,5 +1,4 @@
 -- THE PROGRAMS THAT ARE SHUT OUT: none of them keeps the fold's promise, by P1 and P2 of the worked days.
--- Assumes nothing.
 use mathlib.Core.Path.{_≡_, sym, ap, _∙_}
 use mathlib.Core.List.{List}
 use Prim.Native.Nat.{ℕ}

@@ -1,6 +1,5 @@
 -- What the entry points promise: claims about what comes back and what the lent slices then hold, for a sheet and the slices as they were
 -- lent. They are the contracts of the crate hours, in their words.
--- Assumes nothing.
 use mathlib.Core.Path.{_≡_}
 use mathlib.Core.Bool.{Bool}
 use mathlib.Core.List.{List}

@@ -1,6 +1,5 @@
 -- 01, "How firm the promises are": "Programs to be shut out". A program is run with one buffer of 65,536 bytes, on any sheet; it is held
 -- to the fold's promise at the worked days only, so the less a program has to keep, the more is shut out.
--- Assumes nothing.
 use mathlib.Core.Path.{_≡_}
 use mathlib.Core.List.{List, _++_, flatMap}
 use Prim.Native.Nat.{ℕ, _≤_}

@@ -1,80 +1,131 @@
--- Pages measured and written on the way: what is done, and the pages from here on, are all of them. Rests on one page more.
--- Assumes nothing.
+-- Pages measured and written on the way: what is done, and the pages from here on, are all of them. Rests on one page more. And the scratch
+-- of a day, which keeps its lengths.
 use mathlib.Core.Path.{_≡_, refl, sym, ap, _∙_}
 use mathlib.Core.List.{List, [], _++_, append-nil, append-assoc}
 use Prim.Native.Nat.{ℕ, _+_, _-_, _*_, _≤_, _<_, _^_}
 use native.Mathlib.Omega.{arith}
 use lib.ListN.{length}
 use Rattle.definition.specs.Rule.{Rule}
-use Rattle.item_writer.specs.Written.{Room, Wrote}
+use Rattle.item_writer.specs.Written.{RoomFor, Wrote}
 use Rattle.item_writer.proofs.Chain.{wrote-then, room-first, room-rest, room-as, wrote-as, wrote-none}
 use Rattle.day_writer.specs.Rules.{rulesBits}
-use Rattle.tables.specs.Pages.{pageSize, pageAt, pagesAt, pageRules, pagesRules}
-use Rattle.page_writer.proofs.Reading.{none-bits, none-size, more-bits, more-size}
+use Rattle.box_day.specs.Boxes.{Scratch}
+use Rattle.tables.specs.Days.{boxWords}
+use Rattle.tables.specs.Sizes.{dayRoom}
+use Rattle.tables.specs.Pages.{pageSize, pageAt, pagesAt, pageRules, pagesRules, PageReady, Pages}
+use Rattle.page_writer.proofs.Reading.{cutOut, cut-page, none-bits, none-size, more-bits, more-size, pages-first, pages-later}
 
-module _ (W : ℕ → List ℕ) (text : List ℕ) (rest at : ℕ) where
+-- ## The scratch of a day
+pub record Sized (ws bs cs ds es fs : List ℕ) : Type 0 where
+  pub words : dayRoom ≡ length ws
+  pub states : 512 ≡ length bs
+  pub codes : 512 ≡ length cs
+  pub strokes : 1026 ≡ length ds
+  pub cuts : 1026 ≡ length es
+  pub intervals : 1026 ≡ length fs
+
+pub sized-scratch : {ws bs cs ds es fs : List ℕ} → Sized ws bs cs ds es fs → Scratch (length bs) (length cs) (length ds) (length es) (length fs)
+sized-scratch s = record {
+  spans = (omega (arith, s .states), omega (arith, s .codes));
+  ends = (omega (arith, s .strokes), omega (arith, s .cuts), omega (arith, s .intervals));
+}
+
+-- ## What is done so far
+module _ (states counts spans lists pages : List ℕ) (count : ℕ) where
   abbrev rulesFrom : ℕ → ℕ → List Rule
-  rulesFrom n place = pagesRules W (pagesAt n text place)
+  rulesFrom n place = pagesRules (boxWords states counts spans lists) (pagesAt n pages place)
 
-  -- ## Measuring
   -- so many rules and bits so far, and so many pages left from here on
   pub record Measured (left here rules bits : ℕ) : Type 0 where
-    pub ruled : length (rulesFrom rest at) ≡ rules + length (rulesFrom left here)
-    pub sized : length (rulesBits (rulesFrom rest at)) ≡ bits + length (rulesBits (rulesFrom left here))
-    pub few : rules + 4096 * left ≤ 4096 * rest
-    pub short : bits + 2 ^ 29 * left ≤ 2 ^ 29 * rest
+    pub ready : Pages states counts spans lists pages dayRoom left here
+    pub ruled : length (rulesFrom count 0) ≡ rules + length (rulesFrom left here)
+    pub sized : length (rulesBits (rulesFrom count 0)) ≡ bits + length (rulesBits (rulesFrom left here))
+    pub few : rules + 4096 * left ≤ 4096 * count
+    pub short : bits + 2 ^ 29 * left ≤ 2 ^ 29 * count
 
-  pub measured-none : Measured rest at 0 0
-  measured-none = record { ruled = omega arith; sized = omega arith; few = omega arith; short = omega arith }
-
-  pub measured-all : (left here rules bits : ℕ) → left ≡ 0 → Measured left here rules bits
-      → (length (rulesFrom rest at) ≡ rules) × (length (rulesBits (rulesFrom rest at)) ≡ bits) × (rules ≤ 4096 * rest) × (bits ≤ 2 ^ 29 * rest)
-  measured-all left here rules bits e m =
-      let none = none-size W text here left e in
-      (omega (arith, m .ruled, none .0), omega (arith, m .sized, none .1), omega (arith, m .few), omega (arith, m .short))
-
-  -- ## Writing
   -- some bits are written, which with those of so many pages left from here on are all; for these there is room
   pub record Writing (old : List ℕ) (place left here : ℕ) (out : List ℕ) (next : ℕ) : Type 0 where
+    pub ready : Pages states counts spans lists pages dayRoom left here
     pub done : List ℕ
     pub wrote : Wrote old place done out next
-    pub whole : rulesBits (rulesFrom rest at) ≡ done ++ rulesBits (rulesFrom left here)
-    pub roomy : Room (length out) next (rulesBits (rulesFrom left here))
+    pub whole : rulesBits (rulesFrom count 0) ≡ done ++ rulesBits (rulesFrom left here)
+    pub roomy : RoomFor (length out) next (rulesBits (rulesFrom left here))
 
-  module _ (old : List ℕ) (place : ℕ) where
-    pub writing-none : Room (length old) place (rulesBits (rulesFrom rest at)) → Writing old place rest at old place
-    writing-none room = record { done = []; wrote = wrote-none refl; whole = refl; roomy = room }
+  -- at the beginning
+  pub measured-none : Pages states counts spans lists pages dayRoom count 0 → Measured count 0 0 0
+  measured-none ready = record { ready = ready; ruled = omega arith; sized = omega arith; few = omega arith; short = omega arith }
 
-    pub writing-all : (left here : ℕ) (out : List ℕ) (next : ℕ) → left ≡ 0 → Writing old place left here out next → Wrote old place (rulesBits (rulesFrom rest at)) out next
-    writing-all left here out next e w = wrote-as (w .whole ∙ ap (w .done ++_) (none-bits W text here left e) ∙ append-nil (w .done)) (w .wrote)
+  pub writing-none : Pages states counts spans lists pages dayRoom count 0 → (old : List ℕ) (place : ℕ) → RoomFor (length old) place (rulesBits (rulesFrom count 0))
+      → Writing old place count 0 old place
+  writing-none ready old place room = record { ready = ready; done = []; wrote = wrote-none refl; whole = refl; roomy = room }
 
-  -- ## One page more
-  module _ (left here : ℕ) (some : 0 < left) (size : ℕ) (sized : size ≡ pageSize text here) where
-    abbrev pageBits : List ℕ
-    pageBits = rulesBits (pageRules W (pageAt text here))
+-- ## Measuring
+module _ {states counts spans lists pages : List ℕ} {count left here rules bits : ℕ} (m : Measured states counts spans lists pages count left here rules bits) where
+  abbrev W : ℕ → List ℕ
+  W = boxWords states counts spans lists
 
-    pub measured-more : (rules bits r b : ℕ) → length (pageRules W (pageAt text here)) ≡ r → length pageBits ≡ b → r ≤ 4096 → b ≤ 2 ^ 29
-        → Measured left here rules bits → Measured (left - 1) (here + size) (rules + r) (bits + b)
-    measured-more rules bits r b p q u v m =
-        let more = more-size W text here left some size sized r (length (rulesFrom (left - 1) (here + size))) b (length (rulesBits (rulesFrom (left - 1) (here + size)))) p refl q refl in
-        record {
-          ruled = omega (arith, m .ruled, more .0);
-          sized = omega (arith, m .sized, more .1);
-          few = omega (arith, m .few, u);
-          short = omega (arith, m .short, v);
-        }
+  abbrev from : ℕ → ℕ → List Rule
+  from = rulesFrom states counts spans lists pages count
 
-    module _ (old : List ℕ) (place : ℕ) (out : List ℕ) (next : ℕ) (writing : Writing old place left here out next) where
-      room-more : Room (length out) next (pageBits ++ rulesBits (rulesFrom (left - 1) (here + size)))
-      room-more = room-as (more-bits W text here left some size sized) (writing .roomy)
+  pub measured-all : left ≡ 0
+      → (length (from count 0) ≡ rules) × (length (rulesBits (from count 0)) ≡ bits) × (rules ≤ 4096 * count) × (bits ≤ 2 ^ 29 * count)
+  measured-all e =
+      let none = none-size W pages here left e in
+      (omega (arith, m .ruled, none .0), omega (arith, m .sized, none .1), omega (arith, m .few), omega (arith, m .short))
 
-      pub page-room : Room (length out) next pageBits
-      page-room = room-first pageBits (rulesBits (rulesFrom (left - 1) (here + size))) room-more
+  pub measured-page : 0 < left → PageReady states counts spans lists pages dayRoom here
+  measured-page some = pages-first states counts spans lists pages dayRoom left here some (m .ready)
 
-      pub writing-more : (out′ : List ℕ) (next′ : ℕ) → Wrote out next pageBits out′ next′ → Writing old place (left - 1) (here + size) out′ next′
-      writing-more out′ next′ w = record {
-        done = writing .done ++ pageBits;
-        wrote = wrote-then (writing .wrote) w;
-        whole = writing .whole ∙ ap (writing .done ++_) (more-bits W text here left some size sized) ∙ sym (append-assoc (writing .done) pageBits (rulesBits (rulesFrom (left - 1) (here + size))));
-        roomy = room-rest w (rulesBits (rulesFrom (left - 1) (here + size))) room-more;
+  -- one page more
+  pub measured-more : (some : 0 < left) {size : ℕ} (sized : size ≡ pageSize pages here) → {r b : ℕ} → length (pageRules W (pageAt (cutOut pages here size) 0)) ≡ r
+      → length (rulesBits (pageRules W (pageAt (cutOut pages here size) 0))) ≡ b → r ≤ 4096 → b ≤ 2 ^ 29
+      → Measured states counts spans lists pages count (left - 1) (here + size) (rules + r) (bits + b)
+  measured-more some {size} sized {r} {b} p q u v =
+      let read = cut-page pages here size sized (omega (arith, sized, measured-page some .inside)) in
+      let later = from (left - 1) (here + size) in
+      let more = more-size W pages here left some size sized _ read r (length later) b (length (rulesBits later)) p refl q refl in
+      record {
+        ready = pages-later states counts spans lists pages dayRoom left here size some sized (m .ready);
+        ruled = omega (arith, m .ruled, more .0);
+        sized = omega (arith, m .sized, more .1);
+        few = omega (arith, m .few, u);
+        short = omega (arith, m .short, v);
       }
+
+-- ## Writing
+module _ {states counts spans lists pages : List ℕ} {count : ℕ} {old : List ℕ} {place left here : ℕ} {out : List ℕ} {next : ℕ}
+    (w : Writing states counts spans lists pages count old place left here out next) where
+  abbrev X : ℕ → List ℕ
+  X = boxWords states counts spans lists
+
+  abbrev behind : ℕ → ℕ → List ℕ
+  behind n at = rulesBits (rulesFrom states counts spans lists pages count n at)
+
+  pub writing-all : left ≡ 0 → Wrote old place (behind count 0) out next
+  writing-all e = wrote-as (w .whole ∙ ap (w .done ++_) (none-bits X pages here left e) ∙ append-nil (w .done)) (w .wrote)
+
+  pub writing-page : 0 < left → PageReady states counts spans lists pages dayRoom here
+  writing-page some = pages-first states counts spans lists pages dayRoom left here some (w .ready)
+
+  -- one page more
+  module _ (some : 0 < left) {size : ℕ} (sized : size ≡ pageSize pages here) where
+    abbrev pageBits : List ℕ
+    pageBits = rulesBits (pageRules X (pageAt (cutOut pages here size) 0))
+
+    abbrev later : List ℕ
+    later = behind (left - 1) (here + size)
+
+    more : behind left here ≡ pageBits ++ later
+    more = more-bits X pages here left some size sized _ (cut-page pages here size sized (omega (arith, sized, writing-page some .inside)))
+
+    pub page-room : RoomFor (length out) next pageBits
+    page-room = room-first pageBits later (room-as more (w .roomy))
+
+    pub writing-more : {out′ : List ℕ} {next′ : ℕ} → Wrote out next pageBits out′ next′ → Writing states counts spans lists pages count old place (left - 1) (here + size) out′ next′
+    writing-more v = record {
+      ready = pages-later states counts spans lists pages dayRoom left here size some sized (w .ready);
+      done = w .done ++ pageBits;
+      wrote = wrote-then (w .wrote) v;
+      whole = w .whole ∙ ap (w .done ++_) more ∙ sym (append-assoc (w .done) pageBits later);
+      roomy = room-rest v later (room-as more (w .roomy));
+    }

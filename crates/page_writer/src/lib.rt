@@ -1,104 +1,109 @@
-// Pages measured and written: group after group, the group's day over the group's items. A page is a row of numbers: the day's number,
+// Pages measured and written, one after the other: a page's day over the page's items. A page is a row of numbers: the day's number,
 // four counts of items by sorts, and the items' ends; pages stand one behind the other. A day's number is one more than a box that has it:
-// the box's day is folded again where its rules are due. The buffers from `words` to `painted` are scratch.
+// the box's day is folded again where its rules are due. The buffers from `words` to `interval_states` are scratch.
+// `write_page` has thirteen parameters, since the language lends no struct of slices: the scratch of a day is six of them, and the rules'
+// times are three.
 use box_day::fold_box;
+use casts::u16_to_usize;
 use day_writer::Measure;
 use day_writer::measure_day;
 use day_writer::write_day;
-use paving::wide;
 use tables::page::page_size;
 ghost use mathlib.Core.Path.{_≡_};
-ghost use Prim.Native.Nat.{_+_, _*_, _≤_, _<_, _^_};
+ghost use Prim.Native.Nat.{_*_, _≤_, _<_, _^_};
 ghost use lib.ListN.{length};
-ghost use Rattle.item_writer.specs.Written.{Room, Wrote};
+ghost use Rattle.item_writer.specs.Written.{RoomFor, Wrote};
 ghost use Rattle.day_writer.specs.Rules.{rulesBits};
 ghost use Rattle.box_day.specs.Boxes.{Scratch};
 ghost use Rattle.tables.specs.Days.{boxWords};
-ghost use Rattle.tables.specs.Pages.{pageSize, pageAt, pagesAt, pageRules, pagesRules, PageReady, Pages};
+ghost use Rattle.tables.specs.Sizes.{dayRoom};
+ghost use Rattle.tables.specs.Pages.{pageSize, pageAt, pageRules, pagedRules, PageReady, Pages};
 
 // How many rules a page is, and how many bits they take.
 fn measure_page(
     words: &mut [u64],
-    stated: &mut [u32],
-    spanned: &mut [u64],
+    span_states: &mut [u32],
+    span_codes: &mut [u64],
     strokes: &mut [u64],
-    cuts: &mut [u64],
-    painted: &mut [u64],
+    minute_cuts: &mut [u64],
+    interval_states: &mut [u64],
     states: &[u32],
-    counts: &[u8],
+    span_counts: &[u8],
     spans: &[u64],
     lists: &[u16],
-    text: &[u16],
-    at: usize,
+    page: &[u16],
 ) -> Measure
-    requires { ⌜ PageReady (now states) (now counts) (now spans) (now lists) (now text) (length (now words)) at ⌝ }
-    requires { ⌜ Scratch (length (now stated)) (length (now spanned)) (length (now strokes)) (length (now cuts)) (length (now painted)) ⌝ }
-    ensures { λ r. ⌜ (length (pageRules (boxWords (now (states .entry)) (now (counts .entry)) (now (spans .entry)) (now (lists .entry))) (pageAt (now (text .entry)) at)) ≡ r .rules)
-        × (length (rulesBits (pageRules (boxWords (now (states .entry)) (now (counts .entry)) (now (spans .entry)) (now (lists .entry))) (pageAt (now (text .entry)) at))) ≡ r .bits)
+    requires { ⌜ PageReady (now states) (now «span_counts») (now spans) (now lists) (now page) (length (now words)) 0 ⌝ }
+    requires { ⌜ Scratch (length (now «span_states»)) (length (now «span_codes»)) (length (now strokes)) (length (now «minute_cuts»))
+        (length (now «interval_states»)) ⌝ }
+    ensures { λ r. ⌜ (length (pageRules (boxWords (now (states .entry)) (now («span_counts» .entry)) (now (spans .entry)) (now (lists .entry)))
+        (pageAt (now (page .entry)) 0)) ≡ r .rules)
+        × (length (rulesBits (pageRules (boxWords (now (states .entry)) (now («span_counts» .entry)) (now (spans .entry)) (now (lists .entry)))
+        (pageAt (now (page .entry)) 0))) ≡ r .bits)
         × (r .rules ≤ 4096) × (r .bits ≤ 2 ^ 29) ⌝ }
 {
     let count = fold_box(
         words,
-        stated,
-        spanned,
+        span_states,
+        span_codes,
         strokes,
-        cuts,
-        painted,
+        minute_cuts,
+        interval_states,
         states,
-        counts,
+        span_counts,
         spans,
         lists,
-        wide(text[at]) - 1,
+        u16_to_usize(page[0]) - 1,
     );
-    measure_day(words, count, &text[at + 1..at + 5])
+    measure_day(words, count, &page[1..5])
 }
 
-// How many rules so many pages from a place on are, and how many bits they take.
+// How many rules so many pages from the front on are, and how many bits they take.
 pub fn measure_pages(
-    words: &mut [u64],
-    stated: &mut [u32],
-    spanned: &mut [u64],
-    strokes: &mut [u64],
-    cuts: &mut [u64],
-    painted: &mut [u64],
     states: &[u32],
-    counts: &[u8],
+    span_counts: &[u8],
     spans: &[u64],
     lists: &[u16],
-    text: &[u16],
-    at: usize,
-    rest: usize,
+    pages: &[u16],
+    count: usize,
 ) -> Measure
-    requires { ⌜ Pages (now states) (now counts) (now spans) (now lists) (now text) (length (now words)) rest at ⌝ }
-    requires { ⌜ Scratch (length (now stated)) (length (now spanned)) (length (now strokes)) (length (now cuts)) (length (now painted)) ⌝ }
-    requires { ⌜ rest < 2 ^ 32 ⌝ }
-    ensures { λ r. ⌜ (length (pagesRules (boxWords (now (states .entry)) (now (counts .entry)) (now (spans .entry)) (now (lists .entry))) (pagesAt rest (now (text .entry)) at)) ≡ r .rules)
-        × (length (rulesBits (pagesRules (boxWords (now (states .entry)) (now (counts .entry)) (now (spans .entry)) (now (lists .entry))) (pagesAt rest (now (text .entry)) at))) ≡ r .bits)
-        × (r .rules ≤ 4096 * rest) × (r .bits ≤ 2 ^ 29 * rest) ⌝ }
+    requires { ⌜ Pages (now states) (now «span_counts») (now spans) (now lists) (now pages) dayRoom count 0 ⌝ }
+    requires { ⌜ count < 2 ^ 32 ⌝ }
+    ensures { λ r. ⌜ (length (pagedRules (now (states .entry)) (now («span_counts» .entry)) (now (spans .entry)) (now (lists .entry))
+        (now (pages .entry)) count) ≡ r .rules)
+        × (length (rulesBits (pagedRules (now (states .entry)) (now («span_counts» .entry)) (now (spans .entry)) (now (lists .entry))
+        (now (pages .entry)) count)) ≡ r .bits)
+        × (r .rules ≤ 4096 * count) × (r .bits ≤ 2 ^ 29 * count) ⌝ }
 {
-    let mut here = at;
-    let mut left = rest;
+    let mut words = buffers::words();
+    let mut span_states = buffers::states();
+    let mut span_codes = buffers::spans();
+    let mut strokes = buffers::ends();
+    let mut minute_cuts = buffers::ends();
+    let mut interval_states = buffers::ends();
+    let mut here: usize = 0;
+    let mut pages_left = count;
     let mut rules: usize = 0;
     let mut bits: usize = 0;
-    while left > 0 {
+    while pages_left > 0 {
+        let size = page_size(pages, here);
         let page = measure_page(
-            words,
-            stated,
-            spanned,
-            strokes,
-            cuts,
-            painted,
+            &mut words,
+            &mut span_states,
+            &mut span_codes,
+            &mut strokes,
+            &mut minute_cuts,
+            &mut interval_states,
             states,
-            counts,
+            span_counts,
             spans,
             lists,
-            text,
-            here,
+            &pages[here..here + size],
         );
         rules += page.rules;
         bits += page.bits;
-        here += page_size(text, here);
-        left -= 1;
+        here += size;
+        pages_left -= 1;
     }
     Measure {
         rules: rules,
@@ -111,94 +116,89 @@ fn write_page(
     out: &mut [u8],
     place: usize,
     words: &mut [u64],
-    stated: &mut [u32],
-    spanned: &mut [u64],
+    span_states: &mut [u32],
+    span_codes: &mut [u64],
     strokes: &mut [u64],
-    cuts: &mut [u64],
-    painted: &mut [u64],
+    minute_cuts: &mut [u64],
+    interval_states: &mut [u64],
     states: &[u32],
-    counts: &[u8],
+    span_counts: &[u8],
     spans: &[u64],
     lists: &[u16],
-    text: &[u16],
-    at: usize,
-    size: usize,
+    page: &[u16],
 ) -> usize
-    requires { ⌜ PageReady (now states) (now counts) (now spans) (now lists) (now text) (length (now words)) at × (size ≡ pageSize (now text) at) ⌝ }
-    requires { ⌜ Scratch (length (now stated)) (length (now spanned)) (length (now strokes)) (length (now cuts)) (length (now painted)) ⌝ }
-    requires { ⌜ Room (length (now out)) place (rulesBits (pageRules (boxWords (now states) (now counts) (now spans) (now lists)) (pageAt (now text) at))) ⌝ }
-    ensures { λ r. ⌜ Wrote (now (out .entry)) place (rulesBits (pageRules (boxWords (now (states .entry)) (now (counts .entry)) (now (spans .entry)) (now (lists .entry))) (pageAt (now (text .entry)) at))) (now (out .exit)) r ⌝ }
+    requires { ⌜ PageReady (now states) (now «span_counts») (now spans) (now lists) (now page) (length (now words)) 0
+        × (length (now page) ≡ pageSize (now page) 0) ⌝ }
+    requires { ⌜ Scratch (length (now «span_states»)) (length (now «span_codes»)) (length (now strokes)) (length (now «minute_cuts»))
+        (length (now «interval_states»)) ⌝ }
+    requires { ⌜ RoomFor (length (now out)) place
+        (rulesBits (pageRules (boxWords (now states) (now «span_counts») (now spans) (now lists)) (pageAt (now page) 0))) ⌝ }
+    ensures { λ r. ⌜ Wrote (now (out .entry)) place
+        (rulesBits (pageRules (boxWords (now (states .entry)) (now («span_counts» .entry)) (now (spans .entry)) (now (lists .entry)))
+        (pageAt (now (page .entry)) 0))) (now (out .exit)) r ⌝ }
 {
     let count = fold_box(
         words,
-        stated,
-        spanned,
+        span_states,
+        span_codes,
         strokes,
-        cuts,
-        painted,
+        minute_cuts,
+        interval_states,
         states,
-        counts,
+        span_counts,
         spans,
         lists,
-        wide(text[at]) - 1,
+        u16_to_usize(page[0]) - 1,
     );
-    write_day(
-        out,
-        place,
-        words,
-        count,
-        &text[at + 5..at + size],
-        &text[at + 1..at + 5],
-    )
+    write_day(out, place, words, count, &page[5..], &page[1..5])
 }
 
-// The rules of so many pages from a place on; answers the place after them.
+// The rules of so many pages from the front on; answers the place after them.
 pub fn write_pages(
     out: &mut [u8],
     place: usize,
-    words: &mut [u64],
-    stated: &mut [u32],
-    spanned: &mut [u64],
-    strokes: &mut [u64],
-    cuts: &mut [u64],
-    painted: &mut [u64],
     states: &[u32],
-    counts: &[u8],
+    span_counts: &[u8],
     spans: &[u64],
     lists: &[u16],
-    text: &[u16],
-    at: usize,
-    rest: usize,
+    pages: &[u16],
+    count: usize,
 ) -> usize
-    requires { ⌜ Pages (now states) (now counts) (now spans) (now lists) (now text) (length (now words)) rest at ⌝ }
-    requires { ⌜ Scratch (length (now stated)) (length (now spanned)) (length (now strokes)) (length (now cuts)) (length (now painted)) ⌝ }
-    requires { ⌜ Room (length (now out)) place (rulesBits (pagesRules (boxWords (now states) (now counts) (now spans) (now lists)) (pagesAt rest (now text) at))) ⌝ }
-    ensures { λ r. ⌜ Wrote (now (out .entry)) place (rulesBits (pagesRules (boxWords (now (states .entry)) (now (counts .entry)) (now (spans .entry)) (now (lists .entry))) (pagesAt rest (now (text .entry)) at))) (now (out .exit)) r ⌝ }
+    requires { ⌜ Pages (now states) (now «span_counts») (now spans) (now lists) (now pages) dayRoom count 0 ⌝ }
+    requires { ⌜ RoomFor (length (now out)) place
+        (rulesBits (pagedRules (now states) (now «span_counts») (now spans) (now lists) (now pages) count)) ⌝ }
+    ensures { λ r. ⌜ Wrote (now (out .entry)) place
+        (rulesBits (pagedRules (now (states .entry)) (now («span_counts» .entry)) (now (spans .entry)) (now (lists .entry))
+        (now (pages .entry)) count)) (now (out .exit)) r ⌝ }
 {
-    let mut here = at;
-    let mut left = rest;
+    let mut words = buffers::words();
+    let mut span_states = buffers::states();
+    let mut span_codes = buffers::spans();
+    let mut strokes = buffers::ends();
+    let mut minute_cuts = buffers::ends();
+    let mut interval_states = buffers::ends();
+    let mut here: usize = 0;
+    let mut pages_left = count;
     let mut next = place;
-    while left > 0 {
-        let size = page_size(text, here);
+    while pages_left > 0 {
+        let size = page_size(pages, here);
         next = write_page(
             out,
             next,
-            words,
-            stated,
-            spanned,
-            strokes,
-            cuts,
-            painted,
+            &mut words,
+            &mut span_states,
+            &mut span_codes,
+            &mut strokes,
+            &mut minute_cuts,
+            &mut interval_states,
             states,
-            counts,
+            span_counts,
             spans,
             lists,
-            text,
-            here,
-            size,
+            &pages[here..here + size],
         );
         here += size;
-        left -= 1;
+        pages_left -= 1;
     }
     next
 }

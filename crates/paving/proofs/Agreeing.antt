@@ -1,5 +1,4 @@
--- What each return of the check shows, in plain terms. Rests on the columns' laws.
--- Assumes nothing.
+-- One lemma for each return of the check, in plain terms. Rests on the columns' laws.
 use mathlib.Core.Path.{_≡_, sym, ap, _∙_}
 use mathlib.Core.Bool.{Bool, true, false, _&&_}
 use mathlib.Core.List.{List}

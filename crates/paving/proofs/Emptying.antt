@@ -1,5 +1,4 @@
--- What each return of the reset shows, in plain terms. Rests on the columns' laws.
--- Assumes nothing.
+-- One lemma for each return of the reset, in plain terms. Rests on the columns' laws.
 use mathlib.Core.Path.{_≡_, refl, sym, ap, ap₂, _∙_, fun-ext}
 use mathlib.Core.Bool.{Bool, true, false, _&&_, _||_, cond}
 use mathlib.Core.List.{List, [], _∷_}

@@ -8,4 +8,4 @@ pub mod Rows
 pub mod Skipping
 pub mod Sweeping
 pub mod Points
-pub mod DayKinds
+pub mod DayClasses

@@ -1,5 +1,4 @@
 -- Marks: what painting a dimension leaves, and what growing paints. Rests on the columns' laws.
--- Assumes nothing.
 use mathlib.Core.Path.{_≡_, refl, sym, ap, ap₂, _∙_}
 use mathlib.Core.Bool.{Bool, true, false, cond}
 use mathlib.Core.List.{List, _∷_}

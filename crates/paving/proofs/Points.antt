@@ -1,5 +1,4 @@
 -- FROM THE CODE'S NUMBERS TO POINTS AND DAYS: one use of the compression law.
--- Assumes nothing.
 use mathlib.Core.Path.{_≡_, refl, sym, ap, ap₂, _∙_, subst}
 use mathlib.Core.Bool.{Bool, true, false, cond}
 use mathlib.Core.List.{List, [], _∷_, map}
@@ -81,27 +80,27 @@ grid-values P cells sizes z h (suc l) node (x ∷ p) = go (ltb x (getD sizes l 0
 
 -- tests of days, one for each class from k on, that say of a day what the table says of its number
 abbrev pub Classed : {X : Type 0} → (ℕ → X) → (ℕ → Type 0) → List ℕ → ℕ → List (X → Bool) → Type 0
-Classed day P kinds k [] = Unit {0}
-Classed day P kinds k (u ∷ us) = ((v : ℕ) → P v → u (day v) ≡ inClass kinds k v) × Classed day P kinds (suc k) us
+Classed day P classes k [] = Unit {0}
+Classed day P classes k (u ∷ us) = ((v : ℕ) → P v → u (day v) ≡ inClass classes k v) × Classed day P classes (suc k) us
 
 -- THE CODE'S GROUPS ARE THE POINTS' GROUPS. A day for each number, one to one where P says that it is in use; in each dimension rising
 -- cuts; tests of days as the table has them; at each cell the number of the day of all its points.
 pub groups-points : {X : Type 0} (day : ℕ → X) (P : ℕ → Type 0) (sameDay : X → X → Bool) → ((u v : ℕ) → P u → P v → sameDay (day u) (day v) ≡ eqb u v)
-    → (noDay : X) → day 0 ≡ noDay → P 0 → (cuts : ℕ → ℕ → ℕ) (cells kinds sizes : List ℕ) (last k l : ℕ) → Rising cuts sizes l → getD kinds 0 0 ≡ 0
-    → (tests : List (X → Bool)) → k + length tests ≡ suc last → Classed day P kinds k tests
+    → (noDay : X) → day 0 ≡ noDay → P 0 → (cuts : ℕ → ℕ → ℕ) (cells classes sizes : List ℕ) (last k l : ℕ) → Rising cuts sizes l → getD classes 0 0 ≡ 0
+    → (tests : List (X → Bool)) → k + length tests ≡ suc last → Classed day P classes k tests
     → (g : Map ℕ X) → ((j : ℕ) → P (getD cells j 0)) → Shows day cuts cells sizes l 0 g
-    → map (image day (blocks cuts l)) (groupsFrom cells kinds sizes last k l) ≡ groups sameDay eqb noDay tests (coordinatesOf cuts sizes l) g
+    → map (image day (blocks cuts l)) (groupsFrom cells classes sizes last k l) ≡ groups sameDay eqb noDay tests (coordinatesOf cuts sizes l) g
 unfolding groupsFrom classesFrom from
-groups-points {X} day P sameDay keeps noDay z p0 cuts cells kinds sizes last k l up none tests e oks g w h =
+groups-points {X} day P sameDay keeps noDay z p0 cuts cells classes sizes last k l up none tests e oks g w h =
     let n : suc last - k ≡ length tests = omega arith in
-    ap (λ m. map (image day (blocks cuts l)) (groups eqb eqb 0 (map (inClass kinds) (from k m)) (axes sizes l) (grid cells sizes l 0))) n
+    ap (λ m. map (image day (blocks cuts l)) (groups eqb eqb 0 (map (inClass classes) (from k m)) (axes sizes l) (grid cells sizes l 0))) n
     ∙ groups-image day P eqb sameDay keeps eqb eqb 0 noDay z p0 (blocks cuts l) (fills cuts sizes l) (axes sizes l) (aparts cuts sizes l up) exact-eqb exact-eqb
-    (map (inClass kinds) (from k (length tests))) tests (pairs k tests oks) (grid cells sizes l 0) g (grid-values P cells sizes p0 w l 0)
+    (map (inClass classes) (from k (length tests))) tests (pairs k tests oks) (grid cells sizes l 0) g (grid-values P cells sizes p0 w l 0)
     (shows-constants day cuts cells sizes l 0 g up h)
     ∙ ap (λ D. groups sameDay eqb noDay tests D g) (points cuts sizes l up)
   where
-    pairs : (k : ℕ) (us : List (X → Bool)) → Classed day P kinds k us
+    pairs : (k : ℕ) (us : List (X → Bool)) → Classed day P classes k us
         → Tests day P eqb sameDay keeps eqb eqb 0 noDay z p0 (blocks cuts l) (fills cuts sizes l) (axes sizes l) (aparts cuts sizes l up)
-        (map (inClass kinds) (from k (length us))) us
+        (map (inClass classes) (from k (length us))) us
     pairs k [] c = tt
-    pairs k (u ∷ us) c = (c .0, empty-unmatched kinds k none, pairs (suc k) us (c .1))
+    pairs k (u ∷ us) c = (c .0, empty-unmatched classes k none, pairs (suc k) us (c .1))

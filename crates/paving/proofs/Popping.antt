@@ -1,5 +1,4 @@
--- What each return of the pop shows, in plain terms. Rests on the marks' laws.
--- Assumes nothing.
+-- One lemma for each return of the pop, in plain terms. Rests on the marks' laws.
 use mathlib.Core.Path.{_≡_, refl, sym, ap, ap₂, _∙_}
 use mathlib.Core.Bool.{Bool, true, false, cond}
 use mathlib.Core.List.{List, [], _∷_}
@@ -84,51 +83,51 @@ first-step : (h : ℕ → Option (Group ℕ ℕ)) (x : ℕ) (xs : List ℕ) (o :
 unfolding firstOf
 first-step h x xs o e = rw (e, firstOf)
 
-pub popped-pop : (cells kinds sizes : List ℕ) (k l node base : ℕ) (s s′ : List ℕ) (f : Popped) → base + widthOf sizes l ≤ length s
-    → f ≡ answer (popAt cells kinds sizes k l node) → s′ ≡ marked sizes l base (popAt cells kinds sizes k l node) s
-    → popped f (chosen s′ sizes l base) ≡ popAt cells kinds sizes k l node
+pub popped-pop : (cells classes sizes : List ℕ) (k l node base : ℕ) (s s′ : List ℕ) (f : Popped) → base + widthOf sizes l ≤ length s
+    → f ≡ answer (popAt cells classes sizes k l node) → s′ ≡ marked sizes l base (popAt cells classes sizes k l node) s
+    → popped f (chosen s′ sizes l base) ≡ popAt cells classes sizes k l node
 unfolding popAt
-popped-pop cells kinds sizes k l node base s s′ f =
-    popped-of sizes s s′ l base (popAt cells kinds sizes k l node) f (pop-part eqb (inClass kinds k) (axes sizes l) (grid cells sizes l node))
+popped-pop cells classes sizes k l node base s s′ f =
+    popped-of sizes s s′ l base (popAt cells classes sizes k l node) f (pop-part eqb (inClass classes k) (axes sizes l) (grid cells sizes l node))
 
-module _ (cells kinds sizes : List ℕ) (k : ℕ) where
-  pub pop-leaf-yes : (marks : List ℕ) (left node base : ℕ) (b : Bool) → left ≡ 0 → b ≡ inClass kinds k (getD cells node 0) → b ≡ true
-      → (Value (getD cells node 0) ≡ answer (popAt cells kinds sizes k left node))
-      × (marks ≡ marked sizes left base (popAt cells kinds sizes k left node) marks)
+module _ (cells classes sizes : List ℕ) (k : ℕ) where
+  pub pop-leaf-yes : (marks : List ℕ) (left node base : ℕ) (b : Bool) → left ≡ 0 → b ≡ inClass classes k (getD cells node 0) → b ≡ true
+      → (Value (getD cells node 0) ≡ answer (popAt cells classes sizes k left node))
+      × (marks ≡ marked sizes left base (popAt cells classes sizes k left node) marks)
   unfolding popAt pop axes grid answer marked markSet
   pop-leaf-yes marks left node base b e h q = rw (e, sym h ∙ q, pop) (refl, refl)
 
-  pub pop-leaf-no : (marks : List ℕ) (left node base : ℕ) (b : Bool) → left ≡ 0 → b ≡ inClass kinds k (getD cells node 0) → b ≡ false
-      → (Nothing ≡ answer (popAt cells kinds sizes k left node))
-      × (marks ≡ marked sizes left base (popAt cells kinds sizes k left node) marks)
+  pub pop-leaf-no : (marks : List ℕ) (left node base : ℕ) (b : Bool) → left ≡ 0 → b ≡ inClass classes k (getD cells node 0) → b ≡ false
+      → (Nothing ≡ answer (popAt cells classes sizes k left node))
+      × (marks ≡ marked sizes left base (popAt cells classes sizes k left node) marks)
   unfolding popAt pop axes grid answer marked
   pop-leaf-no marks left node base b e h q = rw (e, sym h ∙ q, pop) (refl, refl)
 
   module _ (i node : ℕ) where
-    pub pop-unfold : popAt cells kinds sizes k (suc i) node
-        ≡ grow eqb (from 0 (getD sizes i 0)) (grid cells sizes (suc i) node) (popFrom cells sizes i node (inClass kinds k) 0)
+    pub pop-unfold : popAt cells classes sizes k (suc i) node
+        ≡ grow eqb (from 0 (getD sizes i 0)) (grid cells sizes (suc i) node) (popFrom cells sizes i node (inClass classes k) 0)
     unfolding popAt pop axes popFrom
     pop-unfold =
         let z : getD sizes i 0 ≡ getD sizes i 0 - 0 = omega arith in
         ap
         (λ m.
         grow eqb (from 0 (getD sizes i 0)) (grid cells sizes (suc i) node)
-        (firstOf (λ x. pop eqb (inClass kinds k) (axes sizes i) (at (grid cells sizes (suc i) node) x)) (from 0 m))) z
+        (firstOf (λ x. pop eqb (inClass classes k) (axes sizes i) (at (grid cells sizes (suc i) node) x)) (from 0 m))) z
 
-    popFrom-part : OnSome (λ g. Part (axes sizes i) (g .1)) (popFrom cells sizes i node (inClass kinds k) 0)
+    popFrom-part : OnSome (λ g. Part (axes sizes i) (g .1)) (popFrom cells sizes i node (inClass classes k) 0)
     unfolding popFrom
     popFrom-part =
-        OnSome-firstOf (λ g. Part (axes sizes i) (g .1)) (λ x. pop eqb (inClass kinds k) (axes sizes i) (at (grid cells sizes (suc i) node) x))
-        (λ x. pop-part eqb (inClass kinds k) (axes sizes i) (at (grid cells sizes (suc i) node) x)) (from 0 (getD sizes i 0 - 0))
+        OnSome-firstOf (λ g. Part (axes sizes i) (g .1)) (λ x. pop eqb (inClass classes k) (axes sizes i) (at (grid cells sizes (suc i) node) x))
+        (λ x. pop-part eqb (inClass classes k) (axes sizes i) (at (grid cells sizes (suc i) node) x)) (from 0 (getD sizes i 0 - 0))
 
   module _ (left i node base n : ℕ) (el : left ≡ suc i) (e : n ≡ getD sizes i 0) (f : Popped) (s s₁ : List ℕ)
-      (h : f ≡ answer (popFrom cells sizes i node (inClass kinds k) 0))
-      (m : s₁ ≡ marked sizes i (base + n) (popFrom cells sizes i node (inClass kinds k) 0) s) where
+      (h : f ≡ answer (popFrom cells sizes i node (inClass classes k) 0))
+      (m : s₁ ≡ marked sizes i (base + n) (popFrom cells sizes i node (inClass classes k) 0) s) where
     pub pop-node-none : f ≡ Nothing
-        → (Nothing ≡ answer (popAt cells kinds sizes k left node))
-        × (s₁ ≡ marked sizes left base (popAt cells kinds sizes k left node) s)
+        → (Nothing ≡ answer (popAt cells classes sizes k left node))
+        × (s₁ ≡ marked sizes left base (popAt cells classes sizes k left node) s)
     unfolding answer marked grow
-    pop-node-none q = rw (el, pop-unfold i node) (go (popFrom cells sizes i node (inClass kinds k) 0) h m)
+    pop-node-none q = rw (el, pop-unfold i node) (go (popFrom cells sizes i node (inClass classes k) 0) h m)
       where
         go : (o : Option (Group ℕ ℕ)) → f ≡ answer o → s₁ ≡ marked sizes i (base + n) o s
             → (Nothing ≡ answer (grow eqb (from 0 (getD sizes i 0)) (grid cells sizes (suc i) node) o))
@@ -138,10 +137,10 @@ module _ (cells kinds sizes : List ℕ) (k : ℕ) where
 
     pub pop-node-some : (v : ℕ) (s₂ : List ℕ) → f ≡ Value v → base + n + widthOf sizes i ≤ length s
         → s₂ ≡ paint (goodAt cells sizes i node s₁ base v) base 0 n s₁
-        → (Value v ≡ answer (popAt cells kinds sizes k left node))
-        × (s₂ ≡ marked sizes left base (popAt cells kinds sizes k left node) s)
+        → (Value v ≡ answer (popAt cells classes sizes k left node))
+        × (s₂ ≡ marked sizes left base (popAt cells classes sizes k left node) s)
     unfolding answer marked grow markSet goodAt
-    pop-node-some v s₂ q len b = rw (el, pop-unfold i node) (go (popFrom cells sizes i node (inClass kinds k) 0) (popFrom-part i node) h m)
+    pop-node-some v s₂ q len b = rw (el, pop-unfold i node) (go (popFrom cells sizes i node (inClass classes k) 0) (popFrom-part i node) h m)
       where
         go : (o : Option (Group ℕ ℕ)) → OnSome (λ g. Part (axes sizes i) (g .1)) o → f ≡ answer o → s₁ ≡ marked sizes i (base + n) o s
             → (Value v ≡ answer (grow eqb (from 0 (getD sizes i 0)) (grid cells sizes (suc i) node) o))
@@ -162,44 +161,44 @@ module _ (cells kinds sizes : List ℕ) (k : ℕ) where
 
   module _ (i node base n j : ℕ) (e : n ≡ getD sizes i 0) where
     pub pop-columns-end : (s : List ℕ) → n ≤ j
-        → (Nothing ≡ answer (popFrom cells sizes i node (inClass kinds k) j)) ×
-        (s ≡ marked sizes i (base + n) (popFrom cells sizes i node (inClass kinds k) j) s)
+        → (Nothing ≡ answer (popFrom cells sizes i node (inClass classes k) j)) ×
+        (s ≡ marked sizes i (base + n) (popFrom cells sizes i node (inClass classes k) j) s)
     unfolding popFrom firstOf answer marked
     pop-columns-end s h = rw (from-end j (getD sizes i 0) (omega arith)) (refl, refl)
 
-    module _ (f : Popped) (s s₁ : List ℕ) (h : j < n) (a : f ≡ answer (popAt cells kinds sizes k i (node * n + j)))
-        (m : s₁ ≡ marked sizes i (base + n) (popAt cells kinds sizes k i (node * n + j)) s) where
-      step : popFrom cells sizes i node (inClass kinds k) j ≡ elim (popAt cells kinds sizes k i (node * n + j)) [
-        | none ↦ popFrom cells sizes i node (inClass kinds k) (j + 1)
+    module _ (f : Popped) (s s₁ : List ℕ) (h : j < n) (a : f ≡ answer (popAt cells classes sizes k i (node * n + j)))
+        (m : s₁ ≡ marked sizes i (base + n) (popAt cells classes sizes k i (node * n + j)) s) where
+      step : popFrom cells sizes i node (inClass classes k) j ≡ elim (popAt cells classes sizes k i (node * n + j)) [
+        | none ↦ popFrom cells sizes i node (inClass classes k) (j + 1)
         | some g ↦ some g
       ]
       unfolding popFrom popAt
       step =
-          ap (firstOf (λ x. pop eqb (inClass kinds k) (axes sizes i) (at (grid cells sizes (suc i) node) x))) (from-cons j (getD sizes i 0) (omega arith))
-          ∙ first-step (λ x. pop eqb (inClass kinds k) (axes sizes i) (at (grid cells sizes (suc i) node) x)) j (from (j + 1) (getD sizes i 0 - (j + 1)))
-          (popAt cells kinds sizes k i (node * n + j))
-          (ap (pop eqb (inClass kinds k) (axes sizes i)) (at-grid cells sizes i node j (omega arith) ∙ ap (λ m. grid cells sizes i (node * m + j)) (sym e)))
+          ap (firstOf (λ x. pop eqb (inClass classes k) (axes sizes i) (at (grid cells sizes (suc i) node) x))) (from-cons j (getD sizes i 0) (omega arith))
+          ∙ first-step (λ x. pop eqb (inClass classes k) (axes sizes i) (at (grid cells sizes (suc i) node) x)) j (from (j + 1) (getD sizes i 0 - (j + 1)))
+          (popAt cells classes sizes k i (node * n + j))
+          (ap (pop eqb (inClass classes k) (axes sizes i)) (at-grid cells sizes i node j (omega arith) ∙ ap (λ m. grid cells sizes i (node * m + j)) (sym e)))
 
       pub pop-columns-hit : (v : ℕ) → f ≡ Value v
-          → (Value v ≡ answer (popFrom cells sizes i node (inClass kinds k) j)) ×
-          (s₁ ≡ marked sizes i (base + n) (popFrom cells sizes i node (inClass kinds k) j) s)
+          → (Value v ≡ answer (popFrom cells sizes i node (inClass classes k) j)) ×
+          (s₁ ≡ marked sizes i (base + n) (popFrom cells sizes i node (inClass classes k) j) s)
       unfolding answer marked
-      pop-columns-hit v q = rw step (go (popAt cells kinds sizes k i (node * n + j)) a m)
+      pop-columns-hit v q = rw step (go (popAt cells classes sizes k i (node * n + j)) a m)
         where
           go : (o : Option (Group ℕ ℕ)) → f ≡ answer o → s₁ ≡ marked sizes i (base + n) o s
-              → (Value v ≡ answer (elim o [ none ↦ popFrom cells sizes i node (inClass kinds k) (j + 1) | some g ↦ some g ]))
-              × (s₁ ≡ marked sizes i (base + n) (elim o [ none ↦ popFrom cells sizes i node (inClass kinds k) (j + 1) | some g ↦ some g ]) s)
+              → (Value v ≡ answer (elim o [ none ↦ popFrom cells sizes i node (inClass classes k) (j + 1) | some g ↦ some g ]))
+              × (s₁ ≡ marked sizes i (base + n) (elim o [ none ↦ popFrom cells sizes i node (inClass classes k) (j + 1) | some g ↦ some g ]) s)
           go none b c = absurd (let z : _≡_ {A = ℕ} 0 1 = cc in omega arith)
           go (some g) b c = (sym q ∙ b, c)
 
       -- a column without a group: the search goes on as if it had begun behind it
-      pub pop-columns-miss : f ≡ Nothing → (popFrom cells sizes i node (inClass kinds k) (j + 1) ≡ popFrom cells sizes i node (inClass kinds k) j) × (s₁ ≡ s)
+      pub pop-columns-miss : f ≡ Nothing → (popFrom cells sizes i node (inClass classes k) (j + 1) ≡ popFrom cells sizes i node (inClass classes k) j) × (s₁ ≡ s)
       unfolding answer marked
-      pop-columns-miss q = rw step (go (popAt cells kinds sizes k i (node * n + j)) a m)
+      pop-columns-miss q = rw step (go (popAt cells classes sizes k i (node * n + j)) a m)
         where
           go : (o : Option (Group ℕ ℕ)) → f ≡ answer o → s₁ ≡ marked sizes i (base + n) o s
-              → (popFrom cells sizes i node (inClass kinds k) (j + 1)
-              ≡ elim o [ none ↦ popFrom cells sizes i node (inClass kinds k) (j + 1) | some g ↦ some g ])
+              → (popFrom cells sizes i node (inClass classes k) (j + 1)
+              ≡ elim o [ none ↦ popFrom cells sizes i node (inClass classes k) (j + 1) | some g ↦ some g ])
               × (s₁ ≡ s)
           go none b c = (refl, c)
           go (some h) b c = absurd (let z : _≡_ {A = ℕ} 0 1 = cc in omega arith)

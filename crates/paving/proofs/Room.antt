@@ -1,5 +1,4 @@
 -- The columns of a node, one after the other, and the room for a child.
--- Assumes nothing.
 use mathlib.Core.Path.{_≡_, ap, _∙_}
 use mathlib.Core.Bool.{cond}
 use mathlib.Core.List.{List, [], _∷_}

@@ -1,5 +1,4 @@
 -- A node with one dimension left: what the loops over its row of cells show is what the walks over its columns ask. Rests on the walks' laws.
--- Assumes nothing.
 use mathlib.Core.Path.{_≡_, refl, sym, ap, _∙_}
 use mathlib.Core.Bool.{Bool, true, false, _&&_, cond}
 use mathlib.Core.List.{List}
@@ -73,42 +72,42 @@ module _ (cells : List ℕ) (ok : ℕ → Bool) where
     pub first-none : end ≤ at → Nothing ≡ firstCell cells ok first (end - first)
     first-none k = cells-end cells ok at end k ∙ skipped
 
-module _ (cells kinds sizes : List ℕ) (k node base n : ℕ) (e : n ≡ getD sizes 0 0) (s : List ℕ) where
+module _ (cells classes sizes : List ℕ) (k node base n : ℕ) (e : n ≡ getD sizes 0 0) (s : List ℕ) where
   -- the row's cells are the node's columns: a cell has no dimensions left, it is popped by its value alone, and nothing is marked
   cells-columns : (r j : ℕ) → r ≡ n - j
-      → (firstCell cells (inClass kinds k) (node * n + j) r ≡ answer (popFrom cells sizes 0 node (inClass kinds k) j))
-      × (s ≡ marked sizes 0 (base + n) (popFrom cells sizes 0 node (inClass kinds k) j) s)
+      → (firstCell cells (inClass classes k) (node * n + j) r ≡ answer (popFrom cells sizes 0 node (inClass classes k) j))
+      × (s ≡ marked sizes 0 (base + n) (popFrom cells sizes 0 node (inClass classes k) j) s)
   unfolding firstCell
-  cells-columns zero j z = pop-columns-end cells kinds sizes k 0 node base n j e s (omega arith)
-  cells-columns (suc r) j z = go (inClass kinds k (getD cells (node * n + j) 0)) refl (cells-columns r (j + 1) (omega arith))
+  cells-columns zero j z = pop-columns-end cells classes sizes k 0 node base n j e s (omega arith)
+  cells-columns (suc r) j z = go (inClass classes k (getD cells (node * n + j) 0)) refl (cells-columns r (j + 1) (omega arith))
     where
       next : node * n + (j + 1) ≡ node * n + j + 1
       next = omega arith
 
-      go : (b : Bool) → b ≡ inClass kinds k (getD cells (node * n + j) 0)
-          → (firstCell cells (inClass kinds k) (node * n + (j + 1)) r ≡ answer (popFrom cells sizes 0 node (inClass kinds k) (j + 1)))
-          × (s ≡ marked sizes 0 (base + n) (popFrom cells sizes 0 node (inClass kinds k) (j + 1)) s)
-          → (cond b (Value (getD cells (node * n + j) 0)) (firstCell cells (inClass kinds k) (node * n + j + 1) r)
-          ≡ answer (popFrom cells sizes 0 node (inClass kinds k) j))
-          × (s ≡ marked sizes 0 (base + n) (popFrom cells sizes 0 node (inClass kinds k) j) s)
+      go : (b : Bool) → b ≡ inClass classes k (getD cells (node * n + j) 0)
+          → (firstCell cells (inClass classes k) (node * n + (j + 1)) r ≡ answer (popFrom cells sizes 0 node (inClass classes k) (j + 1)))
+          × (s ≡ marked sizes 0 (base + n) (popFrom cells sizes 0 node (inClass classes k) (j + 1)) s)
+          → (cond b (Value (getD cells (node * n + j) 0)) (firstCell cells (inClass classes k) (node * n + j + 1) r)
+          ≡ answer (popFrom cells sizes 0 node (inClass classes k) j))
+          × (s ≡ marked sizes 0 (base + n) (popFrom cells sizes 0 node (inClass classes k) j) s)
       go true q ih =
-          let leaf = pop-leaf-yes cells kinds sizes k s 0 (node * n + j) (base + n) true refl q refl in
-          pop-columns-hit cells kinds sizes k 0 node base n j e (Value (getD cells (node * n + j) 0)) s s (omega arith) (leaf .0) (leaf .1)
+          let leaf = pop-leaf-yes cells classes sizes k s 0 (node * n + j) (base + n) true refl q refl in
+          pop-columns-hit cells classes sizes k 0 node base n j e (Value (getD cells (node * n + j) 0)) s s (omega arith) (leaf .0) (leaf .1)
           (getD cells (node * n + j) 0) refl
       go false q ih =
-          let leaf = pop-leaf-no cells kinds sizes k s 0 (node * n + j) (base + n) false refl q refl in
-          let miss = pop-columns-miss cells kinds sizes k 0 node base n j e Nothing s s (omega arith) (leaf .0) (leaf .1) refl in
+          let leaf = pop-leaf-no cells classes sizes k s 0 (node * n + j) (base + n) false refl q refl in
+          let miss = pop-columns-miss cells classes sizes k 0 node base n j e Nothing s s (omega arith) (leaf .0) (leaf .1) refl in
           (rw (← miss .0, ← next) (ih .0), rw (← miss .0) (ih .1))
 
-pub pop-cells : (cells kinds sizes : List ℕ) (k i node base n j : ℕ) (s : List ℕ) (r : Popped) → i ≡ 0 → n ≡ getD sizes i 0
-    → popFrom cells sizes i node (inClass kinds k) j ≡ popFrom cells sizes i node (inClass kinds k) 0
-    → r ≡ firstCell cells (inClass kinds k) (node * n + j) (node * n + n - (node * n + j))
-    → (r ≡ answer (popFrom cells sizes i node (inClass kinds k) 0)) × (s ≡ marked sizes i (base + n) (popFrom cells sizes i node (inClass kinds k) 0) s)
-pop-cells cells kinds sizes k i node base n j s r z e p h =
+pub pop-cells : (cells classes sizes : List ℕ) (k i node base n j : ℕ) (s : List ℕ) (r : Popped) → i ≡ 0 → n ≡ getD sizes i 0
+    → popFrom cells sizes i node (inClass classes k) j ≡ popFrom cells sizes i node (inClass classes k) 0
+    → r ≡ firstCell cells (inClass classes k) (node * n + j) (node * n + n - (node * n + j))
+    → (r ≡ answer (popFrom cells sizes i node (inClass classes k) 0)) × (s ≡ marked sizes i (base + n) (popFrom cells sizes i node (inClass classes k) 0) s)
+pop-cells cells classes sizes k i node base n j s r z e p h =
     let all : node * n + n - (node * n + j) ≡ n - j = omega arith in
-    let w = cells-columns cells kinds sizes k node base n (rw z at e) s (n - j) j refl in
-    found-first sizes i (base + n) (popFrom cells sizes i node (inClass kinds k) j) (popFrom cells sizes i node (inClass kinds k) 0) r s s s p refl
-    (rw z (h ∙ ap (firstCell cells (inClass kinds k) (node * n + j)) all ∙ w .0, w .1))
+    let w = cells-columns cells classes sizes k node base n (rw z at e) s (n - j) j refl in
+    found-first sizes i (base + n) (popFrom cells sizes i node (inClass classes k) j) (popFrom cells sizes i node (inClass classes k) 0) r s s s p refl
+    (rw z (h ∙ ap (firstCell cells (inClass classes k) (node * n + j)) all ∙ w .0, w .1))
 
 -- ## Whether the marked cells agree
 module _ (cells marks : List ℕ) (first base n v j : ℕ) where

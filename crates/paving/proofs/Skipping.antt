@@ -1,5 +1,4 @@
 -- Where the search may begin: sizes of nodes, and columns that lie before a cell before which none is of the class.
--- Assumes nothing.
 use mathlib.Core.Path.{_≡_, refl, sym, ap, _∙_}
 use mathlib.Core.Bool.{Bool, true, false, cond}
 use mathlib.Core.List.{List, [], _∷_}
@@ -48,26 +47,26 @@ columns-before child size first c s r z e l x h =
     let a : (child + x + 1) * size ≤ first / size * size = mul-le-mul-right size (omega arith) in
     rw (← z) (omega (arith, a, div-mul-le-self first size))
 
-module _ (cells kinds sizes : List ℕ) (k : ℕ) where
+module _ (cells classes sizes : List ℕ) (k : ℕ) where
   -- columns without a group are passed
-  passed : (i node c : ℕ) → c ≤ getD sizes i 0 → ((x : ℕ) → x < c → popAt cells kinds sizes k i (node * getD sizes i 0 + x) ≡ none)
-      → popFrom cells sizes i node (inClass kinds k) c ≡ popFrom cells sizes i node (inClass kinds k) 0
+  passed : (i node c : ℕ) → c ≤ getD sizes i 0 → ((x : ℕ) → x < c → popAt cells classes sizes k i (node * getD sizes i 0 + x) ≡ none)
+      → popFrom cells sizes i node (inClass classes k) c ≡ popFrom cells sizes i node (inClass classes k) 0
   unfolding answer marked
   passed i node zero h p = refl
   passed i node (suc c) h p =
       let n = getD sizes i 0 in
       let z : suc c ≡ c + 1 = omega arith in
-      ap (popFrom cells sizes i node (inClass kinds k)) z
-      ∙ pop-columns-miss cells kinds sizes k i node 0 n c refl Nothing [] [] (omega arith) (ap answer (sym (p c (omega arith))))
+      ap (popFrom cells sizes i node (inClass classes k)) z
+      ∙ pop-columns-miss cells classes sizes k i node 0 n c refl Nothing [] [] (omega arith) (ap answer (sym (p c (omega arith))))
       (ap (λ o. marked sizes i (0 + n) o []) (sym (p c (omega arith)))) refl .0
       ∙ passed i node c (omega arith) (λ x l. p x (omega arith))
 
-  module _ (first : ℕ) (a : NoneFrom cells (inClass kinds k) 0 first) where
-    before-none : (l node : ℕ) → (node + 1) * sizeOf sizes l ≤ first → popAt cells kinds sizes k l node ≡ none
+  module _ (first : ℕ) (a : NoneFrom cells (inClass classes k) 0 first) where
+    before-none : (l node : ℕ) → (node + 1) * sizeOf sizes l ≤ first → popAt cells classes sizes k l node ≡ none
     unfolding NoneFrom popAt popFrom pop axes grid sizeOf firstOf grow
     before-none zero node h = rw (a node (omega arith) (omega arith), pop)
     before-none (suc i) node h =
-        pop-unfold cells kinds sizes k i node ∙ ap (grow eqb (from 0 (getD sizes i 0)) (grid cells sizes (suc i) node)) (all (before-none i))
+        pop-unfold cells classes sizes k i node ∙ ap (grow eqb (from 0 (getD sizes i 0)) (grid cells sizes (suc i) node)) (all (before-none i))
       where
         n : ℕ
         n = getD sizes i 0
@@ -77,14 +76,14 @@ module _ (cells kinds sizes : List ℕ) (k : ℕ) where
             let b : (node * n + x + 1) * sizeOf sizes i ≤ (node + 1) * n * sizeOf sizes i = mul-le-mul-right (sizeOf sizes i) (omega arith) in
             omega (arith, b, mul-assoc (node + 1) n (sizeOf sizes i), h)
 
-        ends : popFrom cells sizes i node (inClass kinds k) n ≡ none
+        ends : popFrom cells sizes i node (inClass classes k) n ≡ none
         ends = rw (from-end n n (omega arith))
 
-        all : ((d : ℕ) → (d + 1) * sizeOf sizes i ≤ first → popAt cells kinds sizes k i d ≡ none) → popFrom cells sizes i node (inClass kinds k) 0 ≡ none
+        all : ((d : ℕ) → (d + 1) * sizeOf sizes i ≤ first → popAt cells classes sizes k i d ≡ none) → popFrom cells sizes i node (inClass classes k) 0 ≡ none
         all ih = sym (passed i node n (omega arith) (λ x l. ih (node * n + x) (child x l))) ∙ ends
 
     pub skips : (i node n c : ℕ) → n ≡ getD sizes i 0 → c ≤ n → ((x : ℕ) → x < c → (node * n + x + 1) * sizeOf sizes i ≤ first)
-        → popFrom cells sizes i node (inClass kinds k) c ≡ popFrom cells sizes i node (inClass kinds k) 0
+        → popFrom cells sizes i node (inClass classes k) c ≡ popFrom cells sizes i node (inClass classes k) 0
     skips i node n c e l h = passed i node c (omega arith) (λ x lt. before-none i (node * getD sizes i 0 + x) (rw e at (h x lt)))
 
 -- ## After some cells were emptied

@@ -1,5 +1,4 @@
 -- A grid of any number of dimensions in one flat list: the sizes' last is the first dimension, child j of node c is c * n + j.
--- Definitions: assumes nothing.
 use mathlib.Core.Path.{_≡_}
 use mathlib.Core.Bool.{Bool, false, cond}
 use mathlib.Core.List.{List, [], _∷_}
@@ -52,17 +51,17 @@ unfoldable pub chosen : List ℕ → List ℕ → ℕ → ℕ → Set ℕ
 chosen marks sizes zero base = []
 chosen marks sizes (suc l) base = marksFrom marks base (getD sizes l 0) 0 ∷ chosen marks sizes l (base + getD sizes l 0)
 
--- The test of a class. The kinds of the values stand in a table: 1 all Open, 2 first Open, 3 all Unknown, 4 first Unknown, 5 any other, 0
+-- The test of a class. The classes of the values stand in a table: 1 all Open, 2 first Open, 3 all Unknown, 4 first Unknown, 5 any other, 0
 -- none. First Open takes in all Open, first Unknown all Unknown, any other everything: as the definition's classes do.
-unfoldable pub lowestKind : ℕ → ℕ
-lowestKind k = cond (ltb k 3) 1 (cond (ltb k 5) 3 1)
+unfoldable pub lowestClass : ℕ → ℕ
+lowestClass k = cond (ltb k 3) 1 (cond (ltb k 5) 3 1)
 
 unfoldable pub inClass : List ℕ → ℕ → ℕ → Bool
-inClass kinds k v = cond (ltb (getD kinds v 0) (lowestKind k)) false (leb (getD kinds v 0) k)
+inClass classes k v = cond (ltb (getD classes v 0) (lowestClass k)) false (leb (getD classes v 0) k)
 
 -- the first group of a class below a node
 unfoldable pub popAt : List ℕ → List ℕ → List ℕ → ℕ → ℕ → ℕ → Option (Group ℕ ℕ)
-popAt cells kinds sizes k l node = pop eqb (inClass kinds k) (axes sizes l) (grid cells sizes l node)
+popAt cells classes sizes k l node = pop eqb (inClass classes k) (axes sizes l) (grid cells sizes l node)
 
 -- an answer with the set of the marks
 unfoldable pub popped : Popped → Set ℕ → Option (Group ℕ ℕ)
@@ -133,4 +132,5 @@ Cleared cells after sizes l node S = (d : ℕ) → grid after sizes l d ≡ cond
 abbrev pub ClearedFrom : List ℕ → List ℕ → List ℕ → ℕ → ℕ → List ℕ → ℕ → ℕ → Type 0
 ClearedFrom cells after sizes i node marks base j =
     (d : ℕ) → grid after sizes i d
-    ≡ cond (anyOf (λ x. eqb d (node * getD sizes i 0 + x)) (marksFrom marks base (getD sizes i 0) j)) (clear eqb 0 (chosen marks sizes i (base + getD sizes i 0)) (grid cells sizes i d)) (grid cells sizes i d)
+    ≡ cond (anyOf (λ x. eqb d (node * getD sizes i 0 + x)) (marksFrom marks base (getD sizes i 0) j))
+    (clear eqb 0 (chosen marks sizes i (base + getD sizes i 0)) (grid cells sizes i d)) (grid cells sizes i d)

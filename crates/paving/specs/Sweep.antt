@@ -1,5 +1,4 @@
 -- The loop over the groups of a grid of cells, class after class, and a state that takes in one group after the other.
--- Assumes nothing.
 use mathlib.Core.Path.{_≡_}
 use mathlib.Core.Bool.{Bool}
 use mathlib.Core.List.{List, [], _∷_, map}
@@ -11,15 +10,15 @@ use Rattle.paving.specs.Grid.{axes, grid, inClass, markSet}
 
 -- what one class gives, and what is left of the map
 unfoldable pub swept : List ℕ → List ℕ → List ℕ → ℕ → ℕ → Swept {A = ℕ} eqb eqb 0
-swept cells kinds sizes k l = sweep eqb eqb 0 (inClass kinds k) (axes sizes l) (grid cells sizes l 0)
+swept cells classes sizes k l = sweep eqb eqb 0 (inClass classes k) (axes sizes l) (grid cells sizes l 0)
 
 -- the tests of the classes from k up to the last
 unfoldable pub classesFrom : List ℕ → ℕ → ℕ → List (ℕ → Bool)
-classesFrom kinds last k = map (inClass kinds) (from k (suc last - k))
+classesFrom classes last k = map (inClass classes) (from k (suc last - k))
 
 -- the groups of these classes, one after the other
 unfoldable pub groupsFrom : List ℕ → List ℕ → List ℕ → ℕ → ℕ → ℕ → List (Group ℕ ℕ)
-groupsFrom cells kinds sizes last k l = groups eqb eqb 0 (classesFrom kinds last k) (axes sizes l) (grid cells sizes l 0)
+groupsFrom cells classes sizes last k l = groups eqb eqb 0 (classesFrom classes last k) (axes sizes l) (grid cells sizes l 0)
 
 -- a state after some groups, each taken in by `emit`: whatever writes a group
 unfoldable pub emitted : {S : Type 0} → (S → Group ℕ ℕ → S) → S → List (Group ℕ ℕ) → S
@@ -33,7 +32,7 @@ leftAfter [] Ds f = f
 leftAfter (ok ∷ oks) Ds f = leftAfter oks Ds (sweep eqb eqb 0 ok Ds f .1)
 
 unfoldable pub leftFrom : List ℕ → List ℕ → List ℕ → ℕ → ℕ → ℕ → Map ℕ ℕ
-leftFrom cells kinds sizes last k l = leftAfter (classesFrom kinds last k) (axes sizes l) (grid cells sizes l 0)
+leftFrom cells classes sizes last k l = leftAfter (classesFrom classes last k) (axes sizes l) (grid cells sizes l 0)
 
 -- a group's marks, written over what stood there
 unfoldable pub markGroup : List ℕ → ℕ → List ℕ → Group ℕ ℕ → List ℕ

@@ -1,6 +1,6 @@
 // Whether a product of marked columns holds one value.
 use super::row::check_cells;
-use super::wide;
+use casts::u16_to_usize;
 ghost use mathlib.Core.Path.{_≡_};
 ghost use Prim.Native.Nat.{suc, _<_};
 ghost use lib.ListN.{length, getD};
@@ -8,44 +8,53 @@ ghost use lib.Dec.{eqb};
 ghost use Rattle.grid.specs.Group.{agree};
 ghost use Rattle.paving.specs.Grid.{Room, grid, chosen, agreeFrom};
 
-// Whether every cell of the marked product below a node passes: is the value.
+// Whether every cell of the marked product below a box is the value.
 pub fn check_predicate(
     cells: &[u16],
     sizes: &[u16],
     marks: &[u8],
     value: u16,
-    left: usize,
-    node: usize,
+    dims_left: usize,
+    box_index: usize,
     base: usize,
 ) -> bool
-    requires { ⌜ Room (length (now cells)) (length (now marks)) (now sizes) left node base ⌝ }
-    ensures { λ r. ⌜ r ≡ agree eqb value (chosen (now (marks .entry)) (now (sizes .entry)) left base) (grid (now (cells .entry)) (now (sizes .entry)) left node) ⌝ }
+    requires { ⌜ Room (length (now cells)) (length (now marks)) (now sizes) «dims_left» «box_index» base ⌝ }
+    ensures { λ r. ⌜ r ≡ agree eqb value (chosen (now (marks .entry)) (now (sizes .entry)) «dims_left» base) (grid (now (cells .entry)) (now (sizes .entry)) «dims_left» «box_index») ⌝ }
 {
-    if left == 0 {
-        return cells[node] == value;
+    if dims_left == 0 {
+        return cells[box_index] == value;
     }
-    let dimension = left - 1;
-    let width = wide(sizes[dimension]);
-    check_columns(cells, sizes, marks, value, dimension, node, base, width)
+    let dimension = dims_left - 1;
+    let width = u16_to_usize(sizes[dimension]);
+    check_columns(
+        cells,
+        sizes,
+        marks,
+        value,
+        dimension,
+        box_index,
+        base,
+        width,
+    )
 }
 
-// The same over the marked columns of a node.
+// The same over the marked columns of a box.
 fn check_columns(
     cells: &[u16],
     sizes: &[u16],
     marks: &[u8],
     value: u16,
     dimension: usize,
-    node: usize,
+    box_index: usize,
     base: usize,
     width: usize,
 ) -> bool
-    requires { ⌜ Room (length (now cells)) (length (now marks)) (now sizes) (suc dimension) node base ⌝ }
+    requires { ⌜ Room (length (now cells)) (length (now marks)) (now sizes) (suc dimension) «box_index» base ⌝ }
     requires { ⌜ (width ≡ getD (now sizes) dimension 0) × (width < 65536) ⌝ }
-    ensures { λ r. ⌜ r ≡ agreeFrom (now (cells .entry)) (now (sizes .entry)) dimension node (now (marks .entry)) base value 0 ⌝ }
+    ensures { λ r. ⌜ r ≡ agreeFrom (now (cells .entry)) (now (sizes .entry)) dimension «box_index» (now (marks .entry)) base value 0 ⌝ }
 {
     if dimension == 0 {
-        return check_cells(cells, marks, value, node * width, base, width);
+        return check_cells(cells, marks, value, box_index * width, base, width);
     }
     let mut column = 0;
     while column < width {
@@ -56,7 +65,7 @@ fn check_columns(
                 marks,
                 value,
                 dimension,
-                node * width + column,
+                box_index * width + column,
                 base + width,
             ) {
                 return false;
@@ -73,12 +82,12 @@ pub fn is_val(
     sizes: &[u16],
     marks: &[u8],
     value: u16,
-    left: usize,
-    node: usize,
+    dims_left: usize,
+    box_index: usize,
     base: usize,
 ) -> bool
-    requires { ⌜ Room (length (now cells)) (length (now marks)) (now sizes) left node base ⌝ }
-    ensures { λ r. ⌜ r ≡ agree eqb value (chosen (now (marks .entry)) (now (sizes .entry)) left base) (grid (now (cells .entry)) (now (sizes .entry)) left node) ⌝ }
+    requires { ⌜ Room (length (now cells)) (length (now marks)) (now sizes) «dims_left» «box_index» base ⌝ }
+    ensures { λ r. ⌜ r ≡ agree eqb value (chosen (now (marks .entry)) (now (sizes .entry)) «dims_left» base) (grid (now (cells .entry)) (now (sizes .entry)) «dims_left» «box_index») ⌝ }
 {
-    check_predicate(cells, sizes, marks, value, left, node, base)
+    check_predicate(cells, sizes, marks, value, dims_left, box_index, base)
 }

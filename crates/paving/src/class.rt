@@ -1,20 +1,20 @@
-// The class of a day number, by a table of the days' kinds.
-use super::wide;
+// The class of a day number, by a table that holds each day's first class.
+use casts::u16_to_usize;
 ghost use mathlib.Core.Path.{_≡_};
 ghost use lib.ListN.{getD};
-ghost use Rattle.paving.specs.Grid.{lowestKind, inClass};
+ghost use Rattle.paving.specs.Grid.{lowestClass, inClass};
 
-// The kind of a day number, 0 past the table.
-fn kind_of(kinds: &[u8], value: u16) -> u8
-    ensures { λ r. ⌜ r ≡ getD (now (kinds .entry)) value 0 ⌝ }
+// The first class of a day number, 0 past the table.
+fn class_of(classes: &[u8], value: u16) -> u8
+    ensures { λ r. ⌜ r ≡ getD (now (classes .entry)) value 0 ⌝ }
 {
-    let k = wide(value);
-    if k < kinds.len() { kinds[k] } else { 0 }
+    let k = u16_to_usize(value);
+    if k < classes.len() { classes[k] } else { 0 }
 }
 
-// The lowest kind of a class. Each class takes in the kinds of those before it that it is a part of.
-fn lowest_kind(class: u8) -> u8
-    ensures { λ r. ⌜ r ≡ lowestKind class ⌝ }
+// A class holds the days whose first class lies from this one up to the class itself.
+fn lowest_class(class: u8) -> u8
+    ensures { λ r. ⌜ r ≡ lowestClass class ⌝ }
 {
     match class {
         3 | 4 => 3,
@@ -23,13 +23,13 @@ fn lowest_kind(class: u8) -> u8
 }
 
 // Whether a day number is of a class.
-pub fn in_class(kinds: &[u8], class: u8, value: u16) -> bool
-    ensures { λ r. ⌜ r ≡ inClass (now (kinds .entry)) class value ⌝ }
+pub fn in_class(classes: &[u8], class: u8, value: u16) -> bool
+    ensures { λ r. ⌜ r ≡ inClass (now (classes .entry)) class value ⌝ }
 {
-    let kind = kind_of(kinds, value);
-    if kind < lowest_kind(class) {
+    let own = class_of(classes, value);
+    if own < lowest_class(class) {
         false
     } else {
-        kind <= class
+        own <= class
     }
 }

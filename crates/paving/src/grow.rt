@@ -7,23 +7,23 @@ ghost use Prim.Native.Nat.{suc, _<_};
 ghost use lib.ListN.{length, getD};
 ghost use Rattle.paving.specs.Grid.{Room, goodAt, paint};
 
-// Marks the columns of a node that are good for the value and the marks of the later dimensions.
+// Marks the columns of a box that are good for the value and the marks of the later dimensions.
 pub fn grow(
     cells: &[u16],
     sizes: &[u16],
     marks: &mut [u8],
     value: u16,
     dimension: usize,
-    node: usize,
+    box_index: usize,
     base: usize,
     width: usize,
 )
-    requires { ⌜ Room (length (now cells)) (length (now marks)) (now sizes) (suc dimension) node base ⌝ }
+    requires { ⌜ Room (length (now cells)) (length (now marks)) (now sizes) (suc dimension) «box_index» base ⌝ }
     requires { ⌜ (width ≡ getD (now sizes) dimension 0) × (width < 65536) ⌝ }
-    ensures { λ _. ⌜ now (marks .exit) ≡ paint (goodAt (now (cells .entry)) (now (sizes .entry)) dimension node (now (marks .entry)) base value) base 0 width (now (marks .entry)) ⌝ }
+    ensures { λ _. ⌜ now (marks .exit) ≡ paint (goodAt (now (cells .entry)) (now (sizes .entry)) dimension «box_index» (now (marks .entry)) base value) base 0 width (now (marks .entry)) ⌝ }
 {
     if dimension == 0 {
-        grow_cells(cells, marks, value, node * width, base, width);
+        grow_cells(cells, marks, value, box_index * width, base, width);
         return;
     }
     let mut column = 0;
@@ -34,7 +34,7 @@ pub fn grow(
             marks,
             value,
             dimension,
-            node * width + column,
+            box_index * width + column,
             base + width,
         );
         marks[base + column] = bit(good);

@@ -1,6 +1,7 @@
 // Pop, check and reset over numbered columns: a grid of any number of dimensions in one flat pool of cells.
-// A node with some dimensions left has a number; its child in column j is node * width + j, and a node with none left is a cell.
-// The sizes stand last dimension first, so that `left` counts down to them; the marks of a dimension, one for each interval, stand
+// A box of the first dimensions has a number, `box_index`, and some dimensions left below it. The box below it in column j has the number
+// box_index * width + j, and a box with no dimension left is a cell; the specs call such a box a node.
+// The sizes stand last dimension first, so that `dims_left` counts down to them; the marks of a dimension, one for each interval, stand
 // from `base` on, those of the later dimensions after them.
 pub mod check;
 pub mod class;
@@ -10,17 +11,8 @@ pub mod pop;
 pub mod reset;
 pub mod row;
 
-ghost use mathlib.Core.Path.{_≡_};
-ghost use Prim.Native.Nat.{_<_};
-
 // The value of a popped group; its set is in the marks.
 pub enum Popped {
     Value(u16),
     Nothing,
-}
-
-pub fn wide(x: u16) -> usize
-    ensures { λ r. ⌜ (r ≡ x) × (r < 65536) ⌝ }
-{
-    x as usize
 }

@@ -1,4 +1,4 @@
-// A node with one dimension left: its columns are cells, and these stand in a row.
+// A box with one dimension left: its columns are cells, and these stand in a row.
 use super::Popped;
 use super::class::in_class;
 ghost use mathlib.Core.Path.{_≡_};
@@ -8,15 +8,15 @@ ghost use lib.ListN.{length, getD};
 ghost use Rattle.paving.specs.Grid.{inClass, NoneFrom, firstCell, cellIs, cellsAgree, emptied, paint};
 
 // The first cell of a class from one on up to an end, or the end.
-pub fn next_cell(cells: &[u16], kinds: &[u8], class: u8, first: usize, end: usize) -> usize
+pub fn next_cell(cells: &[u16], classes: &[u8], class: u8, first: usize, end: usize) -> usize
     requires { ⌜ (first ≤ end) × (end ≤ length (now cells)) ⌝ }
     ensures { λ r. ⌜ (first ≤ r) × (r ≤ end)
-        × NoneFrom (now (cells .entry)) (inClass (now (kinds .entry)) class) first r
-        × (r < end → inClass (now (kinds .entry)) class (getD (now (cells .entry)) r 0) ≡ true) ⌝ }
+        × NoneFrom (now (cells .entry)) (inClass (now (classes .entry)) class) first r
+        × (r < end → inClass (now (classes .entry)) class (getD (now (cells .entry)) r 0) ≡ true) ⌝ }
 {
     let mut at = first;
     while at < end {
-        if in_class(kinds, class, cells[at]) {
+        if in_class(classes, class, cells[at]) {
             return at;
         }
         at += 1;
@@ -25,11 +25,11 @@ pub fn next_cell(cells: &[u16], kinds: &[u8], class: u8, first: usize, end: usiz
 }
 
 // Its value, if there is one.
-pub fn first_cell(cells: &[u16], kinds: &[u8], class: u8, first: usize, end: usize) -> Popped
+pub fn first_cell(cells: &[u16], classes: &[u8], class: u8, first: usize, end: usize) -> Popped
     requires { ⌜ (first ≤ end) × (end ≤ length (now cells)) ⌝ }
-    ensures { λ r. ⌜ r ≡ firstCell (now (cells .entry)) (inClass (now (kinds .entry)) class) first (end - first) ⌝ }
+    ensures { λ r. ⌜ r ≡ firstCell (now (cells .entry)) (inClass (now (classes .entry)) class) first (end - first) ⌝ }
 {
-    let at = next_cell(cells, kinds, class, first, end);
+    let at = next_cell(cells, classes, class, first, end);
     if at < end {
         Popped::Value(cells[at])
     } else {

@@ -1,6 +1,5 @@
 -- THE CUTS AS RULES COME IN: rows that hold the cuts of some rules hold, cut at a rule more, the cuts of all of them; and the number of
 -- boxes is the definition's. Rests on the rows' laws.
--- Assumes nothing.
 use mathlib.Core.Path.{_≡_, refl, sym, ap, ap₂, _∙_}
 use mathlib.Core.Bool.{Bool, true, false, cond}
 use mathlib.Core.List.{List, [], _∷_, _++_, map}

@@ -1,5 +1,4 @@
--- Rows that hold the cuts of some rules: what the cutting is measured by.
--- Assumes nothing.
+-- Rows that hold the cuts of some rules: what the rows of cuts must be.
 use mathlib.Core.List.{List, [], _∷_}
 use Prim.Native.Nat.{ℕ, _+_, _*_, _≤_}
 use lib.ListN.{length}

@@ -1,6 +1,5 @@
--- A TEXT THAT HOLDS EVERYTHING: 13 numbers for each box of four dimensions. A page has its value, four counts, and two numbers for each item;
+-- A BUFFER THAT HOLDS ALL PAGES: 13 numbers for each box of four dimensions. A page has its value, four counts, and two numbers for each item;
 -- a set's items are no more than its intervals, and these hardly more than its boxes. Rests on grid's count of the groups' points.
--- Assumes nothing.
 use mathlib.Core.Path.{_≡_, refl, ap, ap₂}
 use mathlib.Core.Bool.{false}
 use mathlib.Core.List.{List, [], _∷_, map, flatMap}
@@ -20,7 +19,7 @@ use Rattle.grid.proofs.Width.{set-width, groups-filled}
 use Rattle.paving.specs.Grid.{sizeOf, axes, grid, inClass}
 use Rattle.paving.specs.Sweep.{classesFrom, groupsFrom}
 use Rattle.paving.proofs.Sweeping.{empty-unmatched}
-use Rattle.runs.specs.Runs.{cutOf}
+use Rattle.date_items.specs.Runs.{cutOf}
 use Rattle.tables.specs.Cuts.{intervalAt}
 use Rattle.grid.proofs.Count.{joined-less}
 use Rattle.definition.proofs.RuleCounts.{items-less}
@@ -86,16 +85,16 @@ module _ (rows cuts sizes : List ℕ) where
       )
 
 -- EVERYTHING HAS ROOM
-pub pages-few : (rows cuts cells kinds sizes : List ℕ) (last k : ℕ) → getD kinds 0 0 ≡ 0
-    → length (groupsNumbers rows cuts sizes 4 (groupsFrom cells kinds sizes last k 4)) ≤ 13 * sizeOf sizes 4
+pub pages-few : (rows cuts cells classes sizes : List ℕ) (last k : ℕ) → getD classes 0 0 ≡ 0
+    → length (groupsNumbers rows cuts sizes 4 (groupsFrom cells classes sizes last k 4)) ≤ 13 * sizeOf sizes 4
 unfolding groupsFrom classesFrom
-pages-few rows cuts cells kinds sizes last k none =
-    let part = groups-part eqb eqb 0 (axes sizes 4) (classesFrom kinds last k) (grid cells sizes 4 0) in
-    let filled = groups-filled exact-eqb eqb 0 (axes sizes 4) (classesFrom kinds last k) (grid cells sizes 4 0) in
-    let unmatched = All-image (λ ok. ok 0 ≡ false) (inClass kinds) (from k (suc last - k)) (All-each _ (λ c. empty-unmatched kinds c none) (from k (suc last - k))) in
+pages-few rows cuts cells classes sizes last k none =
+    let part = groups-part eqb eqb 0 (axes sizes 4) (classesFrom classes last k) (grid cells sizes 4 0) in
+    let filled = groups-filled exact-eqb eqb 0 (axes sizes 4) (classesFrom classes last k) (grid cells sizes 4 0) in
+    let unmatched = All-image (λ ok. ok 0 ≡ false) (inClass classes) (from k (suc last - k)) (All-each _ (λ c. empty-unmatched classes c none) (from k (suc last - k))) in
     omega (
       arith,
-      groups-few rows cuts sizes (groupsFrom cells kinds sizes last k 4) part filled,
-      groups-size exact-eqb exact-eqb 0 (axes sizes 4) (classesFrom kinds last k) unmatched (grid cells sizes 4 0),
+      groups-few rows cuts sizes (groupsFrom cells classes sizes last k 4) part filled,
+      groups-size exact-eqb exact-eqb 0 (axes sizes 4) (classesFrom classes last k) unmatched (grid cells sizes 4 0),
       axes-size sizes 4,
     )

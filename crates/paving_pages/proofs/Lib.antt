@@ -1,4 +1,4 @@
 pub mod Writing
-pub mod Text
+pub mod Appending
 pub mod Enough
 pub mod Rules

@@ -1,6 +1,5 @@
 -- FROM PAGES TO RULES: a page's items, over the day that its value numbers, are the definition's rules of the group. A row's first and last
 -- cuts are its dimension's bounds; and rows that hold the rules' cuts are what popping requires. Rests on the law from popped groups to pages.
--- Assumes nothing.
 use mathlib.Core.Path.{_≡_, sym, ap, ap₂, _∙_}
 use mathlib.Core.List.{List, [], _∷_, map, flatMap, head-eq-of-cons-eq}
 use Prim.Native.Nat.{ℕ, zero, suc, _+_, _-_, _≤_, _<_}
@@ -76,16 +75,18 @@ module _ (rows sizes table : List ℕ) (rs : List Rule) where
     unfolding runsOf rulesOf laidOver pageItems overSorts groupRules
     set-rules v = by-sorts sizes (λ S. rulesOf (pageOf dayOf (cutOf rows table) 4 (v, S)) ≡ groupRules rows table sizes dayOf (v, S))
         (λ D W M Y p.
-        ap₂ (λ Ys Ms. map (λ r. overSorts sorts (Ys ∷ Ms ∷ itemsOf (weekDimension .bounds) (joined (map (intervalAt (cutOf rows table 2)) W)) ∷ itemsOf (weekdayDimension .bounds) (joined (map (intervalAt (cutOf rows table 3)) D)) ∷ []) r) (asRules (dayOf v)))
+        let weeks = itemsOf (weekDimension .bounds) (joined (map (intervalAt (cutOf rows table 2)) W)) in
+        let weekdays = itemsOf (weekdayDimension .bounds) (joined (map (intervalAt (cutOf rows table 3)) D)) in
+        ap₂ (λ Ys Ms. map (λ r. overSorts sorts (Ys ∷ Ms ∷ weeks ∷ weekdays ∷ []) r) (asRules (dayOf v)))
         (sort-items yearDimension [] (c .1 .1 .1) (b .1 .1 .1) Y) (sort-items monthDimension (yearDimension ∷ []) (c .1 .1) (b .1 .1) M)
         ∙ ap₂ (λ Ws Ds. map (λ r. overSorts sorts (sortItems rows table sizes 0 Y ∷ sortItems rows table sizes 1 M ∷ Ws ∷ Ds ∷ []) r) (asRules (dayOf v)))
         (sort-items weekDimension (monthDimension ∷ yearDimension ∷ []) (c .1) (b .1) W) (sort-items weekdayDimension (weekDimension ∷ monthDimension ∷ yearDimension ∷ []) c b D))
 
     -- THE FOLDED RULES are those of the pages' items, page after page, where the definition's pages are the popped groups
-    pub rules-paged : (cells kinds : List ℕ) → pages rs ≡ map (pageOf dayOf (cutOf rows table) 4) (groupsFrom cells kinds sizes 5 1 4)
-        → folded rs ≡ flatMap (groupRules rows table sizes dayOf) (groupsFrom cells kinds sizes 5 1 4)
+    pub rules-paged : (cells classes : List ℕ) → pages rs ≡ map (pageOf dayOf (cutOf rows table) 4) (groupsFrom cells classes sizes 5 1 4)
+        → folded rs ≡ flatMap (groupRules rows table sizes dayOf) (groupsFrom cells classes sizes 5 1 4)
     unfolding folded groupsFrom
-    rules-paged cells kinds e =
+    rules-paged cells classes e =
         ap (flatMap rulesOf) e
-        ∙ flatMap-map rulesOf (groupRules rows table sizes dayOf) (pageOf dayOf (cutOf rows table) 4) (groupsFrom cells kinds sizes 5 1 4)
-        (All-map (λ g p. set-rules (g .0) (g .1) p) (groupsFrom cells kinds sizes 5 1 4) (groups-part eqb eqb 0 (axes sizes 4) (classesFrom kinds 5 1) (grid cells sizes 4 0)))
+        ∙ flatMap-map rulesOf (groupRules rows table sizes dayOf) (pageOf dayOf (cutOf rows table) 4) (groupsFrom cells classes sizes 5 1 4)
+        (All-map (λ g p. set-rules (g .0) (g .1) p) (groupsFrom cells classes sizes 5 1 4) (groups-part eqb eqb 0 (axes sizes 4) (classesFrom classes 5 1) (grid cells sizes 4 0)))

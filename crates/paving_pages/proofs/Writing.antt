@@ -1,6 +1,5 @@
--- What each way out of the writing shows, in plain terms: the sorts of a page one after the other, and a page. Rests on the laws of texts
--- laid over a buffer.
--- Assumes nothing.
+-- One lemma for each return of the writing: the sorts of a page one after the other, and a page. Rests on the laws of numbers laid over a
+-- buffer.
 use mathlib.Core.Path.{_≡_, refl, sym, ap, ap₂, _∙_}
 use mathlib.Core.List.{List, [], _∷_, _++_, map, flatMap, map-append}
 use Prim.Native.Nat.{ℕ, zero, suc, _+_, _*_, _≤_, _<_}
@@ -12,56 +11,51 @@ use Rattle.laws.proofs.Stores.{sets-append, sets-set}
 use Rattle.definition.specs.Range.{Ends}
 use Rattle.words.proofs.Sets.{sets-next}
 use Rattle.paving.specs.Grid.{widthOf, marksFrom, chosen}
-use Rattle.runs.specs.Runs.{Cuts, itemsAt}
+use Rattle.date_items.specs.Runs.{Cuts, itemsAt}
 use Rattle.tables.specs.Items.{numbers, endNumbers}
-use Rattle.paving_pages.specs.Pages.{CutRows, sortItems, pageItems, laidItems, state, groupNumbers, putPage}
+use Rattle.tables.proofs.Pages.{length-numbers}
+use Rattle.paving_pages.specs.Pages.{CutRows, sortItems, pageItems, markedItems, laidItems, state, groupNumbers, putPage}
 use Rattle.tables.specs.Pages.{pageNumbers}
 
 -- ## A sort more
-numbers-length : (es : List Ends) → length (numbers es) ≡ 2 * length es
-unfolding numbers
-numbers-length [] = refl
-numbers-length (e ∷ es) = omega (arith, numbers-length es)
-
 last-numbers : (Es : List (List Ends)) (F : List Ends) → endNumbers (Es ++ (F ∷ [])) ≡ endNumbers Es ++ numbers F
 unfolding endNumbers flatMap
 last-numbers Es F = flatMap-last numbers Es F
 
 pub last-length : (Es : List (List Ends)) (F : List Ends) → length (endNumbers (Es ++ (F ∷ []))) ≡ length (endNumbers Es) + 2 * length F
-last-length Es F = ap length (last-numbers Es F) ∙ length-append (endNumbers Es) (numbers F) ∙ ap (length (endNumbers Es) +_) (numbers-length F)
+last-length Es F = ap length (last-numbers Es F) ∙ length-append (endNumbers Es) (numbers F) ∙ ap (length (endNumbers Es) +_) (length-numbers F)
 
 -- its items behind the others', then its count behind theirs
-last-laid : (text : List ℕ) (counts next : ℕ) (Es : List (List Ends)) (F : List Ends) → counts + length Es < next
-    → set (sets (laidItems text counts next Es) (next + length (endNumbers Es)) (numbers F)) (counts + length Es) (length F) ≡ laidItems text counts next (Es ++ (F ∷ []))
+last-laid : (pages : List ℕ) (counts next : ℕ) (Es : List (List Ends)) (F : List Ends) → counts + length Es < next
+    → set (sets (laidItems pages counts next Es) (next + length (endNumbers Es)) (numbers F)) (counts + length Es) (length F) ≡ laidItems pages counts next (Es ++ (F ∷ []))
 unfolding laidItems
-last-laid text counts next Es F h =
-    let before : List ℕ = sets text counts (map length Es) in
+last-laid pages counts next Es F h =
+    let before : List ℕ = sets pages counts (map length Es) in
     ap (λ t. set t (counts + length Es) (length F)) (sym (sets-append before next (endNumbers Es) (numbers F)) ∙ ap (sets before next) (sym (last-numbers Es F)))
     ∙ sym (sets-set before (counts + length Es) (length F) next (endNumbers (Es ++ (F ∷ []))) h)
     ∙ ap (λ k. sets (set before (counts + k) (length F)) next (endNumbers (Es ++ (F ∷ [])))) (sym (length-map Es length))
-    ∙ ap (λ t. sets t next (endNumbers (Es ++ (F ∷ [])))) (sym (sets-append text counts (map length Es) (length F ∷ [])))
-    ∙ ap (λ ns. sets (sets text counts ns) next (endNumbers (Es ++ (F ∷ [])))) (sym (map-append length Es (F ∷ [])))
+    ∙ ap (λ t. sets t next (endNumbers (Es ++ (F ∷ [])))) (sym (sets-append pages counts (map length Es) (length F ∷ [])))
+    ∙ ap (λ ns. sets (sets pages counts ns) next (endNumbers (Es ++ (F ∷ [])))) (sym (map-append length Es (F ∷ [])))
 
 -- ## A dimension fewer
-module _ (rows cuts sizes : List ℕ) (left i n : ℕ) (el : left ≡ suc i) (en : n ≡ getD sizes i 0) where
-  pub width-step : widthOf sizes left ≡ n + widthOf sizes i
-  unfolding widthOf
-  width-step = rw (el, en)
+pub width-step : (sizes : List ℕ) (left i n : ℕ) → left ≡ suc i → n ≡ getD sizes i 0 → widthOf sizes left ≡ n + widthOf sizes i
+unfolding widthOf
+width-step sizes left i n el en = rw (el, en)
 
-  pub rows-fewer : CutRows rows cuts sizes left → CutRows rows cuts sizes i
-  rows-fewer r =
+module _ {rows cuts sizes : List ℕ} {left i : ℕ} (el : left ≡ suc i) (r : CutRows rows cuts sizes left) where
+  pub rows-fewer : CutRows rows cuts sizes i
+  rows-fewer =
       let a = r .all-rows in
       let b = r .all-sizes in
       record { all-rows = omega arith; all-sizes = omega arith; row = λ j h. r .row j (omega arith) }
 
-  pub row-cuts : (row : ℕ) → row ≡ getD rows i 0 → CutRows rows cuts sizes left → Cuts cuts row n
-  row-cuts row er r = rw (en, er) (r .row i (omega arith))
+  pub row-cuts : {row n : ℕ} → row ≡ getD rows i 0 → n ≡ getD sizes i 0 → Cuts cuts row n
+  row-cuts er en = rw (en, er) (r .row i (omega arith))
 
 -- ## The sorts of a set
 module _ (rows cuts sizes marks : List ℕ) where
-  -- the items of the marked intervals of l dimensions
   abbrev items : ℕ → ℕ → List (List Ends)
-  items l base = pageItems rows cuts sizes l (chosen marks sizes l base)
+  items l base = markedItems rows cuts sizes marks l base
 
   pub items-length : (l base : ℕ) → length (items l base) ≡ l
   unfolding chosen pageItems
@@ -78,23 +72,23 @@ module _ (rows cuts sizes marks : List ℕ) where
     pub numbers-step : length (endNumbers (items left base)) ≡ length (endNumbers (items i (base + n))) + 2 * length (itemsAt marks base n cuts row)
     numbers-step = ap (λ Es. length (endNumbers Es)) sorts-step ∙ last-length (items i (base + n)) (itemsAt marks base n cuts row)
 
-    pub sorts-more : (counts next then many : ℕ) (text text₁ text₂ : List ℕ) → counts + left ≤ next
-        → (then ≡ next + length (endNumbers (items i (base + n)))) × (text₁ ≡ laidItems text counts next (items i (base + n)))
-        → (many ≡ length (itemsAt marks base n cuts row)) × (text₂ ≡ sets text₁ then (numbers (itemsAt marks base n cuts row)))
-        → (then + 2 * many ≡ next + length (endNumbers (items left base))) × (set text₂ (counts + i) many ≡ laidItems text counts next (items left base))
-    sorts-more counts next then many text text₁ text₂ h below last =
+    pub sorts-more : (counts next then many : ℕ) (pages pages₁ pages₂ : List ℕ) → counts + left ≤ next
+        → (then ≡ next + length (endNumbers (items i (base + n)))) × (pages₁ ≡ laidItems pages counts next (items i (base + n)))
+        → (many ≡ length (itemsAt marks base n cuts row)) × (pages₂ ≡ sets pages₁ then (numbers (itemsAt marks base n cuts row)))
+        → (then + 2 * many ≡ next + length (endNumbers (items left base))) × (set pages₂ (counts + i) many ≡ laidItems pages counts next (items left base))
+    sorts-more counts next then many pages pages₁ pages₂ h below last =
         let F : List Ends = itemsAt marks base n cuts row in
         let Es : List (List Ends) = items i (base + n) in
         let long : length Es ≡ i = items-length i (base + n) in (
           omega (arith, below .0, last .0, numbers-step),
           ap₂ (λ t m. set t (counts + i) m) (last .1 ∙ ap₂ (λ t k. sets t k (numbers F)) (below .1) (below .0)) (last .0)
-              ∙ ap (λ k. set (sets (laidItems text counts next Es) (next + length (endNumbers Es)) (numbers F)) (counts + k) (length F)) (sym long)
-              ∙ last-laid text counts next Es F (omega (arith, long)) ∙ ap (laidItems text counts next) (sym sorts-step),
+              ∙ ap (λ k. set (sets (laidItems pages counts next Es) (next + length (endNumbers Es)) (numbers F)) (counts + k) (length F)) (sym long)
+              ∙ last-laid pages counts next Es F (omega (arith, long)) ∙ ap (laidItems pages counts next) (sym sorts-step),
         )
 
-  pub sorts-none : (left base counts next : ℕ) (text : List ℕ) → left ≡ 0 → (next ≡ next + length (endNumbers (items left base))) × (text ≡ laidItems text counts next (items left base))
+  pub sorts-none : (left base counts next : ℕ) (pages : List ℕ) → left ≡ 0 → (next ≡ next + length (endNumbers (items left base))) × (pages ≡ laidItems pages counts next (items left base))
   unfolding chosen pageItems endNumbers laidItems flatMap
-  sorts-none left base counts next text e = rw e (omega arith, refl)
+  sorts-none left base counts next pages e = rw e (omega arith, refl)
 
   -- ## A page
   module _ (value at left : ℕ) where
@@ -107,16 +101,16 @@ module _ (rows cuts sizes marks : List ℕ) where
         → at + 1 + left + length (endNumbers (items left 0)) ≤ size
     page-room size h = omega (arith, page-numbers)
 
-    page-laid : (text : List ℕ) → laidItems (set text at value) (at + 1) (at + 1 + left) (items left 0) ≡ sets text at (groupNumbers rows cuts sizes left (value, chosen marks sizes left 0))
+    page-laid : (pages : List ℕ) → laidItems (set pages at value) (at + 1) (at + 1 + left) (items left 0) ≡ sets pages at (groupNumbers rows cuts sizes left (value, chosen marks sizes left 0))
     unfolding laidItems groupNumbers pageNumbers
-    page-laid text =
+    page-laid pages =
         let ns : List ℕ = map length (items left 0) in
         let long : left ≡ length ns = sym (length-map (items left 0) length ∙ items-length left 0) in
-        ap (λ k. sets (sets (set text at value) (at + 1) ns) (at + 1 + k) (endNumbers (items left 0))) long
-        ∙ sym (sets-append (set text at value) (at + 1) ns (endNumbers (items left 0))) ∙ sets-next text at value (ns ++ endNumbers (items left 0))
+        ap (λ k. sets (sets (set pages at value) (at + 1) ns) (at + 1 + k) (endNumbers (items left 0))) long
+        ∙ sym (sets-append (set pages at value) (at + 1) ns (endNumbers (items left 0))) ∙ sets-next pages at value (ns ++ endNumbers (items left 0))
 
-    pub put-page : (r : ℕ) (text after : List ℕ)
-        → (r ≡ at + 1 + left + length (endNumbers (items left 0))) × (after ≡ laidItems (set text at value) (at + 1) (at + 1 + left) (items left 0))
-        → state after r ≡ putPage rows cuts sizes left (state text at) (value, chosen marks sizes left 0)
+    pub put-page : (r : ℕ) (pages after : List ℕ)
+        → (r ≡ at + 1 + left + length (endNumbers (items left 0))) × (after ≡ laidItems (set pages at value) (at + 1) (at + 1 + left) (items left 0))
+        → state after r ≡ putPage rows cuts sizes left (state pages at) (value, chosen marks sizes left 0)
     unfolding putPage
-    put-page r text after p = ap₂ state (p .1 ∙ page-laid text) (omega (arith, p .0, page-numbers))
+    put-page r pages after p = ap₂ state (p .1 ∙ page-laid pages) (omega (arith, p .0, page-numbers))

@@ -1,6 +1,5 @@
 -- Groups as pages of numbers: the value, how many items each sort has, then the items' first and last values, sort after sort. Sorts count
 -- from years; dimensions go from weekdays, so that the first dimension is the last sort.
--- Assumes nothing.
 use mathlib.Core.List.{List, [], _∷_, _++_, map, flatMap}
 use Prim.Native.Nat.{ℕ, zero, suc, _+_, _≤_, _<_}
 use lib.ListN.{length, getD}
@@ -9,7 +8,8 @@ use Rattle.grid.specs.Group.{Set, Group}
 use Rattle.grid.specs.Cut.{joined}
 use Rattle.definition.specs.Range.{Ends}
 use Rattle.definition.specs.Group.{itemsOf}
-use Rattle.runs.specs.Runs.{cutOf, Cuts}
+use Rattle.paving.specs.Grid.{chosen}
+use Rattle.date_items.specs.Runs.{cutOf, Cuts}
 use Rattle.tables.specs.Cuts.{intervalAt}
 use Rattle.tables.specs.Items.{endNumbers}
 use Rattle.tables.specs.Pages.{pageNumbers}
@@ -33,18 +33,22 @@ module _ (rows cuts sizes : List ℕ) where
   pageItems (suc i) [] = []
   pageItems (suc i) (E ∷ S) = pageItems i S ++ (sortItems i E ∷ [])
 
+  -- the items of the marked intervals of l dimensions, whose marks begin at a place
+  abbrev pub markedItems : List ℕ → ℕ → ℕ → List (List Ends)
+  markedItems marks l base = pageItems l (chosen marks sizes l base)
+
 -- the counts laid from a place on, the items from another
 unfoldable pub laidItems : List ℕ → ℕ → ℕ → List (List Ends) → List ℕ
-laidItems text counts next Es = sets (sets text counts (map length Es)) next (endNumbers Es)
+laidItems pages counts next Es = sets (sets pages counts (map length Es)) next (endNumbers Es)
 
 -- ## Pages
--- a text and the place of the next page
+-- the pages so far, and the place of the next one
 pub record State : Type 0 where
-  pub text : List ℕ
+  pub pages : List ℕ
   pub next : ℕ
 
 abbrev pub state : List ℕ → ℕ → State
-state text next = record { text = text; next = next }
+state pages next = record { pages = pages; next = next }
 
 module _ (rows cuts sizes : List ℕ) (l : ℕ) where
   -- the numbers of a group, and of some
@@ -56,4 +60,4 @@ module _ (rows cuts sizes : List ℕ) (l : ℕ) where
 
   -- a page more
   unfoldable pub putPage : State → Group ℕ ℕ → State
-  putPage s g = state (sets (s .text) (s .next) (groupNumbers g)) (s .next + length (groupNumbers g))
+  putPage s g = state (sets (s .pages) (s .next) (groupNumbers g)) (s .next + length (groupNumbers g))

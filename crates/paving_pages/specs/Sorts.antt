@@ -1,5 +1,4 @@
 -- A rule over a page's items.
--- Assumes nothing.
 use mathlib.Core.List.{List, [], _∷_, map}
 use Prim.Native.Nat.{ℕ}
 use Rattle.grid.specs.Group.{Group}

@@ -1,88 +1,91 @@
 // The groups of a paving, popped class after class and appended as pages: the value, how many items each sort has (years, months, weeks,
 // weekdays), then the items' first and last values in that order.
+use casts::u16_to_usize;
 ghost use mathlib.Core.Path.{_≡_};
 ghost use Prim.Native.Nat.{_+_, _*_, _≤_, _<_};
 ghost use lib.ListN.{length, getD};
 ghost use lib.Seq.{sets};
 ghost use Rattle.paving.specs.Grid.{Room, sizeOf, widthOf, chosen};
 ghost use Rattle.paving.specs.Sweep.{swept, groupsFrom, emitted, leftFrom, TakenOut};
-ghost use Rattle.paving_pages.specs.Pages.{CutRows, pageItems, laidItems, state, groupNumbers, groupsNumbers, putPage};
+ghost use Rattle.paving_pages.specs.Pages.{CutRows, markedItems, laidItems, state, groupNumbers, groupsNumbers, putPage};
 ghost use Rattle.tables.specs.Items.{endNumbers};
 
 // Appends the items of the marked set, sort after sort, and puts how many each sort has from another place on.
 fn put_sorts(
-    text: &mut [u16],
+    pages: &mut [u16],
     sizes: &[u16],
-    rows: &[u16],
+    row_starts: &[u16],
     cuts: &[u16],
     marks: &[u8],
-    counts: usize,
+    counts_at: usize,
     next: usize,
-    left: usize,
+    dims_left: usize,
     base: usize,
 ) -> usize
-    requires { ⌜ CutRows (now rows) (now cuts) (now sizes) left ⌝ }
-    requires { ⌜ (base + widthOf (now sizes) left ≤ length (now marks)) × (counts + left ≤ next) ⌝ }
-    requires { ⌜ next + length (endNumbers (pageItems (now rows) (now cuts) (now sizes) left (chosen (now marks) (now sizes) left base))) ≤ length (now text) ⌝ }
-    ensures { λ r. ⌜ (r ≡ next + length (endNumbers (pageItems (now (rows .entry)) (now (cuts .entry)) (now (sizes .entry)) left (chosen (now (marks .entry)) (now (sizes .entry)) left base))))
-        × (now (text .exit) ≡ laidItems (now (text .entry)) counts next (pageItems (now (rows .entry)) (now (cuts .entry)) (now (sizes .entry)) left (chosen (now (marks .entry)) (now (sizes .entry)) left base))) ⌝ }
+    requires { ⌜ CutRows (now «row_starts») (now cuts) (now sizes) «dims_left» ⌝ }
+    requires { ⌜ (base + widthOf (now sizes) «dims_left» ≤ length (now marks)) × («counts_at» + «dims_left» ≤ next) ⌝ }
+    requires { ⌜ next + length (endNumbers (markedItems (now «row_starts») (now cuts) (now sizes) (now marks) «dims_left» base)) ≤ length (now pages) ⌝ }
+    ensures { λ r. ⌜ (r ≡ next + length (endNumbers (markedItems (now («row_starts» .entry)) (now (cuts .entry)) (now (sizes .entry)) (now (marks .entry)) «dims_left» base)))
+        × (now (pages .exit) ≡ laidItems (now (pages .entry)) «counts_at» next
+        (markedItems (now («row_starts» .entry)) (now (cuts .entry)) (now (sizes .entry)) (now (marks .entry)) «dims_left» base)) ⌝ }
 {
-    if left == 0 {
+    if dims_left == 0 {
         return next;
     }
-    let sort = left - 1;
-    let width = paving::wide(sizes[sort]);
+    let sort = dims_left - 1;
+    let width = u16_to_usize(sizes[sort]);
     let then = put_sorts(
-        text,
+        pages,
         sizes,
-        rows,
+        row_starts,
         cuts,
         marks,
-        counts,
+        counts_at,
         next,
         sort,
         base + width,
     );
-    let many = runs::put_items(
+    let item_count = date_items::put_items(
         marks,
         base,
         width,
         cuts,
-        paving::wide(rows[sort]),
-        text,
+        u16_to_usize(row_starts[sort]),
+        pages,
         then,
     );
-    text[counts + sort] = many as u16;
-    then + 2 * many
+    pages[counts_at + sort] = item_count as u16;
+    then + 2 * item_count
 }
 
 // Appends a page of the marked set.
 fn put_page(
-    text: &mut [u16],
+    pages: &mut [u16],
     sizes: &[u16],
-    rows: &[u16],
+    row_starts: &[u16],
     cuts: &[u16],
     marks: &[u8],
     value: u16,
     at: usize,
-    left: usize,
+    dims_left: usize,
 ) -> usize
-    requires { ⌜ CutRows (now rows) (now cuts) (now sizes) left ⌝ }
-    requires { ⌜ widthOf (now sizes) left ≤ length (now marks) ⌝ }
-    requires { ⌜ at + length (groupNumbers (now rows) (now cuts) (now sizes) left (value, chosen (now marks) (now sizes) left 0)) ≤ length (now text) ⌝ }
-    ensures { λ r. ⌜ state (now (text .exit)) r
-        ≡ putPage (now (rows .entry)) (now (cuts .entry)) (now (sizes .entry)) left (state (now (text .entry)) at) (value, chosen (now (marks .entry)) (now (sizes .entry)) left 0) ⌝ }
+    requires { ⌜ CutRows (now «row_starts») (now cuts) (now sizes) «dims_left» ⌝ }
+    requires { ⌜ widthOf (now sizes) «dims_left» ≤ length (now marks) ⌝ }
+    requires { ⌜ at + length (groupNumbers (now «row_starts») (now cuts) (now sizes) «dims_left» (value, chosen (now marks) (now sizes) «dims_left» 0)) ≤ length (now pages) ⌝ }
+    ensures { λ r. ⌜ state (now (pages .exit)) r
+        ≡ putPage (now («row_starts» .entry)) (now (cuts .entry)) (now (sizes .entry)) «dims_left» (state (now (pages .entry)) at)
+        (value, chosen (now (marks .entry)) (now (sizes .entry)) «dims_left» 0) ⌝ }
 {
-    text[at] = value;
+    pages[at] = value;
     put_sorts(
-        text,
+        pages,
         sizes,
-        rows,
+        row_starts,
         cuts,
         marks,
         at + 1,
-        at + 1 + left,
-        left,
+        at + 1 + dims_left,
+        dims_left,
         0,
     )
 }
@@ -91,35 +94,56 @@ fn put_page(
 // the search for the next one begins there.
 pub fn pop_class(
     cells: &mut [u16],
-    kinds: &[u8],
+    classes: &[u8],
     sizes: &[u16],
     marks: &mut [u8],
-    rows: &[u16],
+    row_starts: &[u16],
     cuts: &[u16],
-    text: &mut [u16],
+    pages: &mut [u16],
     class: u8,
-    left: usize,
+    dims_left: usize,
     start: usize,
 ) -> usize
-    requires { ⌜ Room (length (now cells)) (length (now marks)) (now sizes) left 0 0 ⌝ }
-    requires { ⌜ CutRows (now rows) (now cuts) (now sizes) left ⌝ }
-    requires { ⌜ getD (now kinds) 0 0 ≡ 0 ⌝ }
-    requires { ⌜ start + length (groupsNumbers (now rows) (now cuts) (now sizes) left (swept (now cells) (now kinds) (now sizes) class left .0)) ≤ length (now text) ⌝ }
-    ensures { λ r. ⌜ (state (now (text .exit)) r
-        ≡ emitted (putPage (now (rows .entry)) (now (cuts .entry)) (now (sizes .entry)) left) (state (now (text .entry)) start) (swept (now (cells .entry)) (now (kinds .entry)) (now (sizes .entry)) class left .0))
-        × TakenOut (now (sizes .entry)) left (now (cells .entry)) (now (marks .entry)) (now (cells .exit)) (now (marks .exit))
-        (swept (now (cells .entry)) (now (kinds .entry)) (now (sizes .entry)) class left .0) (swept (now (cells .entry)) (now (kinds .entry)) (now (sizes .entry)) class left .1) ⌝ }
+    requires { ⌜ Room (length (now cells)) (length (now marks)) (now sizes) «dims_left» 0 0 ⌝ }
+    requires { ⌜ CutRows (now «row_starts») (now cuts) (now sizes) «dims_left» ⌝ }
+    requires { ⌜ getD (now classes) 0 0 ≡ 0 ⌝ }
+    requires { ⌜ start + length (groupsNumbers (now «row_starts») (now cuts) (now sizes) «dims_left» (swept (now cells) (now classes) (now sizes) class «dims_left» .0)) ≤ length (now pages) ⌝ }
+    ensures { λ r. ⌜ (state (now (pages .exit)) r
+        ≡ emitted (putPage (now («row_starts» .entry)) (now (cuts .entry)) (now (sizes .entry)) «dims_left») (state (now (pages .entry)) start)
+        (swept (now (cells .entry)) (now (classes .entry)) (now (sizes .entry)) class «dims_left» .0))
+        × TakenOut (now (sizes .entry)) «dims_left» (now (cells .entry)) (now (marks .entry)) (now (cells .exit)) (now (marks .exit))
+        (swept (now (cells .entry)) (now (classes .entry)) (now (sizes .entry)) class «dims_left» .0)
+        (swept (now (cells .entry)) (now (classes .entry)) (now (sizes .entry)) class «dims_left» .1) ⌝ }
 {
-    let boxes = paving::place::size_of(sizes, left);
+    let boxes = paving::place::size_of(sizes, dims_left);
     let mut first = 0;
     let mut next = start;
     loop {
-        first = paving::row::next_cell(cells, kinds, class, first, boxes);
-        let found = paving::pop::pop_filter(cells, kinds, sizes, marks, class, left, 0, 0, first);
+        first = paving::row::next_cell(cells, classes, class, first, boxes);
+        let found = paving::pop::pop_filter(
+            cells,
+            classes,
+            sizes,
+            marks,
+            class,
+            dims_left,
+            0,
+            0,
+            first,
+        );
         match found {
             paving::Popped::Value(value) => {
-                paving::reset::reset(cells, sizes, marks, left, 0, 0);
-                next = put_page(text, sizes, rows, cuts, marks, value, next, left);
+                paving::reset::reset(cells, sizes, marks, dims_left, 0, 0);
+                next = put_page(
+                    pages,
+                    sizes,
+                    row_starts,
+                    cuts,
+                    marks,
+                    value,
+                    next,
+                    dims_left,
+                );
             }
             paving::Popped::Nothing => {
                 return next;
@@ -131,53 +155,55 @@ pub fn pop_class(
 // Class after class, up to the last.
 pub fn pop_classes(
     cells: &mut [u16],
-    kinds: &[u8],
+    classes: &[u8],
     sizes: &[u16],
     marks: &mut [u8],
-    rows: &[u16],
+    row_starts: &[u16],
     cuts: &[u16],
-    text: &mut [u16],
-    last: u8,
+    pages: &mut [u16],
+    last_class: u8,
     class: u8,
-    left: usize,
+    dims_left: usize,
     next: usize,
 ) -> usize
-    requires { ⌜ Room (length (now cells)) (length (now marks)) (now sizes) left 0 0 ⌝ }
-    requires { ⌜ CutRows (now rows) (now cuts) (now sizes) left ⌝ }
-    requires { ⌜ (getD (now kinds) 0 0 ≡ 0) × (last < 255) ⌝ }
-    requires { ⌜ next + length (groupsNumbers (now rows) (now cuts) (now sizes) left (groupsFrom (now cells) (now kinds) (now sizes) last class left)) ≤ length (now text) ⌝ }
-    ensures { λ r. ⌜ (state (now (text .exit)) r
-        ≡ emitted (putPage (now (rows .entry)) (now (cuts .entry)) (now (sizes .entry)) left) (state (now (text .entry)) next)
-        (groupsFrom (now (cells .entry)) (now (kinds .entry)) (now (sizes .entry)) last class left))
-        × TakenOut (now (sizes .entry)) left (now (cells .entry)) (now (marks .entry)) (now (cells .exit)) (now (marks .exit))
-        (groupsFrom (now (cells .entry)) (now (kinds .entry)) (now (sizes .entry)) last class left) (leftFrom (now (cells .entry)) (now (kinds .entry)) (now (sizes .entry)) last class left) ⌝ }
+    requires { ⌜ Room (length (now cells)) (length (now marks)) (now sizes) «dims_left» 0 0 ⌝ }
+    requires { ⌜ CutRows (now «row_starts») (now cuts) (now sizes) «dims_left» ⌝ }
+    requires { ⌜ (getD (now classes) 0 0 ≡ 0) × («last_class» < 255) ⌝ }
+    requires { ⌜ next + length (groupsNumbers (now «row_starts») (now cuts) (now sizes) «dims_left»
+        (groupsFrom (now cells) (now classes) (now sizes) «last_class» class «dims_left»)) ≤ length (now pages) ⌝ }
+    ensures { λ r. ⌜ (state (now (pages .exit)) r
+        ≡ emitted (putPage (now («row_starts» .entry)) (now (cuts .entry)) (now (sizes .entry)) «dims_left») (state (now (pages .entry)) next)
+        (groupsFrom (now (cells .entry)) (now (classes .entry)) (now (sizes .entry)) «last_class» class «dims_left»))
+        × TakenOut (now (sizes .entry)) «dims_left» (now (cells .entry)) (now (marks .entry)) (now (cells .exit)) (now (marks .exit))
+        (groupsFrom (now (cells .entry)) (now (classes .entry)) (now (sizes .entry)) «last_class» class «dims_left»)
+        (leftFrom (now (cells .entry)) (now (classes .entry)) (now (sizes .entry)) «last_class» class «dims_left») ⌝ }
 {
-    if class > last {
+    if class > last_class {
         return next;
     }
     let then = pop_class(
         cells,
-        kinds,
+        classes,
         sizes,
         marks,
-        rows,
+        row_starts,
         cuts,
-        text,
+        pages,
         class,
-        left,
+        dims_left,
         next,
     );
     pop_classes(
         cells,
-        kinds,
+        classes,
         sizes,
         marks,
-        rows,
+        row_starts,
         cuts,
-        text,
-        last,
+        pages,
+        last_class,
         class + 1,
-        left,
+        dims_left,
         then,
     )
 }
@@ -185,20 +211,35 @@ pub fn pop_classes(
 // All groups of the four dimensions as pages; answers how many numbers they have.
 pub fn pop_pages(
     cells: &mut [u16],
-    kinds: &[u8],
+    classes: &[u8],
     sizes: &[u16],
     marks: &mut [u8],
-    rows: &[u16],
+    row_starts: &[u16],
     cuts: &[u16],
-    text: &mut [u16],
+    pages: &mut [u16],
 ) -> usize
     requires { ⌜ Room (length (now cells)) (length (now marks)) (now sizes) 4 0 0 ⌝ }
-    requires { ⌜ CutRows (now rows) (now cuts) (now sizes) 4 ⌝ }
-    requires { ⌜ (getD (now kinds) 0 0 ≡ 0) × (13 * sizeOf (now sizes) 4 ≤ length (now text)) ⌝ }
-    ensures { λ r. ⌜ (r ≡ length (groupsNumbers (now (rows .entry)) (now (cuts .entry)) (now (sizes .entry)) 4 (groupsFrom (now (cells .entry)) (now (kinds .entry)) (now (sizes .entry)) 5 1 4)))
-        × (now (text .exit) ≡ sets (now (text .entry)) 0 (groupsNumbers (now (rows .entry)) (now (cuts .entry)) (now (sizes .entry)) 4 (groupsFrom (now (cells .entry)) (now (kinds .entry)) (now (sizes .entry)) 5 1 4)))
+    requires { ⌜ CutRows (now «row_starts») (now cuts) (now sizes) 4 ⌝ }
+    requires { ⌜ (getD (now classes) 0 0 ≡ 0) × (13 * sizeOf (now sizes) 4 ≤ length (now pages)) ⌝ }
+    ensures { λ r. ⌜ (r ≡ length (groupsNumbers (now («row_starts» .entry)) (now (cuts .entry)) (now (sizes .entry)) 4
+        (groupsFrom (now (cells .entry)) (now (classes .entry)) (now (sizes .entry)) 5 1 4)))
+        × (now (pages .exit) ≡ sets (now (pages .entry)) 0 (groupsNumbers (now («row_starts» .entry)) (now (cuts .entry)) (now (sizes .entry)) 4
+        (groupsFrom (now (cells .entry)) (now (classes .entry)) (now (sizes .entry)) 5 1 4)))
         × TakenOut (now (sizes .entry)) 4 (now (cells .entry)) (now (marks .entry)) (now (cells .exit)) (now (marks .exit))
-        (groupsFrom (now (cells .entry)) (now (kinds .entry)) (now (sizes .entry)) 5 1 4) (leftFrom (now (cells .entry)) (now (kinds .entry)) (now (sizes .entry)) 5 1 4) ⌝ }
+        (groupsFrom (now (cells .entry)) (now (classes .entry)) (now (sizes .entry)) 5 1 4)
+        (leftFrom (now (cells .entry)) (now (classes .entry)) (now (sizes .entry)) 5 1 4) ⌝ }
 {
-    pop_classes(cells, kinds, sizes, marks, rows, cuts, text, 5, 1, 4, 0)
+    pop_classes(
+        cells,
+        classes,
+        sizes,
+        marks,
+        row_starts,
+        cuts,
+        pages,
+        5,
+        1,
+        4,
+        0,
+    )
 }

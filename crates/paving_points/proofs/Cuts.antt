@@ -1,6 +1,5 @@
 -- THE CUTS OF A LIST OF RULES: the rows that hold those of its first k rules hold, cut at rule k, those of one rule more. Rests on the laws of
 -- cuts as rules come in.
--- Assumes nothing.
 use mathlib.Core.Path.{_≡_, sym, subst}
 use mathlib.Core.List.{List, [], _∷_, _++_, flatMap}
 use Prim.Native.Nat.{ℕ, zero, suc, _+_, _*_, _≤_, _<_}

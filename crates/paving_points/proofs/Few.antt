@@ -1,10 +1,9 @@
 -- HOW MANY RANGES: a rule that fits a sheet has few items in each dimension, so few ranges, and some rules' cuts have room in rows of a size
 -- that goes with their number. Rests on the layouts' tests.
--- Assumes nothing.
-use mathlib.Core.Path.{_≡_, refl}
-use mathlib.Core.Bool.{Bool, true, false, _&&_}
+use mathlib.Core.Path.{_≡_}
+use mathlib.Core.Bool.{Bool, true, _&&_}
 use mathlib.Core.List.{List, [], _∷_}
-use Prim.Native.Nat.{ℕ, suc, _+_, _*_, _^_, _≤_}
+use Prim.Native.Nat.{ℕ, _+_, _*_, _^_, _≤_}
 use native.Mathlib.Omega.{arith}
 use lib.Dec.{ltb, leb}
 use lib.ListN.{length, length-map}
@@ -19,6 +18,7 @@ use Rattle.definition.specs.Rule.{MonthdayRange, months, monthsOf, dated, WeekD
 use Rattle.definition.specs.Sheet.{Form, Limits, title, counts, head, headOf, body, bodyOf, ruleWith, rule}
 use Rattle.definition.specs.Range.{Ends, split, ranges}
 use Rattle.definition.specs.Point.{Dimension, dimensions, monthEnds, weekdayEnds}
+use Rattle.definition.proofs.Points.{split-few}
 use Rattle.paving_cuts.specs.Rules.{Roomy}
 
 -- ## Items
@@ -70,18 +70,10 @@ items-few form limits r f = (
     d = split-and (few (length (r .weekdays))) spans (c .1)
 
 -- ## Ranges
-split-two : (b : Range) (e : Ends) → length (split b e) ≤ 2
-unfolding split
-split-two b e = go (ltb (e .0) (suc (e .1))) refl
-  where
-    go : (t : Bool) → ltb (e .0) (suc (e .1)) ≡ t → length (split b e) ≤ 2
-    go true q = rw (q, split) (omega arith)
-    go false q = rw (q, split) (omega arith)
-
 pub ranges-few : (b : Range) (es : List Ends) (n : ℕ) → 1 ≤ n → length es ≤ n → length (ranges b es) ≤ 2 * n
 unfolding ranges
 ranges-few b [] n o l = omega arith
-ranges-few b (e ∷ es) n o l = omega (arith, flatMap-length (split b) 2 (e ∷ es) (All-each _ (split-two b) (e ∷ es)))
+ranges-few b (e ∷ es) n o l = omega (arith, flatMap-length (split b) 2 (e ∷ es) (All-each _ (split-few b) (e ∷ es)))
 
 -- ROOM: both bounds, and for each rule twice the ranges that it has at most
 pub rules-roomy : (room n : ℕ) (rs : List Rule) (ds : List Dimension) → All (λ r. All (λ d. length (ranges (d .bounds) (d .items r)) ≤ n) ds) rs

@@ -1,6 +1,5 @@
 -- FROM THE POPPED GROUPS TO PAGES: a paving whose cells number the days of the boxes' lists gives the definition's groups, and a group's marked
 -- intervals, joined, are its runs. Rests on the law of popped groups and on the points of a box.
--- Assumes nothing.
 use mathlib.Core.Path.{_≡_, refl, sym, ap, ap₂, _∙_}
 use mathlib.Core.Bool.{Bool, true, false}
 use mathlib.Core.List.{List, [], _∷_, map, flatMap}

@@ -1,9 +1,8 @@
 -- ALL RULES DRAWN: THE LIST AT EVERY POINT. Rests on what an update means, and on the points of a box.
--- Assumes nothing.
 use mathlib.Core.Path.{_≡_, refl, sym, ap, ap₂, _∙_, subst}
 use mathlib.Core.Bool.{Bool, true, false}
 use mathlib.Core.Option.{some, none}
-use mathlib.Core.List.{List, [], _∷_, _++_, map}
+use mathlib.Core.List.{List, [], _∷_, map}
 use Prim.Native.Nat.{ℕ, suc, _+_, _*_, _<_, _/_}
 use native.Mathlib.Omega.{arith}
 use lib.Dec.{eqb, ltb}
@@ -17,23 +16,19 @@ use Rattle.definition.specs.Rule.{Rule, noRule}
 use Rattle.definition.specs.Point.{dimensions, points, selector, combinations, replaces, after, listFrom, listAt, tooLong, firstTooLong}
 use Rattle.definition.proofs.FoldBox.{list-marks}
 use Rattle.definition.proofs.Lawful.{Lawful}
+use Rattle.definition.proofs.Points.{list-append}
 use Rattle.paving.specs.Grid.{Node}
-use Rattle.paving_update.specs.Update.{leavesOf, Drawn, drawn, drawAll}
+use Rattle.draw_rule.specs.Update.{leavesOf, Drawn, drawn, drawAll}
 use Rattle.tables.specs.Sizes.{listPlaces, listLimit}
 use Rattle.tables.specs.Ranges.{countOf, selectorOf}
-use Rattle.paving_update.specs.Boxes.{afterNumber}
+use Rattle.draw_rule.specs.Boxes.{afterNumber}
 use Rattle.tables.specs.Lists.{listOf, Within, boxOf, startOf, Listed}
-use Rattle.paving_update.proofs.Meaning.{afterAt, update-rules, update-short, update-named, update-over, after-rules}
+use Rattle.draw_rule.proofs.Meaning.{afterAt, update-rules, update-short, update-named, update-over, after-rules}
 use Rattle.tables.specs.Cuts.{cutOf, CutBy}
 use Rattle.tables.specs.Rules.{ruleAt}
 use Rattle.paving_points.proofs.Boxes.{Under, somewhere-points, Bounded, lawful-bounded, cuts-rise, cuts-points, box-marks}
 
 -- ## A rule more, at a point
-list-append : (l rs qs : List Rule) (p : List ℕ) → listFrom l (rs ++ qs) p ≡ listFrom (listFrom l rs p) qs p
-unfolding listFrom
-list-append l [] qs p = refl
-list-append l (r ∷ rs) qs p = list-append (after r (combinations (selector dimensions r) p) l) rs qs p
-
 list-next : (rs : List Rule) (k : ℕ) (p : List ℕ) → k < length rs
     → listAt (take (suc k) rs) p ≡ after (ruleAt rs k) (combinations (selector dimensions (ruleAt rs k)) p) (listAt (take k rs) p)
 unfolding listFrom

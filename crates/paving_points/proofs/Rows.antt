@@ -1,6 +1,5 @@
 -- A row of cuts as intervals: it rises, has all coordinates of its dimension, and the points of an interval have its start's marks.
 -- Rests on grid's laws of cuts.
--- Assumes nothing.
 use mathlib.Core.Path.{_≡_, refl, sym, ap, ap₂, _∙_, subst}
 use mathlib.Core.List.{List, [], _∷_, map, flatMap}
 use Prim.Native.Nat.{ℕ, zero, suc, _+_, _-_, _≤_, _<_}

@@ -1,5 +1,4 @@
 -- A popped group as a page of the definition.
--- Assumes nothing.
 use mathlib.Core.List.{List, [], _∷_, map}
 use Prim.Native.Nat.{ℕ, zero, suc}
 use Rattle.grid.specs.Group.{Set, Group}

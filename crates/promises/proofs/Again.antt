@@ -1,5 +1,4 @@
 -- RULES DRAINED AGAIN: what becomes of the list at a point after rules that don't cover it, and after rules that all cover it once.
--- Assumes nothing.
 use mathlib.Core.Path.{_≡_, refl, sym, ap, _∙_}
 use mathlib.Core.List.{List, [], _∷_, _++_, append-assoc, append-nil}
 use mathlib.Core.Bool.{Bool, true, false}
@@ -11,11 +10,6 @@ use Rattle.definition.specs.Point.{dimensions, selector, combinations, replaces
 -- how often a rule covers a point
 abbrev pub times : Rule → List ℕ → ℕ
 times r p = combinations (selector dimensions r) p
-
-pub list-append : (l rs qs : List Rule) (p : List ℕ) → listFrom l (rs ++ qs) p ≡ listFrom (listFrom l rs p) qs p
-unfolding listFrom
-list-append l [] qs p = refl
-list-append l (r ∷ rs) qs p = list-append (after r (times r p) l) rs qs p
 
 -- a rule that doesn't cover the point leaves the list
 after-none : (r : Rule) (l : List Rule) → after r 0 l ≡ l

@@ -1,6 +1,5 @@
 -- DEMAND 1 AND 2, WRITING BACK: an entry that writes, with no code of its own; an accepted sheet is written as it came. Rests on the law of such
 -- entries, and on the round trip of sheets.
--- Assumes nothing.
 use mathlib.Core.Path.{ap, _∙_}
 use mathlib.Core.List.{List}
 use mathlib.Core.Logic.{inr}

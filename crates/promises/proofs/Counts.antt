@@ -1,5 +1,4 @@
 -- DEMAND 2: what an accepted fold counts and wrote, and that a refused one counted and wrote nothing. Rests on the conditions of the codes.
--- Assumes nothing.
 use mathlib.Core.Path.{_≡_, refl, sym, ap, _∙_, subst}
 use mathlib.Core.List.{List, _++_}
 use Prim.Native.Nat.{ℕ, _+_, _≤_}

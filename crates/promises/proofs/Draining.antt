@@ -1,5 +1,4 @@
 -- HOW DRAINED RULES ARE JUDGED: 5 where there are too many boxes, 6 where some list is too long, else fine. Rests on which list is too long.
--- Assumes nothing.
 use mathlib.Core.Path.{_≡_, refl, sym, ap, _∙_}
 use mathlib.Core.List.{List}
 use mathlib.Core.Logic.{_⊎_, inl, inr}

@@ -1,6 +1,5 @@
 -- HOW A SHEET ENDS: the padding's first set bit, bytes that follow, or neither; and what reading answers in each case. Rests on the
 -- definition of the first bit that is set.
--- Assumes nothing.
 use mathlib.Core.Path.{_≡_, refl, sym, ap, _∙_}
 use mathlib.Core.List.{List, [], _∷_}
 use mathlib.Core.Option.{none, some}

@@ -1,7 +1,6 @@
 -- DEMAND 1 AND 2, AN ENTRY THAT WRITES: reading refuses; then the entry may refuse by codes of its own; then there is room for what it writes, or
 -- not. For every entry of that shape each code comes exactly when its row of the table holds, with its place, and a refused sheet isn't written.
 -- Rests on how a sheet is read.
--- Assumes nothing.
 use mathlib.Core.Path.{_≡_, refl, sym, ap, ap₂, _∙_, subst}
 use mathlib.Core.List.{List, []}
 use mathlib.Core.Logic.{_⊎_, inl, inr}

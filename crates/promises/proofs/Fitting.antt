@@ -1,6 +1,5 @@
 -- WHAT THE FOLD WRITES FITS THE LAYOUT, read with the limits of the counts' own widths: the ends of its items lie within the bounds, its
 -- states are those of the sheet's rules, its spans theirs or painted runs, and its counts fit. Rests on the laws of counts and of days.
--- Assumes nothing.
 use mathlib.Core.Path.{_≡_, refl}
 use mathlib.Core.List.{List, [], _∷_, map}
 use mathlib.Core.Bool.{Bool, true, false, _&&_}

@@ -1,6 +1,5 @@
 -- DEMAND 1, THE FOLD: each code comes exactly when its row of the table holds, with its place. The rows are all there are, so a code tells
 -- its row; and each row settles the fold. Rests on how a sheet is read and how drained rules are judged.
--- Assumes nothing.
 use mathlib.Core.Path.{_≡_, refl, sym, ap, _∙_, subst}
 use mathlib.Core.List.{List}
 use mathlib.Core.Logic.{_⊎_, inl, inr}

@@ -1,6 +1,5 @@
 -- DEMAND 3, of all that the fold wrote: the folded rules don't stop, so whoever drains it drains just them, and the rules left are left again.
 -- Rests on what the folded rules mean, and on the law that what holds of a list's spans holds of its day's.
--- Assumes nothing.
 use mathlib.Core.Path.{_≡_, refl, sym, ap, _∙_, subst}
 use mathlib.Core.List.{List, [], _∷_, _++_, map, append-nil}
 use mathlib.Core.Bool.{Bool, true, false, not, true≢false}

@@ -1,6 +1,5 @@
 -- THE RULES OF ONE GROUP, drained again: where its set has the point they are the list, elsewhere they leave it as it was; they have the
 -- entries of the group's day; and they are a group as demand 3 asks. Rests on the laws of rules laid over a set.
--- Assumes nothing.
 use mathlib.Core.Path.{_≡_, refl, sym, ap, ap₂, _∙_}
 use mathlib.Core.List.{List, [], _∷_, map}
 use mathlib.Core.Bool.{Bool, true, false, _&&_, not, cond, false≢true}

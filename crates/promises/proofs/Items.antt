@@ -1,6 +1,5 @@
 -- THE ITEMS OF A SET COVER ITS COORDINATES, each once, and no others of the dimension: its maximal runs rise, an item splits to the run that
 -- it was written from, and no items at all stand for the whole dimension.
--- Assumes nothing.
 use mathlib.Core.Path.{_≡_, refl, sym, ap, ap₂, _∙_, subst}
 use mathlib.Core.List.{List, [], _∷_, _++_, map, flatMap}
 use mathlib.Core.Bool.{Bool, true, false, _&&_, _||_, cond}

@@ -1,6 +1,5 @@
 -- A RULE LAID OVER A SET'S RUNS covers the set's points once, and no others; it keeps its operator, state and spans, and its days don't stop
 -- it; all rules laid over one set have the same days. Rests on the law of items.
--- Assumes nothing.
 use mathlib.Core.Path.{_≡_, refl, ap, ap₂, _∙_}
 use mathlib.Core.List.{List, [], _∷_, _++_, map, flatMap}
 use mathlib.Core.Bool.{Bool, true, false, _&&_, _||_, not, cond, false≢true}

@@ -1,6 +1,5 @@
 -- DEMAND 1 AND 2, THE LINE: an entry that writes, with the code 10 of its own; an accepted sheet is written as the line of its rules, in printable
 -- ASCII. Rests on the law of such entries, and on the laws of lines.
--- Assumes nothing.
 use mathlib.Core.Path.{_≡_, refl, sym, ap, _∙_, subst}
 use mathlib.Core.List.{List}
 use mathlib.Core.Logic.{_⊎_, inl, inr}

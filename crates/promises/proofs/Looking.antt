@@ -1,6 +1,5 @@
 -- WHAT THE LOOKUP TELLS is what the drained rules say, and so what the folded rules say. Rests on the lookup's table of codes, on demand 3,
 -- and on the calendar's law that a date has a week.
--- Assumes nothing.
 use mathlib.Core.Path.{_≡_, refl, sym, ap, _∙_}
 use mathlib.Core.List.{List, [], _∷_, map}
 use mathlib.Core.Bool.{true, cond}

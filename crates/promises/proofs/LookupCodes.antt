@@ -1,6 +1,5 @@
 -- DEMAND 1, THE LOOKUP: each code comes exactly when its row of the table holds, with its place. Rests on how a sheet is read and how
 -- drained rules are judged.
--- Assumes nothing.
 use mathlib.Core.Path.{_≡_, refl, sym, ap, ap₂, _∙_, subst}
 use mathlib.Core.List.{List, [], _∷_, map}
 use mathlib.Core.Logic.{_⊎_, inl, inr}

@@ -1,6 +1,5 @@
 -- DEMAND 3. The folded rules, drained again, have at each point the entries of that point's day; so they say what the drained rules said,
 -- since a day says what its list says. Rests on grid's laws of groups and on the laws of one group's rules.
--- Assumes nothing.
 use mathlib.Core.Path.{_≡_, refl, sym, ap, _∙_}
 use mathlib.Core.List.{List, [], _∷_, map, flatMap}
 use mathlib.Core.Bool.{Bool, true, false, cond, true≢false}
@@ -25,7 +24,8 @@ use Rattle.definition.proofs.Same.{exact-day}
 use Rattle.definition.proofs.Groups.{classes-empty, pointGroups, groups-cover, groups-apart}
 use Rattle.definition.proofs.DayShows.{day-shows}
 use Rattle.promises.specs.Meaning.{isPoint, SaySame, IsGroup, covered, Apart, InGroups}
-use Rattle.promises.proofs.Again.{list-append, list-out}
+use Rattle.definition.proofs.Points.{list-append}
+use Rattle.promises.proofs.Again.{list-out}
 use Rattle.promises.proofs.Group.{Sound, rules-entries, rules-out, rules-in, rules-uncovered, covered-inside, rules-group}
 
 -- the rules of groups, one group after the other

@@ -1,5 +1,4 @@
 -- WHAT HOLDS OF RULES' STATES AND SPANS HOLDS OF EVERY PAGE'S, if it holds of runs of minutes as well. Rests on the same law of a day.
--- Assumes nothing.
 use mathlib.Core.List.{List, [], _∷_, map, flatMap}
 use Rattle.laws.specs.Lists.{All}
 use Rattle.laws.proofs.Lists.{All-append}

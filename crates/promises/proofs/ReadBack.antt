@@ -1,6 +1,5 @@
 -- DEMAND 3, FROM BYTES TO BYTES: what an accepted fold wrote is read again as its folded rules and the rules left. Rests on the law that it
 -- fits the layout, and on the round trip of sheets.
--- Assumes nothing.
 use mathlib.Core.Path.{_≡_, refl, sym, ap, _∙_, subst}
 use mathlib.Core.List.{List, [], _∷_, _++_, map}
 use mathlib.Core.Bool.{Bool, true, false}

@@ -1,6 +1,5 @@
 -- HOW A SHEET IS READ: refused by 1, 2 or 4 where its fields meet one that is refused, by 3 where it ends badly, else accepted. Rests on the
 -- laws of how a sheet is refused and how it ends.
--- Assumes nothing.
 use mathlib.Core.Path.{_≡_, refl, sym, ap, _∙_, subst}
 use mathlib.Core.List.{List}
 use mathlib.Core.Logic.{_⊎_, inl, inr}

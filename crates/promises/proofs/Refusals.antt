@@ -1,6 +1,5 @@
 -- A READING THAT IS REFUSED BY 1, 2 OR 4 NAMES A FIELD: the field that begins at its place runs past the end or holds a value that isn't
 -- lawful. Rests on how layouts are put together.
--- Assumes nothing.
 use mathlib.Core.Path.{_≡_, refl, sym, ap₂, subst}
 use mathlib.Core.List.{List, [], _∷_}
 use mathlib.Core.Option.{none}

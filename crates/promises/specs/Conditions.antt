@@ -1,6 +1,5 @@
 -- 01, "Numbers of the answer": the conditions that the table of codes speaks of, each without those before it in the order "1, 2 and 4 as
 -- met from the first bit on; then 3, 8, 5, 6, 9, 7", with 10 of 02 "after 3, before 7".
--- Assumes nothing.
 use mathlib.Core.Path.{_≡_}
 use mathlib.Core.List.{List}
 use mathlib.Core.Logic.{_⊎_}

@@ -1,7 +1,6 @@
 -- Demand 2: the numbers of an accepted fold are counts over its rules, and what it wrote is the folded rules, then the rules left; a refused
 -- fold counts nothing and writes nothing; the same of writing back and of the line, which is printable ASCII. 01: "Two accepted folds with
 -- the same drained rules have the same folded rules, whichever rules are left in each."
--- Assumes nothing.
 use mathlib.Core.Path.{_≡_}
 use mathlib.Core.List.{List, [], _++_}
 use Prim.Native.Nat.{ℕ, _+_, _≤_, _<_}

@@ -1,6 +1,5 @@
 -- 01, "The packed sheet": the kinds of fields that a sheet has, how wide they are, which values are lawful in them, and the code of a value
 -- that isn't: 4 in a count, 2 in any other field. So what a refusal by 1, 2 or 4 tells of the bits at its place.
--- Assumes nothing.
 use mathlib.Core.Path.{_≡_}
 use mathlib.Core.List.{List}
 use mathlib.Core.Logic.{_⊎_}

@@ -1,6 +1,5 @@
 -- What an accepted lookup tells: the kind and comment that the drained rules say at the date's point and minute, and that the folded rules
 -- say there, whatever spans that aren't simple cover. A refused one tells neither.
--- Assumes nothing.
 use mathlib.Core.Path.{_≡_}
 use mathlib.Core.List.{List}
 use Prim.Native.Nat.{ℕ}

@@ -1,7 +1,6 @@
 -- Demand 3: what the fold wrote, drained by 01's rule, says at every point and minute the kind and comment that the drained rules of the
 -- sheet said, for every choice, point by point, of the minutes that non-simple spans cover. Its drained rules form groups that share no
 -- point; each opens with a Normal rule, its others are Additional, over the same days. The rules left are the sheet's.
--- Assumes nothing.
 use mathlib.Core.Path.{_≡_}
 use mathlib.Core.List.{List, [], _∷_, flatMap}
 use mathlib.Core.Bool.{Bool, true, false, not}

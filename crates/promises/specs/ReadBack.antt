@@ -1,7 +1,6 @@
 -- Demand 3, from bytes to bytes: what an accepted fold wrote can be read again, and its rules mean what the sheet's mean. 01 sets limits to
 -- what a sheet is read from and none to what is written, so it is read with the limits of the counts' own widths: a folded rule may
 -- have more than 16 items, and a fold more than 64 rules.
--- Assumes nothing.
 use mathlib.Core.Path.{_≡_}
 use mathlib.Core.List.{List}
 use Prim.Native.Nat.{ℕ, _-_, _^_, _<_}

@@ -1,6 +1,5 @@
 -- A field read in the sheet's bytes from its own byte on is the field of the whole sheet. Rests on the definition's laws of bits and
 -- on those of crate `field`.
--- Assumes nothing.
 use mathlib.Core.Path.{_≡_, refl, sym, ap, _∙_}
 use mathlib.Core.List.{List}
 use mathlib.Core.Bool.{Bool, true, false}

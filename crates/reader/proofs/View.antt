@@ -1,5 +1,4 @@
 -- The view as the walks of `moved` and `take` go by it: its type over the signature's lifetime, with its laws, and its fields' values.
--- Assumes nothing.
 use base.Fml.{Lft}
 use contract.Lifetimes.{Lfts}
 use denote.RattleType.{RattleType}

@@ -1,6 +1,5 @@
 -- What an answer of the reader says: the definition's reading of the field, or why it is too large to be said. Too large is a width
 -- that no field of the sheet has, or an end at or past bit 2 ^ 64 of a sheet that goes so far. Rests on the definition's layouts.
--- Assumes nothing.
 use mathlib.Core.Path.{_≡_}
 use mathlib.Core.Logic.{_⊎_}
 use mathlib.Core.List.{List}

@@ -1,6 +1,6 @@
 // Does the fold of a sheet do what a record tells? Told: CODE DRAINED EMITTED LEFT BYTES PLACE ROOM, and the bytes at the front of the buffer.
 use crate::buffer;
-use records::number;
+use replay_records::number;
 ghost use Prim.Native.Nat.{_≤_};
 ghost use lib.ListN.{length};
 

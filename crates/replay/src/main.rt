@@ -50,7 +50,7 @@ fn agrees_body(sort: Sort, body: &[u8], length: usize) -> bool {
 // What follows a record's two numbers is read and compared. A file that ends in between differs.
 fn compare_body(fd: i32, sort: Sort, length: usize, size: usize) -> Compared {
     let mut body = io::large_buffer();
-    let taken = records::take(fd, &mut body, size);
+    let taken = replay_records::take(fd, &mut body, size);
     if taken == size && agrees_body(sort, &body[..taken], length) {
         Compared::Same
     } else {
@@ -67,8 +67,8 @@ fn compare_record(fd: i32, sort: Sort) -> Compared {
     compare_body(
         fd,
         sort,
-        records::number(&numbers, 0),
-        records::number(&numbers, 3),
+        replay_records::number(&numbers, 0),
+        replay_records::number(&numbers, 3),
     )
 }
 

@@ -2,7 +2,7 @@
 // buffer.
 use crate::buffer;
 use answers::Written;
-use records::number;
+use replay_records::number;
 ghost use Prim.Native.Nat.{_≤_};
 ghost use lib.ListN.{length};
 

@@ -1,5 +1,4 @@
 -- How long what is written is: items of a sort, times, repeats, spans, rows and a whole rule.
--- Assumes nothing.
 use mathlib.Core.Path.{_≡_, refl, ap, _∙_}
 use mathlib.Core.List.{List, [], _∷_, _++_, flatMap}
 use Prim.Native.Nat.{ℕ, _+_, _*_, _-_, _/_, _%_, _≤_, _<_, _^_}
@@ -10,7 +9,7 @@ use Rattle.definition.specs.Field.{bits, field, _then_, via, tagged}
 use Rattle.definition.specs.Range.{Ends}
 use Rattle.definition.specs.Sheet.{yearRange, monthdayOf, monthdayRange, weekRange, time, repeatsLayout, span, form1, limits1, title, counts}
 use Rattle.definition.proofs.Bits.{length-bits}
-use Rattle.span_number.specs.Number.{timeAt, repeatsAt, spanAt}
+use Rattle.codes.specs.Number.{timeAt, repeatsAt, spanAt}
 use Rattle.item_writer.proofs.Items.{days-bits, fixed-bits, variable-bits, no-repeats, repeats-bits, span-bits}
 use Rattle.rule_writer.specs.Rows.{itemBits, rowBits, rowsBits, spansAt, titleOf, countsOf}
 use Rattle.tables.specs.Items.{endsAt, rowPlace}

@@ -1,6 +1,6 @@
 // How many bits items, rows, spans and a whole rule take, before anything is written: the lengths of what `rule_writer` writes.
+use casts::u16_to_usize;
 use field::width;
-use rule_writer::row::size;
 ghost use mathlib.Core.Path.{_≡_};
 ghost use mathlib.Core.List.{List, flatMap};
 ghost use Prim.Native.Nat.{ℕ, _+_, _*_, _≤_, _<_, _^_};
@@ -8,7 +8,7 @@ ghost use lib.ListN.{length, getD};
 ghost use Rattle.definition.specs.Field.{Layout};
 ghost use Rattle.definition.specs.Range.{Ends};
 ghost use Rattle.definition.specs.Sheet.{time, span};
-ghost use Rattle.span_number.specs.Number.{timeAt, spanAt};
+ghost use Rattle.codes.specs.Number.{timeAt, spanAt};
 ghost use Rattle.rule_writer.specs.Rows.{itemBits, rowsBits, spansAt};
 ghost use Rattle.tables.specs.Items.{rowPlace};
 ghost use Rattle.rule_writer.specs.Written.{ruleBits};
@@ -28,15 +28,15 @@ fn item_bits(sort: usize) -> usize
 }
 
 // The rows of the sorts from one on, whatever their ends.
-fn rows_bits(counts: &[u16], sort: usize) -> usize
-    requires { ⌜ (4 ≤ length (now counts)) × ((s : ℕ) → getD (now counts) s 0 < 2 ^ 10) × (sort ≤ 4) ⌝ }
-    ensures { λ r. ⌜ ((ends : List ℕ) → rowPlace (now (counts .entry)) 4 ≤ length ends → length (rowsBits ends (now (counts .entry)) sort) ≡ r) × (r + 45056 * sort ≤ 180224) ⌝ }
+fn rows_bits(item_counts: &[u16], sort: usize) -> usize
+    requires { ⌜ (4 ≤ length (now «item_counts»)) × ((s : ℕ) → getD (now «item_counts») s 0 < 2 ^ 10) × (sort ≤ 4) ⌝ }
+    ensures { λ r. ⌜ ((ends : List ℕ) → rowPlace (now («item_counts» .entry)) 4 ≤ length ends → length (rowsBits ends (now («item_counts» .entry)) sort) ≡ r) × (r + 45056 * sort ≤ 180224) ⌝ }
 {
     if sort == 4 {
         return 0;
     }
-    let behind = rows_bits(counts, sort + 1);
-    size(counts[sort]) * item_bits(sort) + behind
+    let behind = rows_bits(item_counts, sort + 1);
+    u16_to_usize(item_counts[sort]) * item_bits(sort) + behind
 }
 
 fn time_bits(number: u64) -> usize
@@ -52,8 +52,8 @@ fn time_bits(number: u64) -> usize
 fn span_bits(number: u64) -> usize
     ensures { λ r. ⌜ (length (span .write (spanAt number)) ≡ r) × (r ≤ 52) ⌝ }
 {
-    let start = time_bits(span_number::start_of(number));
-    let end = time_bits(span_number::end_of(number));
+    let start = time_bits(codes::start_of(number));
+    let end = time_bits(codes::end_of(number));
     if number % 8192 == 0 {
         start + end + width::FLAG + width::FLAG
     } else {
@@ -61,25 +61,25 @@ fn span_bits(number: u64) -> usize
     }
 }
 
-fn spans_bits(spans: &[u64], first: usize, many: usize) -> usize
-    requires { ⌜ (first + many ≤ length (now spans)) × (many < 2 ^ 10) ⌝ }
-    ensures { λ r. ⌜ (length (flatMap (span .write) (spansAt (now (spans .entry)) first many)) ≡ r) × (r ≤ 52 * many) ⌝ }
+fn spans_bits(spans: &[u64], first: usize, span_count: usize) -> usize
+    requires { ⌜ (first + «span_count» ≤ length (now spans)) × («span_count» < 2 ^ 10) ⌝ }
+    ensures { λ r. ⌜ (length (flatMap (span .write) (spansAt (now (spans .entry)) first «span_count»)) ≡ r) × (r ≤ 52 * «span_count») ⌝ }
 {
-    if many == 0 {
+    if span_count == 0 {
         return 0;
     }
-    let behind = spans_bits(spans, first + 1, many - 1);
+    let behind = spans_bits(spans, first + 1, span_count - 1);
     span_bits(spans[first]) + behind
 }
 
 // A whole rule, whatever its operator, its state and its ends.
-pub fn rule_bits(counts: &[u16], spans: &[u64], first: usize, many: usize) -> usize
-    requires { ⌜ (4 ≤ length (now counts)) × ((s : ℕ) → getD (now counts) s 0 < 2 ^ 10) ⌝ }
-    requires { ⌜ (first + many ≤ length (now spans)) × (many < 2 ^ 10) ⌝ }
-    ensures { λ r. ⌜ ((operator state : ℕ) (ends : List ℕ) → rowPlace (now (counts .entry)) 4 ≤ length ends
-        → length (ruleBits operator state ends (now (counts .entry)) (spansAt (now (spans .entry)) first many)) ≡ r) × (r < 2 ^ 18) ⌝ }
+pub fn rule_bits(item_counts: &[u16], spans: &[u64], first: usize, span_count: usize) -> usize
+    requires { ⌜ (4 ≤ length (now «item_counts»)) × ((s : ℕ) → getD (now «item_counts») s 0 < 2 ^ 10) ⌝ }
+    requires { ⌜ (first + «span_count» ≤ length (now spans)) × («span_count» < 2 ^ 10) ⌝ }
+    ensures { λ r. ⌜ ((operator state : ℕ) (ends : List ℕ) → rowPlace (now («item_counts» .entry)) 4 ≤ length ends
+        → length (ruleBits operator state ends (now («item_counts» .entry)) (spansAt (now (spans .entry)) first «span_count»)) ≡ r) × (r < 2 ^ 18) ⌝ }
 {
-    let rows = rows_bits(counts, 0);
-    let times = spans_bits(spans, first, many);
+    let rows = rows_bits(item_counts, 0);
+    let times = spans_bits(spans, first, span_count);
     width::HEAD + rows + times
 }

@@ -1,5 +1,4 @@
 -- The days and spans of a rule, by the counts that were read: what is told of them is the rule's own, and stands near.
--- Assumes nothing.
 use mathlib.Core.Path.{_≡_, ap₂, _∙_}
 use mathlib.Core.List.{List}
 use mathlib.Core.Bool.{_||_, not}
@@ -11,7 +10,7 @@ use Rattle.definition.specs.Stop.{monthdayStops, weekdayStops}
 use Rattle.definition.specs.Text.{Text, several}
 use Rattle.definition.specs.Line.{isPlain, spanText}
 use Rattle.definition.proofs.Lengths.{counts-low}
-use Rattle.sheet.specs.Begin.{ruleAt, Readable}
+use Rattle.sheet.specs.Begin.{ruleReadAt, Readable}
 use Rattle.sheet.proofs.Titles.{parts, counts-same}
 use Rattle.rule_text.specs.Tale.{Tale, tale}
 use Rattle.rule_text.specs.Row.{itemsTold}
@@ -23,14 +22,14 @@ module _ (s : List ℕ) (p : ℕ) (readable : Readable s p) (n : Counts) (q : �
   counts-few = counts-low s (p + 20) n q e
 
   pub days-told : daysTold (n .0) (n .1 .0) (n .1 .1 .0) (n .1 .1 .1 .0) s q
-      ≡ tale (daysText (ruleAt s p)) (anyOf monthdayStops ((ruleAt s p) .monthdays) || anyOf weekdayStops ((ruleAt s p) .weekdays))
+      ≡ tale (daysText (ruleReadAt s p)) (anyOf monthdayStops ((ruleReadAt s p) .monthdays) || anyOf weekdayStops ((ruleReadAt s p) .weekdays))
       ((parts s p readable) .spans-at)
   days-told =
       let same = counts-same s p readable n q e in
-      ap₂ (λ m j. daysTold (m .0) (m .1 .0) (m .1 .1 .0) (m .1 .1 .1 .0) s j) (same .0) (same .1) ∙ days-read s p (ruleAt s p) (readable .end)
+      ap₂ (λ m j. daysTold (m .0) (m .1 .0) (m .1 .1 .0) (m .1 .1 .1 .0) s j) (same .0) (same .1) ∙ days-read s p (ruleReadAt s p) (readable .end)
       (parts s p readable)
 
   pub spans-told : (j : ℕ) → j ≡ (parts s p readable) .spans-at
       → itemsTold 4 (n .1 .1 .1 .1) s j
-      ≡ tale ((several "," spanText) .write ((ruleAt s p) .spans)) (anyOf (λ x. not (isPlain x)) ((ruleAt s p) .spans)) (readable .end)
-  spans-told j f = ap₂ (λ m i. itemsTold 4 m s i) (counts-same s p readable n q e .2) f ∙ spans-read s p (ruleAt s p) (readable .end) (parts s p readable)
+      ≡ tale ((several "," spanText) .write ((ruleReadAt s p) .spans)) (anyOf (λ x. not (isPlain x)) ((ruleReadAt s p) .spans)) (readable .end)
+  spans-told j f = ap₂ (λ m i. itemsTold 4 m s i) (counts-same s p readable n q e .2) f ∙ spans-read s p (ruleReadAt s p) (readable .end) (parts s p readable)

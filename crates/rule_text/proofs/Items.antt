@@ -1,5 +1,4 @@
 -- The items of a sheet as the texts of their sorts: ends that were read lie within their bounds, and each text is the definition's.
--- Assumes nothing.
 use mathlib.Core.Path.{_≡_, refl, sym, ap, _∙_}
 use mathlib.Core.List.{List, []}
 use mathlib.Core.Option.{Option, none, some}

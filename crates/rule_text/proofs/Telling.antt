@@ -1,5 +1,4 @@
 -- What is told of a reading, and the answers that show it: one lemma for each way in which a reader of an item returns.
--- Assumes nothing.
 use mathlib.Core.Path.{_≡_, refl, sym, ap₂, _∙_, subst}
 use mathlib.Core.List.{List, []}
 use mathlib.Core.Bool.{Bool, true, false, _||_}

@@ -1,5 +1,4 @@
 -- What is told of a row of items, of the items behind its first, and of the part of a rule that it makes.
--- Assumes nothing.
 use mathlib.Core.List.{List, [], _++_}
 use mathlib.Core.Bool.{false, _||_, cond}
 use Prim.Native.Nat.{ℕ, zero, suc}

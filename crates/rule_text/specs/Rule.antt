@@ -1,5 +1,4 @@
 -- The text of a rule in the order in which it is put: what stands before it, days and spans, kind and comment.
--- Assumes nothing.
 use mathlib.Core.Path.{_≡_}
 use mathlib.Core.List.{List, [], _++_}
 use mathlib.Core.Bool.{Bool, _&&_, _||_, not, cond}

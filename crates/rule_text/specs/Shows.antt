@@ -1,5 +1,4 @@
 -- An answer that shows what is told: the bit and the place after it, whether some of it has no words, and the text in the buffer.
--- Assumes nothing.
 use mathlib.Core.Path.{_≡_}
 use mathlib.Core.List.{List}
 use mathlib.Core.Bool.{true}

@@ -15,7 +15,7 @@ ghost use Rattle.definition.specs.Field.{sheetBits};
 ghost use Rattle.definition.specs.Rule.{operatorOf};
 ghost use Rattle.definition.specs.Point.{isNormal};
 ghost use Rattle.definition.specs.Show.{wordless};
-ghost use Rattle.sheet.specs.Begin.{ruleAt, Readable};
+ghost use Rattle.sheet.specs.Begin.{ruleReadAt, Readable};
 ghost use Rattle.text.specs.Put.{Put, Within};
 ghost use Rattle.rule_text.specs.Shows.{Shows};
 ghost use Rattle.rule_text.specs.Rule.{daysTold, bodyText, startText, shownText, lacksWords, Tells};
@@ -56,8 +56,8 @@ fn show_days(
 // The days and the spans of the rule at a bit. "a rule with 0 spans" has no words.
 fn show_body(sheet: &[u8], at: usize, out: &mut [u8], place: usize) -> Told
     requires { ⌜ Readable (sheetBits (now sheet)) at ⌝ }
-    requires { ⌜ (at < 2 ^ 25) × Within place (bodyText (ruleAt (sheetBits (now sheet)) at)) ⌝ }
-    ensures { λ r. ⌜ Tells (bodyText (ruleAt (sheetBits (now (sheet .entry))) at)) (wordless (ruleAt (sheetBits (now (sheet .entry))) at)) (now (out .entry)) place r (now (out .exit)) ⌝ }
+    requires { ⌜ (at < 2 ^ 25) × Within place (bodyText (ruleReadAt (sheetBits (now sheet)) at)) ⌝ }
+    ensures { λ r. ⌜ Tells (bodyText (ruleReadAt (sheetBits (now (sheet .entry))) at)) (wordless (ruleReadAt (sheetBits (now (sheet .entry))) at)) (now (out .entry)) place r (now (out .exit)) ⌝ }
 {
     let counts = sheet::rule::counts_at(sheet, at + width::TITLE);
     match counts {
@@ -97,8 +97,9 @@ fn begins_wrong(first: bool, operator: u64) -> bool
 // The rule at a bit, the first one or a later one.
 pub fn show_rule(sheet: &[u8], at: usize, first: bool, out: &mut [u8], place: usize) -> Told
     requires { ⌜ Readable (sheetBits (now sheet)) at ⌝ }
-    requires { ⌜ (at < 2 ^ 25) × Within place (shownText first (ruleAt (sheetBits (now sheet)) at)) ⌝ }
-    ensures { λ r. ⌜ Tells (shownText first (ruleAt (sheetBits (now (sheet .entry))) at)) (lacksWords first (ruleAt (sheetBits (now (sheet .entry))) at)) (now (out .entry)) place r (now (out .exit)) ⌝ }
+    requires { ⌜ (at < 2 ^ 25) × Within place (shownText first (ruleReadAt (sheetBits (now sheet)) at)) ⌝ }
+    ensures { λ r. ⌜ Tells (shownText first (ruleReadAt (sheetBits (now (sheet .entry))) at)) (lacksWords first (ruleReadAt (sheetBits (now (sheet .entry))) at))
+        (now (out .entry)) place r (now (out .exit)) ⌝ }
 {
     let title = sheet::rule::title_at(sheet, at);
     match title {

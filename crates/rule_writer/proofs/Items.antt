@@ -1,5 +1,4 @@
 -- The item of a sort, sort by sort; and a head's bits.
--- Assumes nothing.
 use mathlib.Core.Path.{_≡_, refl, sym, ap, ap₂, _∙_}
 use mathlib.Core.Bool.{Bool, true, false}
 use mathlib.Core.List.{List, _++_, append-assoc}
@@ -14,7 +13,7 @@ use Rattle.definition.specs.Rule.{yearBounds, monthBounds, weekBounds, weekdayB
 use Rattle.definition.specs.Range.{Ends}
 use Rattle.definition.specs.Sheet.{yearRange, monthdayRange, weekRange, weekDayRange, form1, limits1, title, counts}
 use Rattle.definition.proofs.Items.{operator-number}
-use Rattle.span_number.specs.Number.{stateAt}
+use Rattle.codes.specs.Number.{stateCoded}
 use Rattle.item_writer.specs.Written.{yearsFrom, weeksFrom, daysFrom}
 use Rattle.rule_writer.specs.Rows.{itemBits, titleOf, countsOf}
 use Rattle.tables.specs.Items.{upperOf}
@@ -42,27 +41,27 @@ module _ (sort : ℕ) (e : Ends) where
       (rw (not0, not1, not2) refl, rw (not0, not1, not2) refl)
 
 -- ## A head
-comment-number : (state : ℕ) → state < 196608 → stateAt state .comment ≡ state % 65536
-unfolding stateAt
+comment-number : (state : ℕ) → state < 196608 → stateCoded state .comment ≡ state % 65536
+unfolding stateCoded
 comment-number state l = go (ltb state 65536) refl (ltb state 131072) refl
   where
-    go : (a : Bool) → ltb state 65536 ≡ a → (b : Bool) → ltb state 131072 ≡ b → stateAt state .comment ≡ state % 65536
+    go : (a : Bool) → ltb state 65536 ≡ a → (b : Bool) → ltb state 131072 ≡ b → stateCoded state .comment ≡ state % 65536
     go true p b q = rw p (omega (arith, ltb-true state 65536 p))
     go false p true q = rw (p, q) (omega (arith, ltb-false state 65536 p, ltb-true state 131072 q))
     go false p false q = rw (p, q) (omega (arith, ltb-false state 131072 q))
 
-pub title-bits : (operator state kind : ℕ) → operator < 3 → state < 196608 → kind ≡ kindNumber (stateAt state .kind)
+pub title-bits : (operator state kind : ℕ) → operator < 3 → state < 196608 → kind ≡ kindNumber (stateCoded state .kind)
     → title form1 limits1 .write (titleOf operator state) ≡ bits 2 operator ++ (bits 2 kind ++ bits 16 (state % 65536))
 unfolding title _then_ via field
 title-bits operator state kind o s k =
-    ap₂ (λ a b. bits 2 a ++ (bits 2 (kindNumber (stateAt state .kind)) ++ bits 16 b)) (operator-number operator o) (comment-number state s)
+    ap₂ (λ a b. bits 2 a ++ (bits 2 (kindNumber (stateCoded state .kind)) ++ bits 16 b)) (operator-number operator o) (comment-number state s)
     ∙ ap (λ a. bits 2 operator ++ (bits 2 a ++ bits 16 (state % 65536))) (sym k)
 
-pub kind-low : (state : ℕ) → kindNumber (stateAt state .kind) < 3
-unfolding stateAt
+pub kind-low : (state : ℕ) → kindNumber (stateCoded state .kind) < 3
+unfolding stateCoded
 kind-low state = go (ltb state 65536) refl (ltb state 131072) refl
   where
-    go : (a : Bool) → ltb state 65536 ≡ a → (b : Bool) → ltb state 131072 ≡ b → kindNumber (stateAt state .kind) < 3
+    go : (a : Bool) → ltb state 65536 ≡ a → (b : Bool) → ltb state 131072 ≡ b → kindNumber (stateCoded state .kind) < 3
     go true p b q = rw p (omega arith)
     go false p true q = rw (p, q) (omega arith)
     go false p false q = rw (p, q) (omega arith)

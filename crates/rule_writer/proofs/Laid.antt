@@ -1,6 +1,5 @@
 -- The bits of a rule: its title, its counts, its rows and its spans, one behind the other. And a rule laid over runs is the rule over
 -- their items.
--- Assumes nothing.
 use mathlib.Core.Path.{_≡_, refl, sym, ap, ap₂, _∙_}
 use mathlib.Core.List.{List, [], _∷_, _++_, map, flatMap, append-assoc}
 use Prim.Native.Nat.{ℕ, _+_, _≤_}

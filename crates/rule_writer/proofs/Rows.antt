@@ -1,6 +1,5 @@
 -- Rows step by step: a row is its first pair and the row behind it; the rows from a sort on are its row and the rows from the next sort
 -- on; so for spans.
--- Assumes nothing.
 use mathlib.Core.Path.{_≡_, refl, sym, ap, ap₂, _∙_, subst}
 use mathlib.Core.List.{List, [], _∷_, _++_, map, flatMap}
 use Prim.Native.Nat.{ℕ, zero, suc, _+_, _*_, _-_, _≤_, _<_}
@@ -11,7 +10,7 @@ use Rattle.laws.specs.Lists.{from, All}
 use Rattle.definition.specs.Rule.{Span}
 use Rattle.definition.specs.Range.{Ends}
 use Rattle.definition.specs.Sheet.{span}
-use Rattle.span_number.specs.Number.{spanAt}
+use Rattle.codes.specs.Number.{spanAt}
 use Rattle.rule_writer.specs.Rows.{itemBits, rowBits, rowsBits, spansAt}
 use Rattle.tables.specs.Items.{pairs, endsAt, rowPlace, row}
 

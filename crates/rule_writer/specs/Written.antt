@@ -1,5 +1,4 @@
 -- The rule that is written: an entry's rule laid over rows of items, dimension by dimension, in the definition's words.
--- Assumes nothing.
 use mathlib.Core.List.{List, [], _∷_}
 use Prim.Native.Nat.{ℕ}
 use Rattle.grid.specs.Cut.{Range}
@@ -8,7 +7,7 @@ use Rattle.definition.specs.Range.{Ends}
 use Rattle.definition.specs.Sheet.{form1, limits1, rule}
 use Rattle.definition.specs.Point.{Dimension, dimensions}
 use Rattle.definition.specs.Group.{itemsOf, asRule}
-use Rattle.span_number.specs.Number.{stateAt}
+use Rattle.codes.specs.Number.{stateCoded}
 use Rattle.tables.specs.Items.{overItems, rowsBelow}
 
 -- the items of runs, dimension by dimension
@@ -19,7 +18,7 @@ itemsIn (d ∷ ds) (R ∷ Rs) = itemsOf (d .bounds) R ∷ itemsIn ds Rs
 
 -- the rule, and its bits
 abbrev pub ruleOf : ℕ → ℕ → List ℕ → List ℕ → List Span → Rule
-ruleOf operator state ends counts spans = overItems dimensions (rowsBelow ends counts 4) (asRule (operatorOf operator) (stateAt state, spans))
+ruleOf operator state ends counts spans = overItems dimensions (rowsBelow ends counts 4) (asRule (operatorOf operator) (stateCoded state, spans))
 
 abbrev pub ruleBits : ℕ → ℕ → List ℕ → List ℕ → List Span → List ℕ
 ruleBits operator state ends counts spans = rule form1 limits1 .write (ruleOf operator state ends counts spans)

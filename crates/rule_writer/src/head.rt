@@ -1,27 +1,21 @@
 // A rule's head: operator and state, and five counts.
-use crate::row::wide;
+use casts::u8_to_u64;
+use casts::u16_to_u64;
 use field::width;
 use item_writer::put::put;
 use item_writer::put::put_three;
-ghost use mathlib.Core.Path.{_≡_};
 ghost use Prim.Native.Nat.{ℕ, _≤_, _<_, _^_};
 ghost use lib.ListN.{length, getD};
 ghost use Rattle.definition.specs.Field.{Layout};
 ghost use Rattle.definition.specs.Sheet.{form1, limits1};
 ghost use Rattle.definition.specs.Sheet as sheet;
-ghost use Rattle.item_writer.specs.Written.{Room, Wrote};
+ghost use Rattle.item_writer.specs.Written.{RoomFor, Wrote};
 ghost use Rattle.rule_writer.specs.Rows.{titleOf, countsOf};
-
-fn wide8(x: u8) -> u64
-    ensures { λ r. ⌜ r ≡ x ⌝ }
-{
-    x as u64
-}
 
 // "Rule: operator 2 (0 Normal, 1 Additional, 2 Fallback); kind 2 (0 Open, 1 Closed, 2 Unknown); comment 16".
 pub fn put_title(out: &mut [u8], at: usize, operator: u64, state: u64) -> usize
     requires { ⌜ (operator < 3) × (state < 196608) ⌝ }
-    requires { ⌜ Room (length (now out)) at (sheet.title form1 limits1 .write (titleOf operator state)) ⌝ }
+    requires { ⌜ RoomFor (length (now out)) at (sheet.title form1 limits1 .write (titleOf operator state)) ⌝ }
     ensures { λ r. ⌜ Wrote (now (out .entry)) at (sheet.title form1 limits1 .write (titleOf operator state)) (now (out .exit)) r ⌝ }
 {
     put_three(
@@ -30,28 +24,33 @@ pub fn put_title(out: &mut [u8], at: usize, operator: u64, state: u64) -> usize
         width::CHOICE,
         operator,
         width::CHOICE,
-        wide8(span_number::kind_of(state)),
+        u8_to_u64(codes::kind_of(state)),
         width::COMMENT,
         state % 65536,
     )
 }
 
 // "five counts of 10 each: years, monthdays, weeks, weekdays, spans".
-pub fn put_counts(out: &mut [u8], at: usize, counts: &[u16], spans: u64) -> usize
-    requires { ⌜ (4 ≤ length (now counts)) × ((sort : ℕ) → getD (now counts) sort 0 < 2 ^ 10) × (spans < 2 ^ 10) ⌝ }
-    requires { ⌜ Room (length (now out)) at (sheet.counts form1 limits1 .write (countsOf (now counts) spans)) ⌝ }
-    ensures { λ r. ⌜ Wrote (now (out .entry)) at (sheet.counts form1 limits1 .write (countsOf (now (counts .entry)) spans)) (now (out .exit)) r ⌝ }
+pub fn put_counts(out: &mut [u8], at: usize, item_counts: &[u16], spans: u64) -> usize
+    requires { ⌜ (4 ≤ length (now «item_counts»)) × ((sort : ℕ) → getD (now «item_counts») sort 0 < 2 ^ 10) × (spans < 2 ^ 10) ⌝ }
+    requires { ⌜ RoomFor (length (now out)) at (sheet.counts form1 limits1 .write (countsOf (now «item_counts») spans)) ⌝ }
+    ensures { λ r. ⌜ Wrote (now (out .entry)) at (sheet.counts form1 limits1 .write (countsOf (now («item_counts» .entry)) spans)) (now (out .exit)) r ⌝ }
 {
     let weekdays_at = put_three(
         out,
         at,
         width::ITEM_COUNT,
-        wide(counts[0]),
+        u16_to_u64(item_counts[0]),
         width::ITEM_COUNT,
-        wide(counts[1]),
+        u16_to_u64(item_counts[1]),
         width::ITEM_COUNT,
-        wide(counts[2]),
+        u16_to_u64(item_counts[2]),
     );
-    let spans_at = put(out, weekdays_at, width::ITEM_COUNT, wide(counts[3]));
+    let spans_at = put(
+        out,
+        weekdays_at,
+        width::ITEM_COUNT,
+        u16_to_u64(item_counts[3]),
+    );
     put(out, spans_at, width::ITEM_COUNT, spans)
 }

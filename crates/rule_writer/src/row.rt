@@ -1,4 +1,6 @@
 // Rows of items: pairs of ends of one sort, the four sorts one behind the other, and spans from their numbers.
+use casts::u16_to_u64;
+use casts::u16_to_usize;
 use item_writer::day::put_months;
 use item_writer::day::put_weekdays;
 use item_writer::day::put_weeks;
@@ -11,27 +13,15 @@ ghost use lib.ListN.{length};
 ghost use Rattle.laws.specs.Lists.{All};
 ghost use Rattle.definition.specs.Field.{Layout};
 ghost use Rattle.definition.specs.Sheet.{span};
-ghost use Rattle.item_writer.specs.Written.{Room, Wrote};
+ghost use Rattle.item_writer.specs.Written.{RoomFor, Wrote};
 ghost use Rattle.rule_writer.specs.Rows.{itemBits, rowBits, rowsBits, spansAt};
 ghost use Rattle.tables.specs.Items.{upperOf, Below, endsAt, Rows, rowPlace};
 ghost use Rattle.tables.specs.Days.{FitsSpan};
 
-pub fn wide(x: u16) -> u64
-    ensures { λ r. ⌜ r ≡ x ⌝ }
-{
-    x as u64
-}
-
-pub fn size(x: u16) -> usize
-    ensures { λ r. ⌜ r ≡ x ⌝ }
-{
-    x as usize
-}
-
 // An item of a sort: 0 years, 1 months, 2 weeks, 3 weekdays.
 fn put_item(out: &mut [u8], at: usize, sort: usize, start: u64, end: u64) -> usize
     requires { ⌜ Below (upperOf sort) (start, end) ⌝ }
-    requires { ⌜ Room (length (now out)) at (itemBits sort (start, end)) ⌝ }
+    requires { ⌜ RoomFor (length (now out)) at (itemBits sort (start, end)) ⌝ }
     ensures { λ r. ⌜ Wrote (now (out .entry)) at (itemBits sort (start, end)) (now (out .exit)) r ⌝ }
 {
     match sort {
@@ -49,18 +39,24 @@ pub fn put_row(
     sort: usize,
     ends: &[u16],
     place: usize,
-    many: usize,
+    item_count: usize,
 ) -> usize
-    requires { ⌜ place + 2 * many ≤ length (now ends) ⌝ }
-    requires { ⌜ All (Below (upperOf sort)) (endsAt (now ends) place many) ⌝ }
-    requires { ⌜ Room (length (now out)) at (rowBits sort (endsAt (now ends) place many)) ⌝ }
-    ensures { λ r. ⌜ Wrote (now (out .entry)) at (rowBits sort (endsAt (now (ends .entry)) place many)) (now (out .exit)) r ⌝ }
+    requires { ⌜ place + 2 * «item_count» ≤ length (now ends) ⌝ }
+    requires { ⌜ All (Below (upperOf sort)) (endsAt (now ends) place «item_count») ⌝ }
+    requires { ⌜ RoomFor (length (now out)) at (rowBits sort (endsAt (now ends) place «item_count»)) ⌝ }
+    ensures { λ r. ⌜ Wrote (now (out .entry)) at (rowBits sort (endsAt (now (ends .entry)) place «item_count»)) (now (out .exit)) r ⌝ }
 {
-    if many == 0 {
+    if item_count == 0 {
         return at;
     }
-    let next = put_item(out, at, sort, wide(ends[place]), wide(ends[place + 1]));
-    put_row(out, next, sort, ends, place + 2, many - 1)
+    let next = put_item(
+        out,
+        at,
+        sort,
+        u16_to_u64(ends[place]),
+        u16_to_u64(ends[place + 1]),
+    );
+    put_row(out, next, sort, ends, place + 2, item_count - 1)
 }
 
 // The rows of the sorts from one on, the first of them from a place on.
@@ -68,33 +64,40 @@ pub fn put_rows(
     out: &mut [u8],
     at: usize,
     ends: &[u16],
-    counts: &[u16],
+    item_counts: &[u16],
     sort: usize,
     place: usize,
 ) -> usize
-    requires { ⌜ Rows (now ends) (now counts) ⌝ }
-    requires { ⌜ (sort ≤ 4) × (place ≡ rowPlace (now counts) sort) ⌝ }
-    requires { ⌜ Room (length (now out)) at (rowsBits (now ends) (now counts) sort) ⌝ }
-    ensures { λ r. ⌜ Wrote (now (out .entry)) at (rowsBits (now (ends .entry)) (now (counts .entry)) sort) (now (out .exit)) r ⌝ }
+    requires { ⌜ Rows (now ends) (now «item_counts») ⌝ }
+    requires { ⌜ (sort ≤ 4) × (place ≡ rowPlace (now «item_counts») sort) ⌝ }
+    requires { ⌜ RoomFor (length (now out)) at (rowsBits (now ends) (now «item_counts») sort) ⌝ }
+    ensures { λ r. ⌜ Wrote (now (out .entry)) at (rowsBits (now (ends .entry)) (now («item_counts» .entry)) sort) (now (out .exit)) r ⌝ }
 {
     if sort == 4 {
         return at;
     }
-    let many = size(counts[sort]);
-    let next = put_row(out, at, sort, ends, place, many);
-    put_rows(out, next, ends, counts, sort + 1, place + 2 * many)
+    let item_count = u16_to_usize(item_counts[sort]);
+    let next = put_row(out, at, sort, ends, place, item_count);
+    put_rows(
+        out,
+        next,
+        ends,
+        item_counts,
+        sort + 1,
+        place + 2 * item_count,
+    )
 }
 
 // So many spans, their numbers from a place on.
-pub fn put_spans(out: &mut [u8], at: usize, spans: &[u64], first: usize, many: usize) -> usize
-    requires { ⌜ first + many ≤ length (now spans) ⌝ }
-    requires { ⌜ All FitsSpan (spansAt (now spans) first many) ⌝ }
-    requires { ⌜ Room (length (now out)) at (flatMap (span .write) (spansAt (now spans) first many)) ⌝ }
-    ensures { λ r. ⌜ Wrote (now (out .entry)) at (flatMap (span .write) (spansAt (now (spans .entry)) first many)) (now (out .exit)) r ⌝ }
+pub fn put_spans(out: &mut [u8], at: usize, spans: &[u64], first: usize, span_count: usize) -> usize
+    requires { ⌜ first + «span_count» ≤ length (now spans) ⌝ }
+    requires { ⌜ All FitsSpan (spansAt (now spans) first «span_count») ⌝ }
+    requires { ⌜ RoomFor (length (now out)) at (flatMap (span .write) (spansAt (now spans) first «span_count»)) ⌝ }
+    ensures { λ r. ⌜ Wrote (now (out .entry)) at (flatMap (span .write) (spansAt (now (spans .entry)) first «span_count»)) (now (out .exit)) r ⌝ }
 {
-    if many == 0 {
+    if span_count == 0 {
         return at;
     }
     let next = put_span(out, at, spans[first]);
-    put_spans(out, next, spans, first + 1, many - 1)
+    put_spans(out, next, spans, first + 1, span_count - 1)
 }

@@ -6,7 +6,7 @@ use crate::row::put_spans;
 ghost use Prim.Native.Nat.{_+_, _≤_, _<_, _^_};
 ghost use lib.ListN.{length};
 ghost use Rattle.laws.specs.Lists.{All};
-ghost use Rattle.item_writer.specs.Written.{Room, Wrote};
+ghost use Rattle.item_writer.specs.Written.{RoomFor, Wrote};
 ghost use Rattle.rule_writer.specs.Rows.{spansAt};
 ghost use Rattle.tables.specs.Items.{Rows};
 ghost use Rattle.tables.specs.Days.{FitsSpan};
@@ -19,19 +19,19 @@ pub fn put_rule(
     operator: u64,
     state: u64,
     ends: &[u16],
-    counts: &[u16],
+    item_counts: &[u16],
     spans: &[u64],
     first: usize,
-    many: usize,
+    span_count: usize,
 ) -> usize
     requires { ⌜ (operator < 3) × (state < 196608) ⌝ }
-    requires { ⌜ Rows (now ends) (now counts) ⌝ }
-    requires { ⌜ (first + many ≤ length (now spans)) × (many < 2 ^ 10) × All FitsSpan (spansAt (now spans) first many) ⌝ }
-    requires { ⌜ Room (length (now out)) at (ruleBits operator state (now ends) (now counts) (spansAt (now spans) first many)) ⌝ }
-    ensures { λ r. ⌜ Wrote (now (out .entry)) at (ruleBits operator state (now (ends .entry)) (now (counts .entry)) (spansAt (now (spans .entry)) first many)) (now (out .exit)) r ⌝ }
+    requires { ⌜ Rows (now ends) (now «item_counts») ⌝ }
+    requires { ⌜ (first + «span_count» ≤ length (now spans)) × («span_count» < 2 ^ 10) × All FitsSpan (spansAt (now spans) first «span_count») ⌝ }
+    requires { ⌜ RoomFor (length (now out)) at (ruleBits operator state (now ends) (now «item_counts») (spansAt (now spans) first «span_count»)) ⌝ }
+    ensures { λ r. ⌜ Wrote (now (out .entry)) at (ruleBits operator state (now (ends .entry)) (now («item_counts» .entry)) (spansAt (now (spans .entry)) first «span_count»)) (now (out .exit)) r ⌝ }
 {
     let counts_at = put_title(out, at, operator, state);
-    let rows_at = put_counts(out, counts_at, counts, many as u64);
-    let spans_at = put_rows(out, rows_at, ends, counts, 0, 0);
-    put_spans(out, spans_at, spans, first, many)
+    let rows_at = put_counts(out, counts_at, item_counts, span_count as u64);
+    let spans_at = put_rows(out, rows_at, ends, item_counts, 0, 0);
+    put_spans(out, spans_at, spans, first, span_count)
 }

@@ -1,5 +1,4 @@
 -- Writing back is copying. Rests on the law that what was read is what was written.
--- Assumes nothing.
 use mathlib.Core.Path.{_≡_, refl, sym, ap, ap₂}
 use mathlib.Core.List.{List}
 use Prim.Native.Nat.{ℕ}

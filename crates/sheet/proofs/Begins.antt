@@ -1,6 +1,5 @@
 -- The beginnings that a check notes are those of the rules that the definition reads: at each one its rule is read, and from it on up to
 -- the last rule's end stand the bits of the rules from it on.
--- Assumes nothing.
 use mathlib.Core.Path.{_≡_, refl, sym, ap, ap₂, _∙_, subst}
 use mathlib.Core.List.{List, _∷_, map, flatMap}
 use mathlib.Core.Option.{Option, none, some}
@@ -22,20 +21,20 @@ use Rattle.definition.proofs.Lengths.{rule-short}
 use Rattle.definition.proofs.SheetRead.{rule-faithful}
 use Rattle.sheet.specs.End.{ends}
 use Rattle.sheet.specs.Rules.{ruleEnds, noted, begun, checked, rulesAt, AllBegin}
-use Rattle.sheet.specs.Begin.{ruleOf, ruleAt, Readable}
+use Rattle.sheet.specs.Begin.{ruleOf, ruleReadAt, Readable}
 use Rattle.sheet.proofs.RuleRows.{noted-goes}
 use Rattle.sheet.proofs.Whole.{count-begun, none-begun, count-low}
 
 -- the i-th of some rules that end at q begins at p
 pub record Begins (s : List ℕ) (q : ℕ) (rs : List Rule) (i p : ℕ) : Type 0 where
   pub readable : Readable s p
-  pub begun-rule : ruleAt s p ≡ getD rs i noRule
+  pub begun-rule : ruleReadAt s p ≡ getD rs i noRule
   pub low : p < 2 ^ 25
   pub stands : Stand (flatMap ((rule form1 limits1) .write) (drop i rs)) s p q
 
 -- ## A rule that is read
-pub rule-read : (s : List ℕ) (p : ℕ) (r : Rule) (q : ℕ) → (rule form1 limits1) .read s p ≡ got r q → Readable s p × (ruleAt s p ≡ r)
-unfolding ruleAt
+pub rule-read : (s : List ℕ) (p : ℕ) (r : Rule) (q : ℕ) → (rule form1 limits1) .read s p ≡ got r q → Readable s p × (ruleReadAt s p ≡ r)
+unfolding ruleReadAt
 rule-read s p r q e = (record { end = q; read = e ∙ ap (λ x. got x q) (sym (ap ruleOf e)) }, ap ruleOf e)
 
 -- ## Noted beginnings
@@ -184,13 +183,13 @@ getD-from f d s (suc n) (suc k) l = let z : suc s + k ≡ s + suc k = omega arit
 module _ (s begins : List ℕ) (n : ℕ) where
   pub rules-many : length (rulesAt s begins n) ≡ n
   unfolding rulesAt
-  rules-many = length-map (from 0 n) (λ k. ruleAt s (getD begins k 0)) ∙ length-from 0 n
+  rules-many = length-map (from 0 n) (λ k. ruleReadAt s (getD begins k 0)) ∙ length-from 0 n
 
-  pub rules-each : (k : ℕ) → k < n → getD (rulesAt s begins n) k noRule ≡ ruleAt s (getD begins k 0)
+  pub rules-each : (k : ℕ) → k < n → getD (rulesAt s begins n) k noRule ≡ ruleReadAt s (getD begins k 0)
   unfolding rulesAt
   rules-each k l =
       let z : 0 + k ≡ k = omega arith in
-      getD-from (λ k. ruleAt s (getD begins k 0)) noRule 0 n k l ∙ ap (λ j. ruleAt s (getD begins j 0)) z
+      getD-from (λ k. ruleReadAt s (getD begins k 0)) noRule 0 n k l ∙ ap (λ j. ruleReadAt s (getD begins j 0)) z
 
 -- the rules of a sheet that was read, each where its beginning is noted
 module _ (sheet : List ℕ) (b : Bytes sheet) (rs : List Rule) (q : ℕ) (e : decode form1 limits1 sheet ≡ got rs q) (begins : List ℕ)

@@ -1,5 +1,4 @@
 -- Where items end: a sort's layout, how far it goes, and a row of items one by one.
--- Assumes nothing.
 use mathlib.Core.Path.{_≡_, refl, sym, ap, _∙_, subst}
 use mathlib.Core.List.{List}
 use mathlib.Core.Bool.{Bool, true, false, cond}

@@ -1,5 +1,4 @@
 -- One lemma for each return of the readers of a rule's head.
--- Assumes nothing.
 use mathlib.Core.Path.{_≡_, sym, ap, _∙_}
 use Prim.Native.Nat.{ℕ}
 use Rattle.definition.specs.Field.{Read, refused}

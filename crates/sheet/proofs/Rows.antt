@@ -1,5 +1,4 @@
 -- Rows of items, sort after sort: where the layouts of a rule's parts end. Rests on the laws of ends.
--- Assumes nothing.
 use mathlib.Core.Path.{_≡_, refl, sym, ap, _∙_}
 use mathlib.Core.List.{List, _∷_}
 use Prim.Native.Nat.{ℕ, zero, suc, _+_, _*_, _≤_}

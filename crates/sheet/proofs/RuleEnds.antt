@@ -1,5 +1,4 @@
 -- Where a rule ends: its title, its counts, its items. Rests on the laws of rows.
--- Assumes nothing.
 use mathlib.Core.Path.{_≡_, refl, sym, ap, _∙_}
 use mathlib.Core.List.{List}
 use Prim.Native.Nat.{ℕ}

@@ -1,5 +1,4 @@
 -- Rules one behind the other: how far one goes, where each is noted to begin, and where the last one ends.
--- Assumes nothing.
 use mathlib.Core.Path.{_≡_, refl, ap, _∙_}
 use mathlib.Core.List.{List}
 use Prim.Native.Nat.{ℕ, zero, suc, _+_, _*_, _≤_, _<_}

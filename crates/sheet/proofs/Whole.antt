@@ -1,5 +1,4 @@
 -- A whole sheet, from its count of rules to its end: the check is the definition's reading, less the values.
--- Assumes nothing.
 use mathlib.Core.Path.{_≡_, refl, sym, ap, _∙_}
 use mathlib.Core.List.{List}
 use mathlib.Core.Option.{Option, none, some}

@@ -1,5 +1,4 @@
 -- The rule that begins at a bit.
--- Assumes nothing.
 use mathlib.Core.Path.{_≡_}
 use mathlib.Core.List.{List}
 use Prim.Native.Nat.{ℕ}
@@ -11,10 +10,10 @@ abbrev pub ruleOf : Read Rule → Rule
 ruleOf (got r q) = r
 ruleOf (refused c p) = noRule
 
-unfoldable pub ruleAt : List ℕ → ℕ → Rule
-ruleAt s p = ruleOf ((rule form1 limits1) .read s p)
+unfoldable pub ruleReadAt : List ℕ → ℕ → Rule
+ruleReadAt s p = ruleOf ((rule form1 limits1) .read s p)
 
 -- a rule is read there
 pub record Readable (s : List ℕ) (p : ℕ) : Type 0 where
   pub end : ℕ
-  pub read : (rule form1 limits1) .read s p ≡ got (ruleAt s p) end
+  pub read : (rule form1 limits1) .read s p ≡ got (ruleReadAt s p) end

@@ -1,5 +1,4 @@
 -- Where readings end: the same as what they read, less the values.
--- Assumes nothing.
 use mathlib.Core.List.{List}
 use mathlib.Core.Bool.{cond}
 use Prim.Native.Nat.{ℕ, zero, suc}

@@ -1,5 +1,4 @@
 -- What the readers of a rule's head say.
--- Assumes nothing.
 use Rattle.definition.specs.Field.{Read, got, refused}
 use Rattle.definition.specs.Rule.{operatorOf, kindOf}
 use Rattle.definition.specs.Sheet.{Title, Counts}

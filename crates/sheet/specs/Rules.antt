@@ -1,5 +1,4 @@
 -- A whole sheet: its rules one behind the other, where each begins, and what a check of the sheet answers.
--- Assumes nothing.
 use mathlib.Core.List.{List, map}
 use mathlib.Core.Option.{Option, none, some}
 use Prim.Native.Nat.{ℕ, zero, suc, _+_, _<_, _^_}
@@ -11,7 +10,7 @@ use Rattle.definition.specs.Sheet.{form1, limits1, counts, body, rule, ended, d
 use Rattle.sheet.specs.declared.check.Checked.{Checked}
 use Rattle.sheet.specs.declared.check.Checked.the-variants.{Rules, Refused}
 use Rattle.sheet.specs.End.{End, ends, skipAll}
-use Rattle.sheet.specs.Begin.{ruleAt, Readable}
+use Rattle.sheet.specs.Begin.{ruleReadAt, Readable}
 
 -- behind a rule's title: its counts, and the items that they count
 unfoldable pub countedEnds : List ℕ → ℕ → End
@@ -44,7 +43,7 @@ begun sheet begins = elim ((counted (form1 .ruleCount) (limits1 .rules)) .read (
 
 -- the rules at the first n of some beginnings
 unfoldable pub rulesAt : List ℕ → List ℕ → ℕ → List Rule
-rulesAt s begins n = map (λ k. ruleAt s (getD begins k 0)) (from 0 n)
+rulesAt s begins n = map (λ k. ruleReadAt s (getD begins k 0)) (from 0 n)
 
 -- a rule is read at each of the first n
 abbrev pub AllBegin : List ℕ → List ℕ → ℕ → Type 0

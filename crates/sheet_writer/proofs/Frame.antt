@@ -1,6 +1,5 @@
 -- BITS AT THE FRONT OF A BUFFER: a buffer in which some bits and their padding were stored from the first bit on is these bits packed,
 -- then what stood there. Rests on the laws of bits and bytes.
--- Assumes nothing.
 use mathlib.Core.Path.{_≡_, refl, sym, ap, ap₂, _∙_}
 use mathlib.Core.List.{List, [], _∷_, _++_, flatMap}
 use Prim.Native.Nat.{ℕ, zero, suc, _+_, _*_, _-_, _/_, _^_, _≤_}

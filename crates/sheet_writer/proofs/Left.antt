@@ -1,5 +1,4 @@
 -- The end of a sheet: bits of another sheet, then the padding. Rests on the laws of bits stored one behind the other.
--- Assumes nothing.
 use mathlib.Core.Path.{_≡_, sym, ap₂, _∙_}
 use mathlib.Core.List.{List, _++_}
 use Prim.Native.Nat.{ℕ, _+_, _*_, _-_, _≤_}

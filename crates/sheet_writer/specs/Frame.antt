@@ -1,5 +1,4 @@
 -- The frame of a sheet: "zero bits to the byte's end", and the bits of rules that are copied.
--- Assumes nothing.
 use mathlib.Core.List.{List}
 use Prim.Native.Nat.{ℕ, _*_, _-_}
 use lib.ListN.{take, drop, replicate}

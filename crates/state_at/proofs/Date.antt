@@ -1,5 +1,4 @@
 -- THE POINT OF A DATE lies within all bounds; and what the calendar's answer says of the date. Rests on the laws of what a date's numbers lie in.
--- Assumes nothing.
 use mathlib.Core.Path.{_≡_, refl, sym, ap, _∙_, subst}
 use mathlib.Core.Bool.{Bool, true, false}
 use mathlib.Core.List.{List, []}

@@ -1,6 +1,5 @@
 -- THE WALK'S ANSWER IS 01's: the walk over a list of rule numbers finds the state that the definition does at a minute, by the rules that the
 -- tables hold. Rests on the law that a rule is read back from the tables.
--- Assumes nothing.
 use mathlib.Core.Path.{_≡_, refl, sym, ap, ap₂, _∙_, subst}
 use mathlib.Core.Bool.{Bool, true, false, not, cond}
 use mathlib.Core.List.{List, [], _∷_, _++_, map, flatMap}
@@ -13,7 +12,7 @@ use Rattle.definition.specs.Field.{unsettled}
 use Rattle.definition.specs.Rule as rule
 use Rattle.definition.specs.Day.{Stated, simple, within, stated, flattened, lastOver, entryOf}
 use Rattle.definition.specs.Lookup.{Looked, refusal, found, stateAt}
-use Rattle.span_number.specs.Number as number
+use Rattle.codes.specs.Number as number
 use Rattle.words.specs.Words.{part}
 use Rattle.tables.specs.Sizes.{listPlaces, listLimit}
 use Rattle.tables.specs.Lists.{listOf}
@@ -37,35 +36,36 @@ module _ (S T : rule.State) (x : rule.Span) (xs : List Stated) (m : ℕ) where
   unfolding anyOf
   settled-other e = rw (e, settled) refl
 
-cond-state : (b : Bool) (m n : ℕ) → cond b (number.stateAt m) (number.stateAt n) ≡ number.stateAt (cond b m n)
+cond-state : (b : Bool) (m n : ℕ) → cond b (number.stateCoded m) (number.stateCoded n) ≡ number.stateCoded (cond b m n)
 cond-state true m n = refl
 cond-state false m n = refl
 
 -- a rule's spans, before whatever comes next
-spans-looked : (m S shown : ℕ) (ws : List ℕ) (next : ℕ → StateFound) (rest : List Stated) → ((n : ℕ) → looked (next n) ≡ settled (number.stateAt n) rest m)
-    → looked (onward (overSpans m S shown ws) next) ≡ settled (number.stateAt shown) (stated (number.stateAt S, map number.spanAt ws) ++ rest) m
+spans-looked : (m S shown : ℕ) (ws : List ℕ) (next : ℕ → StateFound) (rest : List Stated) → ((n : ℕ) → looked (next n) ≡ settled (number.stateCoded n) rest m)
+    → looked (onward (overSpans m S shown ws) next) ≡ settled (number.stateCoded shown) (stated (number.stateCoded S, map number.spanAt ws) ++ rest) m
 unfolding overSpans
 spans-looked m S shown [] next rest h = h shown
 spans-looked m S shown (w ∷ ws) next rest h = go (simple (number.spanAt w)) refl (spans-looked m S (cond (within (number.spanAt w) m) S shown) ws next rest h)
   where
     others : List Stated
-    others = stated (number.stateAt S, map number.spanAt ws) ++ rest
+    others = stated (number.stateCoded S, map number.spanAt ws) ++ rest
 
     go : (b : Bool) → simple (number.spanAt w) ≡ b
-        → looked (onward (overSpans m S (cond (within (number.spanAt w) m) S shown) ws) next) ≡ settled (number.stateAt (cond (within (number.spanAt w) m) S shown)) others m
-        → looked (onward (overSpans m S shown (w ∷ ws)) next) ≡ settled (number.stateAt shown) ((number.stateAt S, number.spanAt w) ∷ others) m
+        → looked (onward (overSpans m S (cond (within (number.spanAt w) m) S shown) ws) next) ≡ settled (number.stateCoded (cond (within (number.spanAt w) m) S shown)) others m
+        → looked (onward (overSpans m S shown (w ∷ ws)) next) ≡ settled (number.stateCoded shown) ((number.stateCoded S, number.spanAt w) ∷ others) m
     go true e ih =
         rw (e, overSpans) ih ∙ ap (λ T. settled T others m) (sym (cond-state (within (number.spanAt w) m) S shown))
-        ∙ sym (settled-simple (number.stateAt S) (number.stateAt shown) (number.spanAt w) others m e)
-    go false e ih = rw (e, overSpans) (sym (settled-other (number.stateAt S) (number.stateAt shown) (number.spanAt w) others m e))
+        ∙ sym (settled-simple (number.stateCoded S) (number.stateCoded shown) (number.spanAt w) others m e)
+    go false e ih = rw (e, overSpans) (sym (settled-other (number.stateCoded S) (number.stateCoded shown) (number.spanAt w) others m e))
 
 -- ## Rules
 module _ (states counts spans : List ℕ) where
-  list-looked : (m shown : ℕ) (ks : List ℕ) → looked (overList states counts spans m shown ks) ≡ settled (number.stateAt shown) (flattened (map (entryAt states counts spans) ks)) m
+  list-looked : (m shown : ℕ) (ks : List ℕ) → looked (overList states counts spans m shown ks) ≡ settled (number.stateCoded shown) (flattened (map (entryAt states counts spans) ks)) m
   unfolding overList overRule flattened flatMap anyOf lastOver
   list-looked m shown [] = refl
   list-looked m shown (k ∷ ks) =
-      spans-looked m (getD states k 0) shown (part spans (k * 16) (getD counts k 0)) (λ n. overList states counts spans m n ks) (flattened (map (entryAt states counts spans) ks)) (λ n. list-looked m n ks)
+      spans-looked m (getD states k 0) shown (part spans (k * 16) (getD counts k 0)) (λ n. overList states counts spans m n ks)
+      (flattened (map (entryAt states counts spans) ks)) (λ n. list-looked m n ks)
 
   module _ (rs : List rule.Rule) (tables : RuleTimes states counts spans rs) where
     entries-there : (ks : List ℕ) → All (λ k. k < length rs) ks → All (InTables states counts spans) ks
@@ -97,7 +97,7 @@ module _ (states counts spans : List ℕ) where
       -- THE STATE AT A MINUTE
       pub list-answered : (m : ℕ) (r : StateFound) → r ≡ overList states counts spans m 65536 (numbersFrom lists (node * listPlaces + 1) 0 many)
           → looked r ≡ stateAt [] (map (ruleAt rs) (listOf lists node)) m
-      unfolding stateAt number.stateAt
+      unfolding stateAt number.stateCoded
       list-answered m r h =
           ap looked (h ∙ ap (overList states counts spans m 65536) list-numbers) ∙ list-looked m 65536 (listOf lists node)
           ∙ ap (λ es. settled rule.closed (flattened es) m) (entries-named (listOf lists node) named)

@@ -1,6 +1,5 @@
 -- A point within all bounds lies in a box, and the box's list is the list at the point. Rests on the laws that the cuts' intervals have all
 -- coordinates, and that all points of a box have the marks of its first one.
--- Assumes nothing.
 use mathlib.Core.Path.{_≡_, sym, ap, _∙_, subst}
 use mathlib.Core.List.{List, [], _∷_, map}
 use Prim.Native.Nat.{ℕ, zero, suc, _+_, _*_, _-_, _≤_, _<_}

@@ -1,5 +1,4 @@
--- The ways out of the walks over a rule's spans and over a list's rules. Rests on the laws of spans' numbers.
--- Assumes nothing.
+-- One lemma for each return of the walks over a rule's spans and over a list's rules. Rests on the laws of spans' numbers.
 use mathlib.Core.Path.{_≡_, refl, sym, ap, ap₂, _∙_, subst}
 use mathlib.Core.Bool.{true, false, _&&_, cond}
 use mathlib.Core.List.{List, _∷_, map}
@@ -11,8 +10,8 @@ use borrow.Author.Tests.{lt-ltb, le-ltb, le-leb, lt-leb}
 use Rattle.laws.specs.Lists.{All}
 use Rattle.definition.specs.Rule.{fixed}
 use Rattle.definition.specs.Day.{simple, within}
-use Rattle.span_number.specs.Number.{timeNumber, timeAt, spanAt}
-use Rattle.span_number.proofs.Laws.{simple-bounds}
+use Rattle.codes.specs.Number.{timeNumber, timeAt, spanAt}
+use Rattle.codes.proofs.Laws.{simple-bounds}
 use Rattle.words.specs.Words.{part}
 use Rattle.words.proofs.Sets.{left-in, left-none}
 use Rattle.paving.proofs.Room.{from-cons, from-end}

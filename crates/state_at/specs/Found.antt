@@ -1,5 +1,4 @@
 -- The state at a minute by a list of rule numbers over tables, and what 01's numbers are for it.
--- Assumes nothing.
 use mathlib.Core.Bool.{true, false, cond}
 use mathlib.Core.List.{List, [], _∷_, map}
 use Prim.Native.Nat.{ℕ, _+_, _*_, _-_, _≤_, _<_}
@@ -8,14 +7,14 @@ use Rattle.laws.specs.Lists.{from}
 use Rattle.definition.specs.Field.{unsettled}
 use Rattle.definition.specs.Day.{simple, within}
 use Rattle.definition.specs.Lookup.{Looked, refusal, found}
-use Rattle.span_number.specs.Number.{stateAt, spanAt}
+use Rattle.codes.specs.Number.{stateCoded, spanAt}
 use Rattle.words.specs.Words.{part}
 use Rattle.state_at.specs.declared.StateFound.{StateFound}
 use Rattle.state_at.specs.declared.StateFound.the-variants.{State, Unsettled}
 
 -- what 01 answers
 abbrev pub looked : StateFound → Looked
-looked (State n) = found (stateAt n)
+looked (State n) = found (stateCoded n)
 looked Unsettled = refusal unsettled 0
 
 -- ## Spans

@@ -1,10 +1,10 @@
 // What is found, in the numbers of the answer: code, kind, comment and the table's place.
 use super::StateFound;
 use answers::Answer;
-use span_number::kind_of;
-use words::wide;
+use casts::u32_to_u64;
+use codes::kind_of;
 ghost use mathlib.Core.Path.{_≡_};
-ghost use Rattle.span_number.specs.Number.{stateAt};
+ghost use Rattle.codes.specs.Number.{stateCoded};
 ghost use Rattle.state_at.specs.Found.{looked};
 ghost use Rattle.answers.specs.Numbers.{lookedUp};
 
@@ -12,7 +12,7 @@ const UNSETTLED: u64 = 9;
 
 // The comment of a state.
 fn comment_of(state: u64) -> u64
-    ensures { λ r. ⌜ r ≡ stateAt state .comment ⌝ }
+    ensures { λ r. ⌜ r ≡ stateCoded state .comment ⌝ }
 {
     match state {
         0..=65535 => state,
@@ -27,7 +27,7 @@ pub fn numbers_of(found: StateFound) -> Answer
 {
     match found {
         StateFound::State(state) => {
-            let number = wide(state);
+            let number = u32_to_u64(state);
             Answer {
                 code: 0,
                 kind: kind_of(number) as u64,

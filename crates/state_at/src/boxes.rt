@@ -1,18 +1,12 @@
 // The box that holds a point: in each dimension the interval of its row of cuts that holds the point's number there.
-use paving::wide;
-ghost use mathlib.Core.Path.{_≡_};
+use casts::u8_to_u16;
+use casts::u16_to_usize;
 ghost use mathlib.Core.List.{[], _∷_};
 ghost use Prim.Native.Nat.{suc, _+_, _≤_, _<_};
 ghost use lib.ListN.{length, getD};
 ghost use Rattle.definition.specs.Sheet.{limits1};
 ghost use Rattle.paving.specs.Grid.{sizeOf, Node};
 ghost use Rattle.state_at.specs.Boxes.{Framed, ChildAt, Gridded, BoxAt};
-
-fn number(x: u8) -> u16
-    ensures { λ r. ⌜ r ≡ x ⌝ }
-{
-    x as u16
-}
 
 // The interval of a row of cuts that holds a value: always between the lower and the upper of two of its cuts, which come together.
 fn interval_at(cuts: &[u16], first: usize, size: usize, value: u16) -> usize
@@ -32,26 +26,26 @@ fn interval_at(cuts: &[u16], first: usize, size: usize, value: u16) -> usize
     lower
 }
 
-// The node below a node in the interval that holds a value.
+// One dimension further: the box below a box, in the interval that holds a value.
 fn child_at(
-    rows: &[u16],
+    row_starts: &[u16],
     sizes: &[u16],
     cuts: &[u16],
     dimension: usize,
-    node: usize,
+    box_index: usize,
     value: u16,
 ) -> usize
-    requires { ⌜ Framed (now rows) (now sizes) (now cuts) dimension value ⌝ }
-    requires { ⌜ Node (sizeOf (now sizes) 4) (now sizes) (suc dimension) node × (sizeOf (now sizes) 4 ≤ limits1 .boxes) ⌝ }
-    ensures { λ r. ⌜ ChildAt (now (rows .entry)) (now (sizes .entry)) (now (cuts .entry)) dimension node value r ⌝ }
+    requires { ⌜ Framed (now «row_starts») (now sizes) (now cuts) dimension value ⌝ }
+    requires { ⌜ Node (sizeOf (now sizes) 4) (now sizes) (suc dimension) «box_index» × (sizeOf (now sizes) 4 ≤ limits1 .boxes) ⌝ }
+    ensures { λ r. ⌜ ChildAt (now («row_starts» .entry)) (now (sizes .entry)) (now (cuts .entry)) dimension «box_index» value r ⌝ }
 {
-    let size = wide(sizes[dimension]);
-    node * size + interval_at(cuts, wide(rows[dimension]), size, value)
+    let size = u16_to_usize(sizes[dimension]);
+    box_index * size + interval_at(cuts, u16_to_usize(row_starts[dimension]), size, value)
 }
 
 // The number of the box that holds a point.
 pub fn box_at(
-    rows: &[u16],
+    row_starts: &[u16],
     sizes: &[u16],
     cuts: &[u16],
     weekday: u8,
@@ -59,11 +53,11 @@ pub fn box_at(
     month: u8,
     year: u16,
 ) -> usize
-    requires { ⌜ Gridded (now rows) (now sizes) (now cuts) (weekday ∷ week ∷ month ∷ year ∷ []) ⌝ }
-    ensures { λ r. ⌜ BoxAt (now (rows .entry)) (now (sizes .entry)) (now (cuts .entry)) (weekday ∷ week ∷ month ∷ year ∷ []) r ⌝ }
+    requires { ⌜ Gridded (now «row_starts») (now sizes) (now cuts) (weekday ∷ week ∷ month ∷ year ∷ []) ⌝ }
+    ensures { λ r. ⌜ BoxAt (now («row_starts» .entry)) (now (sizes .entry)) (now (cuts .entry)) (weekday ∷ week ∷ month ∷ year ∷ []) r ⌝ }
 {
-    let by_weekday = child_at(rows, sizes, cuts, 3, 0, number(weekday));
-    let by_week = child_at(rows, sizes, cuts, 2, by_weekday, number(week));
-    let by_month = child_at(rows, sizes, cuts, 1, by_week, number(month));
-    child_at(rows, sizes, cuts, 0, by_month, year)
+    let by_weekday = child_at(row_starts, sizes, cuts, 3, 0, u8_to_u16(weekday));
+    let by_week = child_at(row_starts, sizes, cuts, 2, by_weekday, u8_to_u16(week));
+    let by_month = child_at(row_starts, sizes, cuts, 1, by_week, u8_to_u16(month));
+    child_at(row_starts, sizes, cuts, 0, by_month, year)
 }

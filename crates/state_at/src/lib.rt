@@ -36,19 +36,19 @@ pub fn look(
     span_counts: &[u8],
     spans: &[u64],
     lists: &[u16],
-    rows: &[u16],
+    row_starts: &[u16],
     sizes: &[u16],
     cuts: &[u16],
     moment: Moment,
 ) -> StateFound
-    requires { ⌜ ((rs : List Rule) × RuleTimes (now states) (now «span_counts») (now spans) rs × Boxed (now rows) (now sizes) (now cuts) (now lists) rs) ⌝ }
+    requires { ⌜ ((rs : List Rule) × RuleTimes (now states) (now «span_counts») (now spans) rs × Boxed (now «row_starts») (now sizes) (now cuts) (now lists) rs) ⌝ }
     requires { ⌜ InBounds allBounds (momentPoint moment) ⌝ }
     ensures { λ r. ⌜ ((rs : List Rule) → RuleTimes (now (states .entry)) (now («span_counts» .entry)) (now (spans .entry)) rs
-        → Boxed (now (rows .entry)) (now (sizes .entry)) (now (cuts .entry)) (now (lists .entry)) rs
+        → Boxed (now («row_starts» .entry)) (now (sizes .entry)) (now (cuts .entry)) (now (lists .entry)) rs
         → looked r ≡ stateAt [] (listAt rs (momentPoint moment)) (moment .minute)) ⌝ }
 {
-    let node = box_at(
-        rows,
+    let box_index = box_at(
+        row_starts,
         sizes,
         cuts,
         moment.weekday,
@@ -56,5 +56,5 @@ pub fn look(
         moment.month,
         moment.year,
     );
-    list_state(states, span_counts, spans, lists, node, moment.minute)
+    list_state(states, span_counts, spans, lists, box_index, moment.minute)
 }

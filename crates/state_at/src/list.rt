@@ -1,10 +1,12 @@
 // The state at a minute by the list of a box: rule after rule, and each rule's spans in order.
 use super::StateFound;
-use paving::wide;
-use span_number::end_of;
-use span_number::fixed_time;
-use span_number::is_simple;
-use span_number::start_of;
+use casts::u8_to_usize;
+use casts::u16_to_usize;
+use codes::end_of;
+use codes::fixed_time;
+use codes::is_simple;
+use codes::start_of;
+use tables::LIST_PLACES;
 ghost use mathlib.Core.Path.{_≡_};
 ghost use mathlib.Core.Bool.{true, cond};
 ghost use mathlib.Core.List.{List, [], map};
@@ -14,23 +16,15 @@ ghost use Rattle.laws.specs.Lists.{All};
 ghost use Rattle.definition.specs.Rule.{Rule};
 ghost use Rattle.definition.specs.Day.{simple, within};
 ghost use Rattle.definition.specs.Lookup.{stateAt};
-ghost use Rattle.span_number.specs.Number.{spanAt};
+ghost use Rattle.codes.specs.Number.{spanAt};
 ghost use Rattle.words.specs.Words.{part};
 ghost use Rattle.tables.specs.Sizes.{listPlaces, listLimit};
 ghost use Rattle.tables.specs.Lists.{listOf};
 ghost use Rattle.tables.specs.Rules.{ruleAt, RuleTimes};
 ghost use Rattle.state_at.specs.Found.{overSpans, overRule, overList, InTables, numbersFrom, looked};
 
-const LIST_PLACES: usize = 33;
-
 // Plain Closed.
 const CLOSED: u32 = 65536;
-
-fn count(x: u8) -> usize
-    ensures { λ r. ⌜ (r ≡ x) × (r < 256) ⌝ }
-{
-    x as usize
-}
 
 // The state that a simple span leaves at a minute: its own where it covers the minute, else the one before.
 fn after_span(span: u64, minute: u16, state: u32, before: u32) -> u32
@@ -83,9 +77,9 @@ fn over_rule(
     requires { ⌜ InTables (now states) (now «span_counts») (now spans) rule ⌝ }
     ensures { λ r. ⌜ r ≡ overRule (now (states .entry)) (now («span_counts» .entry)) (now (spans .entry)) minute before rule ⌝ }
 {
-    let row = wide(rule);
+    let row = u16_to_usize(rule);
     let first = row * 16;
-    let end = first + count(span_counts[row]);
+    let end = first + u8_to_usize(span_counts[row]);
     over_spans(spans, first, end, minute, states[row], before)
 }
 
@@ -96,16 +90,16 @@ fn over_list(
     spans: &[u64],
     lists: &[u16],
     first: usize,
-    many: usize,
+    rule_count: usize,
     minute: u16,
 ) -> StateFound
-    requires { ⌜ first + many ≤ length (now lists) ⌝ }
-    requires { ⌜ All (InTables (now states) (now «span_counts») (now spans)) (numbersFrom (now lists) first 0 many) ⌝ }
-    ensures { λ r. ⌜ r ≡ overList (now (states .entry)) (now («span_counts» .entry)) (now (spans .entry)) minute 65536 (numbersFrom (now (lists .entry)) first 0 many) ⌝ }
+    requires { ⌜ first + «rule_count» ≤ length (now lists) ⌝ }
+    requires { ⌜ All (InTables (now states) (now «span_counts») (now spans)) (numbersFrom (now lists) first 0 «rule_count») ⌝ }
+    ensures { λ r. ⌜ r ≡ overList (now (states .entry)) (now («span_counts» .entry)) (now (spans .entry)) minute 65536 (numbersFrom (now (lists .entry)) first 0 «rule_count») ⌝ }
 {
     let mut shown = CLOSED;
     let mut next: usize = 0;
-    while next < many {
+    while next < rule_count {
         let found = over_rule(
             states,
             span_counts,
@@ -131,15 +125,23 @@ pub fn list_state(
     span_counts: &[u8],
     spans: &[u64],
     lists: &[u16],
-    node: usize,
+    box_index: usize,
     minute: u16,
 ) -> StateFound
-    requires { ⌜ ((rs : List Rule) × RuleTimes (now states) (now «span_counts») (now spans) rs × All (λ k. k < length rs) (listOf (now lists) node)) ⌝ }
-    requires { ⌜ (node * listPlaces + listPlaces ≤ length (now lists)) × (getD (now lists) (node * listPlaces) 0 ≤ listLimit) ⌝ }
-    ensures { λ r. ⌜ ((rs : List Rule) → RuleTimes (now (states .entry)) (now («span_counts» .entry)) (now (spans .entry)) rs → All (λ k. k < length rs) (listOf (now (lists .entry)) node)
-        → looked r ≡ stateAt [] (map (ruleAt rs) (listOf (now (lists .entry)) node)) minute) ⌝ }
+    requires { ⌜ ((rs : List Rule) × RuleTimes (now states) (now «span_counts») (now spans) rs × All (λ k. k < length rs) (listOf (now lists) «box_index»)) ⌝ }
+    requires { ⌜ («box_index» * listPlaces + listPlaces ≤ length (now lists)) × (getD (now lists) («box_index» * listPlaces) 0 ≤ listLimit) ⌝ }
+    ensures { λ r. ⌜ ((rs : List Rule) → RuleTimes (now (states .entry)) (now («span_counts» .entry)) (now (spans .entry)) rs → All (λ k. k < length rs) (listOf (now (lists .entry)) «box_index»)
+        → looked r ≡ stateAt [] (map (ruleAt rs) (listOf (now (lists .entry)) «box_index»)) minute) ⌝ }
 {
-    let at = node * LIST_PLACES;
-    let many = wide(lists[at]);
-    over_list(states, span_counts, spans, lists, at + 1, many, minute)
+    let at = box_index * LIST_PLACES;
+    let rule_count = u16_to_usize(lists[at]);
+    over_list(
+        states,
+        span_counts,
+        spans,
+        lists,
+        at + 1,
+        rule_count,
+        minute,
+    )
 }

@@ -34,7 +34,7 @@ unfolding pairs numbers
 pairs-back [] = refl
 pairs-back (e ∷ es) = ap (e ∷_) (pairs-back es)
 
-length-numbers : (es : List Ends) → length (numbers es) ≡ 2 * length es
+pub length-numbers : (es : List Ends) → length (numbers es) ≡ 2 * length es
 unfolding numbers
 length-numbers [] = refl
 length-numbers (e ∷ es) = omega (arith, length-numbers es)
@@ -71,7 +71,9 @@ module _ (Y M K D : List Ends) where
   pub rows-back : rowsBelow ends sorts 4 ≡ D ∷ K ∷ M ∷ Y ∷ []
   unfolding rowsBelow row rowPlace
   rows-back =
-      ap₂ _∷_ weekdays (ap₂ _∷_ weeks (ap₂ _∷_ (row-back (numbers Y) (numbers K ++ (numbers D ++ [])) M (0 + 2 * length Y) (omega (arith, length-numbers Y))) (ap (_∷ []) (row-back [] (numbers M ++ (numbers K ++ (numbers D ++ []))) Y 0 refl))))
+      ap₂ _∷_ weekdays (ap₂ _∷_ weeks
+      (ap₂ _∷_ (row-back (numbers Y) (numbers K ++ (numbers D ++ [])) M (0 + 2 * length Y) (omega (arith, length-numbers Y)))
+      (ap (_∷ []) (row-back [] (numbers M ++ (numbers K ++ (numbers D ++ []))) Y 0 refl))))
     where
       weeks : endsAt ends (0 + 2 * length Y + 2 * length M) (length K) ≡ K
       weeks =
@@ -112,4 +114,5 @@ module _ (Y M K D : List Ends) where
     unfolding pageSize pageNumbers endNumbers flatMap
     page-behind =
         let five : 5 + length ends ≡ suc (suc (suc (suc (suc (length ends))))) = omega arith in
-        behind (5 + rowPlace (pageCounts text at) 4) ∙ ap (λ n. drop n (pageNumbers number (Y ∷ M ∷ K ∷ D ∷ []) ++ rest)) (ap (5 +_) place-back ∙ five) ∙ drop-append-seam (number ∷ (sorts ++ ends)) rest
+        behind (5 + rowPlace (pageCounts text at) 4) ∙ ap (λ n. drop n (pageNumbers number (Y ∷ M ∷ K ∷ D ∷ []) ++ rest)) (ap (5 +_) place-back ∙ five)
+        ∙ drop-append-seam (number ∷ (sorts ++ ends)) rest

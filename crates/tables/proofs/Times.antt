@@ -13,11 +13,11 @@ use Rattle.definition.specs.Sheet.{form1, limits1, span, rule}
 use Rattle.definition.specs.Day.{Entry, flattened, entryOf, day, dayOf}
 use Rattle.definition.specs.Group.{asRule}
 use Rattle.definition.proofs.Lawful.{Lawful, items-fit, rule-lawful}
-use Rattle.span_number.specs.Number.{stateAt, spanNumber, spanAt}
-use Rattle.span_number.proofs.Numbers.{number-state, number-span}
-use Rattle.span_number.proofs.Carried.{span-carried, span-numbered, state-numbered}
+use Rattle.codes.specs.Number.{stateCoded, spanNumber, spanAt}
+use Rattle.codes.proofs.Numbers.{number-state, number-span}
+use Rattle.codes.proofs.Carried.{span-carried, span-numbered, state-numbered}
 use Rattle.words.specs.Words.{part}
-use Rattle.day_words.specs.Day.{listRules}
+use Rattle.day_flat.specs.Day.{listRules}
 use Rattle.tables.specs.Rules.{TimesAt, RuleTimes}
 
 -- ## Lists
@@ -37,7 +37,7 @@ spans-back (x ∷ xs) h = ap₂ _∷_ (number-span x (span-numbered x (span-carr
 module _ (states counts spans : List ℕ) where
   -- the entry that a number names
   abbrev pub entryAt : ℕ → Entry
-  entryAt k = (stateAt (getD states k 0), map spanAt (part spans (k * 16) (getD counts k 0)))
+  entryAt k = (stateCoded (getD states k 0), map spanAt (part spans (k * 16) (getD counts k 0)))
 
   pub entry-back : (k : ℕ) (r : Rule) → TimesAt states counts spans k r → (rule form1 limits1) .fits r ≡ true → entryAt k ≡ entryOf r
   entry-back k r h f =
@@ -46,7 +46,7 @@ module _ (states counts spans : List ℕ) where
       let held : part spans (k * 16) (getD counts k 0) ≡ numbers =
       ap (part spans (k * 16)) long ∙ part-held spans (k * 16) numbers (λ j l. h .spans-held j (omega (arith, length-map (r .spans) spanNumber))) in
       let fit = every-all (λ s. span .fits s ≡ true) (span .fits) (λ s e. e) (r .spans) (items-fit form1 limits1 r f .spans-fit) in
-      ap₂ (λ S ss. (S, ss)) (ap stateAt (h .state-held) ∙ number-state (r .state) (state-numbered r f)) (ap (map spanAt) held ∙ spans-back (r .spans) fit)
+      ap₂ (λ S ss. (S, ss)) (ap stateCoded (h .state-held) ∙ number-state (r .state) (state-numbered r f)) (ap (map spanAt) held ∙ spans-back (r .spans) fit)
 
   -- ## A list
   -- rules from a place of a longer list on

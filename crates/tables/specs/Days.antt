@@ -8,8 +8,8 @@ use Rattle.laws.specs.Lists.{All}
 use Rattle.definition.specs.Rule.{Span}
 use Rattle.definition.specs.Sheet.{span}
 use Rattle.definition.specs.Day.{Entry, day}
-use Rattle.span_number.specs.Number.{NumberedState}
-use Rattle.day_words.specs.Day.{flat, listRules}
+use Rattle.codes.specs.Number.{NumberedState}
+use Rattle.day_flat.specs.Day.{flat, listRules}
 use Rattle.tables.specs.Sizes.{listPlaces, listLimit}
 use Rattle.tables.specs.Lists.{listOf}
 

@@ -12,7 +12,7 @@ use Rattle.definition.specs.Sheet.{limits1}
 use Rattle.definition.specs.Point.{dimensions}
 use Rattle.definition.specs.Day.{Day}
 use Rattle.definition.specs.Group.{asRules, folded}
-use Rattle.day_words.specs.Day.{unflat}
+use Rattle.day_flat.specs.Day.{unflat}
 use Rattle.tables.specs.Sizes.{dayRoom}
 use Rattle.tables.specs.Days.{boxWords, Ready, wordsOf, Carried}
 use Rattle.tables.specs.Items.{endNumbers, rowPlace, rowsBelow, Rows, overItems}

@@ -9,7 +9,7 @@ use Rattle.laws.specs.Lists.{All}
 use Rattle.definition.specs.Rule.{Rule, noRule}
 use Rattle.definition.specs.Sheet.{form1, limits1, rule}
 use Rattle.definition.specs.Point.{dimensions, selector, replaces}
-use Rattle.span_number.specs.Number.{stateNumber, spanNumber}
+use Rattle.codes.specs.Number.{stateNumber, spanNumber}
 use Rattle.tables.specs.Sizes.{rangePlaces}
 use Rattle.tables.specs.Ranges.{tableRow, selectorOf}
 

@@ -2,10 +2,6 @@
 use Prim.Native.Nat.{ℕ, _+_, _*_}
 use Rattle.definition.specs.Sheet.{limits1}
 
--- a rule's spans
-abbrev pub spanPlaces : ℕ
-spanPlaces = limits1 .spans
-
 -- a rule's ranges in one dimension: an item gives two at most, each with its start and its end
 abbrev pub rangePlaces : ℕ
 rangePlaces = 4 * limits1 .items

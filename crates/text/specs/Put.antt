@@ -1,5 +1,4 @@
 -- A text put into a buffer at a place: where it ends, and what the buffer then holds. A byte that lies past the buffer's end is not stored.
--- Assumes nothing.
 use mathlib.Core.Path.{_≡_}
 use mathlib.Core.List.{List}
 use Prim.Native.Nat.{ℕ, _+_, _<_, _^_}

@@ -1,6 +1,5 @@
 -- Whole bytes stored: a byte in a buffer is its eight bits among the buffer's, and a number of bytes, stored with a value in place of
 -- some of its bits, is the value's bits stored there. Rests on crate `field`'s laws of fields in parts and of whole bytes.
--- Assumes nothing.
 use mathlib.Core.Path.{_≡_, sym, ap, ap₂, _∙_, subst}
 use mathlib.Core.List.{List, _∷_, _++_, flatMap, append-assoc}
 use Prim.Native.Nat.{ℕ, suc, _+_, _*_, _-_, _/_, _%_, _^_, _≤_, _<_}

@@ -1,6 +1,5 @@
 -- Bits copied a field at a time: what is still to be copied, stored now, leaves what the whole row leaves.
 -- Rests on crate `field`'s laws of fields in parts.
--- Assumes nothing.
 use mathlib.Core.Path.{_≡_, sym, ap, ap₂, _∙_}
 use mathlib.Core.List.{List, _++_}
 use Prim.Native.Nat.{ℕ, _+_, _-_, _≤_}

@@ -1,5 +1,4 @@
 -- `bounded::split_inverted_range` meets its contract, by the two ways of `split`.
--- Assumes nothing.
 use native.Mathlib.Omega.{arith}
 use borrow.Author.Needs.{needs}
 use Rattle.bounded.specs.Strict.{pairOf}

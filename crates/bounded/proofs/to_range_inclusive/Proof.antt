@@ -1,5 +1,4 @@
 -- `bounded::to_range_inclusive` meets its contract, by the two ways of `inclusive`.
--- Assumes nothing.
 use native.Mathlib.Omega.{arith}
 use borrow.Author.Needs.{needs}
 use Rattle.bounded.proofs.Strict.{inclusive-some, inclusive-none}

@@ -1,5 +1,4 @@
 -- `bounded::to_range_strict` meets its contract: the code's `end + 1` is end's successor.
--- Assumes nothing.
 use native.Mathlib.Numerals.{add-one}
 use borrow.Author.Needs.{needs}
 use Rattle.bounded.proofs.to_range_strict.Statement.{statement}

@@ -1,5 +1,4 @@
 -- `box_day::fold_box` meets its contract.
--- Assumes nothing.
 use mathlib.Core.Path.{refl}
 use borrow.Author.Needs.{needs}
 use Rattle.box_day.proofs.Folding.{fold-needs, fold-gives}
@@ -8,32 +7,22 @@ use Rattle.box_day.proofs.fold_box.Tie as tie
 
 needed : tie.Need-normalize-time-rules-requires
 needed c κs =
-    fold-needs _ _ _ _ _ _ (c .before .before .before .before .before .before .before .before .before .before .before .before .before .before .before .before .before .before .before .pre .0) _ (c .before .before .before .before .before .before .before .wide .ensures .0) _ _ _ _ _ (c .before .before .before .before .before .before .before .before .before .before .before .before .before .before .before .before .before .before .before .pre .1)
+    let counted = c .before .before .before .before .before .before .before in
+    let entry = counted .before .before .before .before .before .before .before .before .before .before .before .before in
+    fold-needs _ _ _ _ _ _ (entry .pre .0) _ (counted .u16-to-usize .ensures .0) _ _ _ _ _ (entry .pre .1)
 
 returned : tie.Need-returns
 returned c =
-    fold-gives _ _ _ _ _ _ (c .before .before .before .before .before .before .before .before .before .before .before .before .before .before .before .before .before .before .before .before .before .before .before .before .before .before .before .before .before .before .before .before .pre .0) _ (c .before .before .before .before .before .before .before .before .before .before .before .before .before .before .before .before .before .before .before .before .wide .ensures .0) _ _ _ refl (c .before .before .before .before .before .before .before .before .before .before .before .before .normalize-time-rules .ensures .0) (c .before .before .before .before .before .before .before .before .before .before .before .before .normalize-time-rules .ensures .1)
+    let folded = c .before .before .before .before .before .before .before .before .before .before .before .before in
+    let counted = folded .before .before .before .before .before .before .before .before in
+    let entry = counted .before .before .before .before .before .before .before .before .before .before .before .before in
+    let day = folded .normalize-time-rules .ensures in
+    fold-gives _ _ _ _ _ _ (entry .pre .0) _ (counted .u16-to-usize .ensures .0) _ _ _ refl (day .0) (day .1)
 
 pub fold-box-spec : {M : Type 1} → statement M
 fold-box-spec =
     tie.close
     (tie.spec
-    (λ c. search needs)
-    (λ c. search needs)
-    (λ c. search needs)
-    (λ c. search needs)
-    (λ c. search needs)
-    (λ c κs. search needs)
-    (λ c. search needs)
-    (λ c. search needs)
-    (λ c. search needs)
-    (λ c. search needs)
-    (λ c. search needs)
-    needed
-    (λ c. search needs)
-    (λ c. search needs)
-    (λ c. search needs)
-    (λ c. search needs)
-    (λ c. search needs)
-    (λ c. search needs)
-    returned)
+    (λ c. search needs) (λ c. search needs) (λ c. search needs) (λ c. search needs) (λ c κs. search needs) (λ c. search needs) (λ c. search needs)
+    (λ c. search needs) (λ c. search needs) (λ c. search needs) needed (λ c. search needs) (λ c. search needs) (λ c. search needs) (λ c. search needs)
+    (λ c. search needs) (λ c. search needs) returned)

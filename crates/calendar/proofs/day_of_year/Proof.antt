@@ -1,5 +1,4 @@
 -- `calendar::day_of_year` meets its contract. The loop's invariant: as many days as the months passed have, and the day.
--- Assumes nothing.
 use mathlib.Core.Path.{_≡_}
 use Prim.Native.Nat.{_+_, _*_, _-_, _≤_}
 use native.Mathlib.Omega.{arith}
@@ -33,8 +32,7 @@ pub day-of-year-spec : {M : Type 1} → statement M
 day-of-year-spec =
     tie.close
     (tie.spec
-    Inv-loop
-    μ-loop
+    Inv-loop μ-loop
     (λ c κs. tt)
     (λ c. omega (arith, date-month _ _ _ (c .before .pre)))
     (λ c. omega (arith, day-within _ _ _ (c .before .pre)))
@@ -42,7 +40,5 @@ day-of-year-spec =
     (λ c κs. omega (arith, date-month _ _ _ (c .before .before .before .pre)))
     (λ c. omega arith)
     (λ c. omega (arith, date-month _ _ _ (c .before .before .before .before .pre)))
-    (λ c. omega arith)
-    (λ c. omega arith)
-    loop-again
+    (λ c. omega arith) (λ c. omega arith) loop-again
     (λ c. days-all _ _ _ (c .before .loop .index) _ _ (c .before .before .is-leap .ensures) (omega arith) (c .before .loop .inv .2)))

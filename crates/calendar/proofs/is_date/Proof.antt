@@ -1,5 +1,4 @@
 -- `calendar::is_date` meets its contract: the code's tests are those of `isDate`, the year's first, then the month's, then the day's.
--- Assumes nothing.
 use native.Mathlib.Omega.{arith}
 use borrow.Author.Needs.{needs}
 use borrow.Author.Tests.{le-ltb, lt-leb, le-leb}

@@ -1,5 +1,4 @@
 -- `calendar::is_leap` meets its contract: the code's tests are those of `isLeap`, in its order.
--- Assumes nothing.
 use borrow.Author.Tests.{eq-eqb, ne-eqb}
 use Rattle.definition.specs.Date.{isLeap}
 use Rattle.calendar.proofs.is_leap.Statement.{statement}

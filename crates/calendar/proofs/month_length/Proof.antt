@@ -1,5 +1,4 @@
 -- `calendar::month_length` meets its contract: the two rows are `monthLengths` of common and of leap years.
--- Assumes nothing.
 use mathlib.Core.Path.{_≡_, refl}
 use mathlib.Core.List.{[], _∷_}
 use mathlib.Core.Bool.{Bool, true, false}

@@ -1,6 +1,5 @@
 -- `calendar::new_year` meets its contract. The computed test: the table's 400 entries are `cycle`, which steps by the rule. The lemma:
 -- `cycle-new-year`, that the cycle has every year's.
--- Assumes nothing.
 use borrow.Author.Needs.{needs}
 use Rattle.definition.specs.Date.{isLeap}
 use Rattle.calendar.proofs.NewYear.{stepped, cycle, cycle-new-year}

@@ -1,5 +1,4 @@
 -- `calendar::point_of` meets its contract, by the two ways of `pointAt`.
--- Assumes nothing.
 use mathlib.Core.Path.{sym, _∙_}
 use native.Mathlib.Omega.{arith}
 use borrow.Author.Needs.{needs}

@@ -1,6 +1,5 @@
 -- `calendar::thursday_of` meets its contract: the three ways are those of the laws `thursday-before`, `thursday-same` and `thursday-next`. A year
 -- has at most 366 days and weekdays end at 6, so nothing wraps.
--- Assumes nothing.
 use mathlib.Core.Path.{ap}
 use Prim.Native.Nat.{_-_}
 use native.Mathlib.Omega.{arith}
@@ -33,13 +32,7 @@ thursday-of-spec =
     tie.close
     (tie.spec
     (λ c. omega (arith, year-long (c .args .year)))
-    (λ c. search needs)
-    (λ c κs. search needs)
+    (λ c. search needs) (λ c κs. search needs)
     (λ c. omega (arith, year-long (c .before .before .args .year - 1), year-long (c .before .before .args .year)))
     (λ c. omega (arith, year-long (c .before .before .args .year - 1), weekday-within (c .before .before .args .year, c .before .before .args .day)))
-    returns
-    (λ c. search needs)
-    (λ c κs. search needs)
-    (λ c. search needs)
-    returns-2
-    returns-3)
+    returns (λ c. search needs) (λ c κs. search needs) (λ c. search needs) returns-2 returns-3)

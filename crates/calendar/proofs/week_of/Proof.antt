@@ -1,5 +1,4 @@
 -- `calendar::week_of` meets its contract: the Thursday lies in its year, so nothing wraps and the week fits; `week-number` counts it.
--- Assumes nothing.
 use native.Mathlib.Omega.{arith}
 use borrow.Author.Needs.{needs}
 use Rattle.calendar.proofs.Thursday.{is-thursday}

@@ -1,5 +1,4 @@
 -- `calendar::weekday_of` meets its contract: a year has at most 366 days, so nothing wraps.
--- Assumes nothing.
 use native.Mathlib.Omega.{arith}
 use borrow.Author.Needs.{needs}
 use Rattle.definition.specs.Date.{weekdayFrom, weekdayAt}
@@ -15,9 +14,6 @@ pub weekday-of-spec : {M : Type 1} → statement M
 weekday-of-spec =
     tie.close
     (tie.spec
-    (λ c κs. search needs)
-    (λ c. search needs)
-    (λ c. search needs)
+    (λ c κs. search needs) (λ c. search needs) (λ c. search needs)
     (λ c. omega (arith, year-long (c .before .args .year)))
-    (λ c. search needs)
-    returns)
+    (λ c. search needs) returns)

@@ -1,5 +1,4 @@
 -- `calendar::year_length` meets its contract.
--- Assumes nothing.
 use mathlib.Core.Path.{sym, _∙_}
 use borrow.Author.Needs.{needs}
 use Rattle.definition.specs.Date.{yearLength}

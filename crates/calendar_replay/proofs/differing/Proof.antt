@@ -1,5 +1,4 @@
 -- `calendar_replay::differing` meets its contract. The loop's invariant: at most as many differ as are passed.
--- Assumes nothing.
 use Prim.Native.Nat.{_-_, _≤_}
 use mathlib.Core.Logic.{⊎-elim}
 use native.Mathlib.Omega.{arith}
@@ -16,13 +15,6 @@ pub differing-spec : {M : Type 1} → statement M
 differing-spec =
     tie.close
     (tie.spec
-    Inv-loop
-    μ-loop
-    (λ c. omega arith)
-    (λ c. omega arith)
-    (λ c κs. omega arith)
-    (λ c. omega arith)
-    (λ c. omega arith)
-    (λ c. omega arith)
+    Inv-loop μ-loop (λ c. omega arith) (λ c. omega arith) (λ c κs. omega arith) (λ c. omega arith) (λ c. omega arith) (λ c. omega arith)
     (λ c. ⊎-elim (λ w. omega arith) (λ w. omega arith) (c .if1 .came))
     (λ c. omega arith))

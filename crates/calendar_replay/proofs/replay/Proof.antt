@@ -1,5 +1,4 @@
 -- `calendar_replay::replay` is safe and ends. The loop's invariant: at most 178 records for each turn. The measure is the turns left.
--- Assumes nothing.
 use Prim.Native.Nat.{_*_, _-_, _≤_}
 use native.Mathlib.Omega.{arith}
 use Rattle.calendar_replay.proofs.replay.Statement.{statement}
@@ -15,14 +14,8 @@ pub replay-spec : {M : Type 1} → statement M
 replay-spec =
     tie.close
     (tie.spec
-    Inv-loop
-    μ-loop
-    (λ c. omega arith)
+    Inv-loop μ-loop (λ c. omega arith)
     (λ c κs. tt)
     (λ c. tt)
-    (λ c. omega arith)
-    (λ c. omega arith)
-    (λ c. omega arith)
-    (λ c. omega arith)
-    (λ c. omega arith)
+    (λ c. omega arith) (λ c. omega arith) (λ c. omega arith) (λ c. omega arith) (λ c. omega arith)
     (λ c. tt))

@@ -125,22 +125,6 @@ pub normalize-time-rules-spec : {M : Type 1} → statement M
 normalize-time-rules-spec =
     tie.close
     (tie.spec
-    flatten-requires
-    write-strokes-requires
-    write-pieces-requires
-    sweep-classes-requires
-    same-length
-    same-length-2
-    same-length-3
-    same-length-4
-    same-length-5
-    same-length-6
-    returns
-    groups-requires
-    same-length-7
-    same-length-8
-    same-length-9
-    same-length-10
-    same-length-11
-    same-length-12
+    flatten-requires write-strokes-requires write-pieces-requires sweep-classes-requires same-length same-length-2 same-length-3 same-length-4
+    same-length-5 same-length-6 returns groups-requires same-length-7 same-length-8 same-length-9 same-length-10 same-length-11 same-length-12
     returns-2)

@@ -1,5 +1,4 @@
 -- `cutting::place_rows` meets its contract.
--- Assumes nothing.
 use borrow.Author.Needs.{needs}
 use Rattle.cutting.proofs.Cutting.{rows-placed}
 use Rattle.cutting.proofs.place_rows.Statement.{statement}
@@ -9,4 +8,4 @@ pub place-rows-spec : {M : Type 1} → statement M
 place-rows-spec =
     tie.close
     (tie.spec (λ c. search needs) (λ c. search needs) (λ c. search needs) (λ c. search needs) (λ c. search needs) (λ c. search needs) (λ c. search needs)
-    (λ c. rows-placed (c .args .rows .now) (c .args .places) (c .pre .0)))
+    (λ c. rows-placed (c .args .row-starts .now) (c .args .places) (c .pre .0)))

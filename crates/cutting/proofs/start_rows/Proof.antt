@@ -1,5 +1,4 @@
 -- `cutting::start_rows` meets its contract: the rows at their places, then both bounds in each.
--- Assumes nothing.
 use native.Mathlib.Omega.{arith}
 use borrow.Author.Needs.{needs}
 use Rattle.cutting.proofs.Cutting.{bounds-cut}
@@ -8,7 +7,7 @@ use Rattle.cutting.proofs.start_rows.Tie as tie
 
 start-row-requires : tie.Need-start-row-requires
 start-row-requires c κs =
-    let place-rows = c .before .before .before .before .before in
+    let place-rows = c .before .before .before .before .before .before .before in
     let entry = place-rows .before .before .before .before .before in
     let pre = entry .pre in
     let placed = place-rows .place-rows .ensures 3 (omega arith) in
@@ -16,8 +15,8 @@ start-row-requires c κs =
 
 start-row-requires-2 : tie.Need-start-row-requires-2
 start-row-requires-2 c κs =
-    let start-row = c .before .before .before .before .before .before .before in
-    let place-rows = start-row .before .before .before .before .before .before in
+    let start-row = c .before .before .before .before .before .before .before .before .before in
+    let place-rows = start-row .before .before .before .before .before .before .before .before in
     let entry = place-rows .before .before .before .before .before in
     let pre = entry .pre in
     let placed = place-rows .place-rows .ensures 2 (omega arith) in
@@ -26,9 +25,9 @@ start-row-requires-2 c κs =
 
 start-row-requires-3 : tie.Need-start-row-requires-3
 start-row-requires-3 c κs =
-    let start-row2 = c .before .before .before .before .before .before .before in
-    let start-row = start-row2 .before .before .before .before .before .before .before .before in
-    let place-rows = start-row .before .before .before .before .before .before in
+    let start-row2 = c .before .before .before .before .before .before .before .before .before in
+    let start-row = start-row2 .before .before .before .before .before .before .before .before .before .before in
+    let place-rows = start-row .before .before .before .before .before .before .before .before in
     let entry = place-rows .before .before .before .before .before in
     let pre = entry .pre in
     let placed = place-rows .place-rows .ensures 1 (omega arith) in
@@ -42,9 +41,9 @@ start-row-requires-3 c κs =
 start-row-requires-4 : tie.Need-start-row-requires-4
 start-row-requires-4 c κs =
     let start-row3 = c .before .before .before .before .before .before .before in
-    let start-row2 = start-row3 .before .before .before .before .before .before .before .before in
-    let start-row = start-row2 .before .before .before .before .before .before .before .before in
-    let place-rows = start-row .before .before .before .before .before .before in
+    let start-row2 = start-row3 .before .before .before .before .before .before .before .before .before .before in
+    let start-row = start-row2 .before .before .before .before .before .before .before .before .before .before in
+    let place-rows = start-row .before .before .before .before .before .before .before .before in
     let entry = place-rows .before .before .before .before .before in
     let pre = entry .pre in
     let placed = place-rows .place-rows .ensures 0 (omega arith) in
@@ -56,12 +55,19 @@ start-row-requires-4 c κs =
       omega (arith, first .0, second .0, third .0, placed, pre .1),
     )
 
+rows-same-length : tie.Need-same-length-3
+rows-same-length c =
+    let start-row3 = c .before .before .before .before .before .before .before .before .before .before .before .before in
+    let start-row = start-row3 .before .before .before .before .before .before .before .before .before .before .before .before .before .before .before .before .before .before .before .before in
+    let place-rows = start-row .before .before .before .before .before .before .before .before in
+    place-rows .place-rows .kept .0
+
 returns : tie.Need-returns
 returns c =
     let start-row3 = c .before .before .before .before .before .before .before .before .before .before .before .before in
-    let start-row2 = start-row3 .before .before .before .before .before .before .before .before in
-    let start-row = start-row2 .before .before .before .before .before .before .before .before in
-    let place-rows = start-row .before .before .before .before .before .before in
+    let start-row2 = start-row3 .before .before .before .before .before .before .before .before .before .before in
+    let start-row = start-row2 .before .before .before .before .before .before .before .before .before .before in
+    let place-rows = start-row .before .before .before .before .before .before .before .before in
     let entry = place-rows .before .before .before .before .before in
     let pre = entry .pre in
     let placed = place-rows .place-rows .ensures in (
@@ -73,4 +79,5 @@ returns c =
 pub start-rows-spec : {M : Type 1} → statement M
 start-rows-spec =
     tie.close
-    (tie.spec (λ c κs. search needs) start-row-requires start-row-requires-2 start-row-requires-3 start-row-requires-4 (λ c. search needs) (λ c. search needs) (λ c. search needs) returns)
+    (tie.spec (λ c κs. search needs) (λ c. search needs) (λ c. search needs) start-row-requires (λ c. search needs) (λ c. search needs) start-row-requires-2
+    (λ c. search needs) (λ c. search needs) start-row-requires-3 start-row-requires-4 (λ c. search needs) (λ c. search needs) rows-same-length returns)

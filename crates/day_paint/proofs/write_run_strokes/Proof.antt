@@ -1,5 +1,4 @@
 -- `day_paint::write_run_strokes` meets its contract.
--- Assumes nothing.
 use mathlib.Core.Path.{_≡_, refl, sym, _∙_}
 use mathlib.Core.List.{[]}
 use Prim.Native.Nat.{_+_, _-_, _≤_}
@@ -102,24 +101,5 @@ pub write-run-strokes-spec : {M : Type 1} → statement M
 write-run-strokes-spec =
     tie.close
     (tie.spec
-    Inv-loop
-    μ-loop
-    loop-holds
-    mul-x
-    shared-slice-read-x
-    same-length
-    returns
-    mul-p
-    shared-slice-read-p
-    add-next
-    is-simple-requires
-    stroke-requires
-    mul-strokes
-    slice-write-strokes
-    add-place
-    loop-less
-    loop-again
-    loop-less-2
-    loop-again-2
-    same-length-2
-    returns-2)
+    Inv-loop μ-loop loop-holds mul-x shared-slice-read-x same-length returns mul-p shared-slice-read-p add-next is-simple-requires stroke-requires
+    mul-strokes slice-write-strokes add-place loop-less loop-again loop-less-2 loop-again-2 same-length-2 returns-2)

@@ -98,23 +98,5 @@ pub write-strokes-spec : {M : Type 1} → statement M
 write-strokes-spec =
     tie.close
     (tie.spec
-    Inv-loop
-    μ-loop
-    loop-holds
-    mul-p
-    shared-slice-read-p
-    mul-x
-    shared-slice-read-x
-    add-next
-    is-simple-requires
-    stroke-requires
-    mul-strokes
-    slice-write-strokes
-    add-place
-    loop-less
-    loop-again
-    write-run-strokes-requires
-    same-length
-    returns
-    same-length-2
-    returns-2)
+    Inv-loop μ-loop loop-holds mul-p shared-slice-read-p mul-x shared-slice-read-x add-next is-simple-requires stroke-requires mul-strokes
+    slice-write-strokes add-place loop-less loop-again write-run-strokes-requires same-length returns same-length-2 returns-2)

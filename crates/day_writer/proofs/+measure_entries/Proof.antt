@@ -1,5 +1,4 @@
 -- `day_writer::measure_entries` meets its contract: the first entry's rule, and those behind it.
--- Assumes nothing.
 use mathlib.Core.Path.{refl}
 use Prim.Native.Nat.{ℕ, _<_}
 use native.Mathlib.Omega.{arith}
@@ -9,7 +8,7 @@ use borrow.Fn.PlainCycle.{Measures, is, falls, and}
 use Rattle.rule_size.proofs.rule_bits.Reads as rule-bits-reads
 use Rattle.day_writer.proofs.Entries.{step}
 use Rattle.day_writer.proofs.Laid.{no-size, entries-count, entries-size}
-use Rattle.day_writer.proofs.narrow.Reads as narrow-reads
+use Rattle.casts.proofs.u64_to_usize.Reads as u64-to-usize-reads
 use Rattle.day_writer.proofs.+measure_entries.{statement}
 use Rattle.day_writer.proofs.+measure_entries.Tie.{close}
 use Rattle.day_writer.proofs.measure_entries.Reads as measure-entries
@@ -27,13 +26,13 @@ measure-entries-below t = and 2 measure-entries-kinds.ps (falls 2 measure-entrie
 
 pub +measure-entries-spec : {M : Type 1} → statement M
 +measure-entries-spec = close μ-measure-entries λ t. measure-entries-lts.spec
-    (narrow-reads.Asked, narrow-reads.Learnt, rule-bits-reads.Asked, rule-bits-reads.Learnt, measure-entries-below t, measure-entries.Post)
+    (u64-to-usize-reads.Asked, u64-to-usize-reads.Learnt, rule-bits-reads.Asked, rule-bits-reads.Learnt, measure-entries-below t, measure-entries.Post)
     (measure-entries-at t)
     measure-entries.Post
     (λ c.
     let entry = c .before .before .before in
     let args = entry .args in (
-      λ operator ends h. no-size operator ends (args .counts .now) (args .words .now) (args .at) (args .rest) (c .if1 .taken),
+      λ operator ends h. no-size operator ends (args .item-counts .now) (args .words .now) (args .at) (args .words-left) (c .if1 .taken),
       omega arith,
       omega arith,
     ))
@@ -53,41 +52,41 @@ pub +measure-entries-spec : {M : Type 1} → statement M
     let if1 = c .before .before in
     let entry = if1 .before .before .before in
     let pre = entry .pre in
-    let s = step _ _ _ _ (if1 .if1 .left) (c .narrow .ensures) (pre .1 .1 .0) in
+    let s = step _ _ _ _ (if1 .if1 .left) (c .u64-to-usize .ensures) (pre .1 .1 .0) in
     omega (arith, s .within, pre .1 .1 .0 .inside))
     (λ c κs.
     let if1 = c .before .before in
     let entry = if1 .before .before .before in
     let pre = entry .pre in
-    let s = step _ _ _ _ (if1 .if1 .left) (c .narrow .ensures) (pre .1 .1 .0) in
+    let s = step _ _ _ _ (if1 .if1 .left) (c .u64-to-usize .ensures) (pre .1 .1 .0) in
     (pre .1 .0, (omega (arith, s .within, pre .1 .1 .0 .inside), s .few)))
     (λ c.
     let if1 = c .before .before .before in
     let entry = if1 .before .before .before in
     let pre = entry .pre in
-    let s = step _ _ _ _ (if1 .if1 .left) (c .before .narrow .ensures) (pre .1 .1 .0) in
+    let s = step _ _ _ _ (if1 .if1 .left) (c .before .u64-to-usize .ensures) (pre .1 .1 .0) in
     omega (arith, s .within, pre .1 .1 .0 .inside))
     (λ c.
     let if1 = c .before .before .before in
     let entry = if1 .before .before .before in
     let pre = entry .pre in
-    let s = step _ _ _ _ (if1 .if1 .left) (c .before .narrow .ensures) (pre .1 .1 .0) in
+    let s = step _ _ _ _ (if1 .if1 .left) (c .before .u64-to-usize .ensures) (pre .1 .1 .0) in
     omega (arith, s .within, pre .1 .1 .0 .inside))
     (λ c.
     let if1 = c .before .before .before in
     let entry = if1 .before .before .before in
-    let s = step _ _ _ _ (if1 .if1 .left) (c .before .narrow .ensures) (entry .pre .1 .1 .0) in
+    let s = step _ _ _ _ (if1 .if1 .left) (c .before .u64-to-usize .ensures) (entry .pre .1 .1 .0) in
     omega (arith, s .within))
     (λ c.
     let if1 = c .before .before .before in
     let entry = if1 .before .before .before in
-    let s = step _ _ _ _ (if1 .if1 .left) (c .before .narrow .ensures) (entry .pre .1 .1 .0) in
+    let s = step _ _ _ _ (if1 .if1 .left) (c .before .u64-to-usize .ensures) (entry .pre .1 .1 .0) in
     omega (arith, s .within))
     (λ c κs.
     let if1 = c .before .before .before in
     let entry = if1 .before .before .before in
     let pre = entry .pre in
-    let s = step _ _ _ _ (if1 .if1 .left) (c .before .narrow .ensures) (pre .1 .1 .0) in
+    let s = step _ _ _ _ (if1 .if1 .left) (c .before .u64-to-usize .ensures) (pre .1 .1 .0) in
     (omega (arith, pre .0, s .within), (pre .1 .0, (s .behind, omega (arith, pre .1 .1 .1)))))
     (λ c.
     let entry = c .before .before .before .before .before .before .before .before in
@@ -100,14 +99,14 @@ pub +measure-entries-spec : {M : Type 1} → statement M
     (λ c.
     let at-measure-entries = c .before .before in
     let rule-bits = at-measure-entries .before in
-    let narrow = rule-bits .before in
-    let if1 = narrow .before .before in
+    let cast = rule-bits .before in
+    let if1 = cast .before .before in
     let entry = if1 .before .before .before in
     let a = entry .args in
-    let s = step _ _ _ _ (if1 .if1 .left) (narrow .narrow .ensures) (entry .pre .1 .1 .0) in (
+    let s = step _ _ _ _ (if1 .if1 .left) (cast .u64-to-usize .ensures) (entry .pre .1 .1 .0) in (
       λ operator ends h. (
-        entries-count operator ends (a .counts .now) (a .words .now) (a .at) (a .rest) _ s _ (at-measure-entries .measure-entries .ensures .0 1 ends h .0),
-        entries-size operator ends (a .counts .now) (a .words .now) (a .at) (a .rest) _ s _ _ (rule-bits .rule-bits .ensures .0 operator _ ends h)
+        entries-count operator ends (a .item-counts .now) (a .words .now) (a .at) (a .words-left) _ s _ (at-measure-entries .measure-entries .ensures .0 1 ends h .0),
+        entries-size operator ends (a .item-counts .now) (a .words .now) (a .at) (a .words-left) _ s _ _ (rule-bits .rule-bits .ensures .0 operator _ ends h)
             (at-measure-entries .measure-entries .ensures .0 1 ends h .1),
       ),
       omega (arith, s .within, at-measure-entries .measure-entries .ensures .1),

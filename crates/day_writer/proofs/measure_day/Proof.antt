@@ -1,5 +1,4 @@
 -- `day_writer::measure_day` meets its contract: the entries from the first word on, the first Normal.
--- Assumes nothing.
 use mathlib.Core.Path.{sym, ap, _∙_}
 use mathlib.Core.List.{List}
 use Prim.Native.Nat.{ℕ}
@@ -16,7 +15,7 @@ returns c =
     let args = c .before .before .before .args in
     let measured = c .measure-entries .ensures in
     let same : (ends : List ℕ) → _ =
-    λ ends. sym (entries-day (rowsBelow ends (args .counts .now) 4) (dayIn (args .words .now) 0 (args .count))) in (
+    λ ends. sym (entries-day (rowsBelow ends (args .item-counts .now) 4) (dayIn (args .words .now) 0 (args .count))) in (
       λ ends h. (ap length (same ends) ∙ measured .0 0 ends h .0, ap (λ rs. length (rulesBits rs)) (same ends) ∙ measured .0 0 ends h .1),
       measured .1,
       measured .2,

@@ -1,5 +1,4 @@
 -- `day_writer::write_day` meets its contract: the entries from the first word on, the first Normal.
--- Assumes nothing.
 use mathlib.Core.Path.{sym, ap}
 use native.Mathlib.Omega.{arith}
 use borrow.Author.Needs.{needs}
@@ -20,7 +19,7 @@ write-entries-requires c κs =
         pre .0,
         (
           pre .1 .0,
-          room-as (ap rulesBits (sym (entries-day (rowsBelow (a .ends .now) (a .counts .now) 4) (dayIn (a .words .now) 0 (a .count))))) (pre .1 .1),
+          room-as (ap rulesBits (sym (entries-day (rowsBelow (a .ends .now) (a .item-counts .now) 4) (dayIn (a .words .now) 0 (a .count))))) (pre .1 .1),
         ),
       ),
     )
@@ -30,7 +29,7 @@ returns c =
     let write-entries = c .before .before in
     let entry = write-entries .before .before .before .before .before .before in
     let a = entry .args in
-    wrote-as (ap rulesBits (sym (entries-day (rowsBelow (a .ends .now) (a .counts .now) 4) (dayIn (a .words .now) 0 (a .count)))))
+    wrote-as (ap rulesBits (sym (entries-day (rowsBelow (a .ends .now) (a .item-counts .now) 4) (dayIn (a .words .now) 0 (a .count)))))
     (write-entries .write-entries .ensures)
 
 pub write-day-spec : {M : Type 1} → statement M

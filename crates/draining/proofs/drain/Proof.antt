@@ -1,5 +1,4 @@
 -- `draining::drain` meets its contract. The loop's invariant: the rules passed are drained into the tables, and the lengths are kept.
--- Assumes nothing.
 use mathlib.Core.Path.{_≡_, refl, _∙_}
 use Prim.Native.Nat.{_+_, _*_, _-_, _≤_}
 use native.Mathlib.Omega.{arith}

@@ -1,5 +1,4 @@
 -- `field::bytes_at` meets its contract. The loop's invariant: `number` is that of the bytes taken so far.
--- Assumes nothing.
 use mathlib.Core.Path.{_≡_, sym, ap, _∙_}
 use Prim.Native.Nat.{_≤_, _-_, _*_}
 use native.Mathlib.Omega.{arith}
@@ -38,7 +37,7 @@ add-number c =
     let args = start .args in
     let loop = at-loop .loop in
     let bytes = known-bytes (args .sheet .now) (λ j. omega (arith, known .shared-slice-known .given j)) in
-    omega (arith, bytes-below (args .sheet .now) bytes (args .first) (loop .index - args .first) 4 (omega arith) (omega arith), c .wide .ensures .1)
+    omega (arith, bytes-below (args .sheet .now) bytes (args .first) (loop .index - args .first) 4 (omega arith) (omega arith), c .u8-to-u64 .ensures .1)
 
 loop-again : tie.Need-loop-again Inv-loop μ-loop
 loop-again c =
@@ -50,7 +49,7 @@ loop-again c =
     let bytes = known-bytes (args .sheet .now) (λ j. omega (arith, known .shared-slice-known .given j)) in (
       omega arith,
       omega arith,
-      omega (arith, bytes-more (args .sheet .now) bytes (args .first) (loop .index) (omega arith) (omega arith), loop .inv .2, c .wide .ensures .0),
+      omega (arith, bytes-more (args .sheet .now) bytes (args .first) (loop .index) (omega arith) (omega arith), loop .inv .2, c .u8-to-u64 .ensures .0),
     )
 
 returns : tie.Need-returns Inv-loop μ-loop

@@ -1,5 +1,4 @@
 -- `field::field_at` meets its contract: the field, taken from the number of the bytes that it spans, five at most.
--- Assumes nothing.
 use mathlib.Core.Path.{ap, _∙_}
 use Prim.Native.Nat.{_/_, _%_, _^_}
 use native.Mathlib.Omega.{arith}

@@ -1,4 +1,4 @@
--- `field::minutes_at` meets its contract. Assumes nothing.
+-- `field::minutes_at` meets its contract.
 use native.Mathlib.Omega.{arith}
 use borrow.Author.Needs.{needs}
 use borrow.Author.Tests.{le-leb, lt-leb}

@@ -1,5 +1,4 @@
 -- `field::take_at` meets its contract: the field, where it lies within the sheet.
--- Assumes nothing.
 use native.Mathlib.Omega.{arith}
 use borrow.Author.Needs.{needs}
 use Rattle.field.proofs.Taking.{take-value, take-short}

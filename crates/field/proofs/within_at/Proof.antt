@@ -1,5 +1,4 @@
 -- `field::within_at` meets its contract: the field of any value, tested at both ends.
--- Assumes nothing.
 use mathlib.Core.Path.{_≡_}
 use mathlib.Core.Bool.{false}
 use Prim.Native.Nat.{ℕ, _≤_, _<_}

@@ -1,5 +1,4 @@
 -- `field::year_at` meets its contract: the field within the definition's bounds.
--- Assumes nothing.
 use borrow.Author.Needs.{needs}
 use Rattle.field.proofs.year_at.Statement.{statement}
 use Rattle.field.proofs.year_at.Tie as tie

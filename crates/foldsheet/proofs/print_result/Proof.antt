@@ -1,5 +1,4 @@
 -- `foldsheet::print_result` is safe: no byte past the buffer is printed.
--- Assumes nothing.
 use mathlib.Core.Path.{sym}
 use lib.Seq.{length-take-le}
 use borrow.Author.Tests.{leb-true}
@@ -12,9 +11,4 @@ print-result-spec =
     tie.close
     (tie.spec
     (λ c. sym (length-take-le _ _ (leb-true _ _ (c .before .if2 .taken))))
-    (λ c κs. search needs)
-    (λ c. search needs)
-    (λ c κs. search needs)
-    (λ c. search needs)
-    (λ c κs. search needs)
-    (λ c. search needs))
+    (λ c κs. search needs) (λ c. search needs) (λ c κs. search needs) (λ c. search needs) (λ c κs. search needs) (λ c. search needs))

@@ -1,5 +1,4 @@
 -- `line::line_of` meets its contract: 10, then 7, then the line.
--- Assumes nothing.
 use mathlib.Core.Path.{sym, ap, _∙_}
 use native.Mathlib.Omega.{arith}
 use lib.ListN.{length}

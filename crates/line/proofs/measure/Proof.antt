@@ -1,5 +1,4 @@
 -- `line::measure` meets its contract: what is put into the buffer of one byte is as long as the line.
--- Assumes nothing.
 use borrow.Author.Needs.{needs}
 use Rattle.line.proofs.Answers.{lines-measured}
 use Rattle.line.proofs.measure.Statement.{statement}

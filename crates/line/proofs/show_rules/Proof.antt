@@ -1,5 +1,4 @@
 -- `line::show_rules` meets its contract: rule after rule.
--- Assumes nothing.
 use mathlib.Core.Path.{_∙_}
 use Prim.Native.Nat.{_-_, _≤_}
 use native.Mathlib.Omega.{arith}

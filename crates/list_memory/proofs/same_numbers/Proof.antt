@@ -1,5 +1,4 @@
 -- `list_memory::same_numbers` meets its contract. The loop's invariant: what is left to compare decides.
--- Assumes nothing.
 use mathlib.Core.Path.{_≡_, _∙_}
 use Prim.Native.Nat.{_-_, _≤_}
 use native.Mathlib.Omega.{arith}
@@ -21,17 +20,10 @@ pub same-numbers-spec : {M : Type 1} → statement M
 same-numbers-spec =
     tie.close
     (tie.spec
-    Inv-loop
-    μ-loop
+    Inv-loop μ-loop
     (λ c. (omega arith, alike-start _ _ _ _))
-    (λ c. search needs)
-    (λ c. search needs)
-    (λ c. search needs)
-    (λ c. search needs)
-    (λ c. search needs)
-    (λ c. search needs)
+    (λ c. search needs) (λ c. search needs) (λ c. search needs) (λ c. search needs) (λ c. search needs) (λ c. search needs)
     (λ c. alike-not _ _ _ _ _ (omega arith) (c .if1 .taken) ∙ c .before .before .before .before .loop .inv .1)
-    (λ c. search needs)
-    (λ c. search needs)
+    (λ c. search needs) (λ c. search needs)
     (λ c. (omega arith, alike-more _ _ _ _ _ (omega arith) (c .if1 .left) ∙ c .before .before .before .before .loop .inv .1))
     (λ c. alike-end _ _ _ _ _ (omega arith) ∙ c .before .loop .inv .1))

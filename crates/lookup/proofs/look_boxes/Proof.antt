@@ -2,7 +2,7 @@
 use mathlib.Core.Path.{_∙_}
 use native.Mathlib.Omega.{arith}
 use borrow.Author.Needs.{needs}
-use Rattle.drawing.proofs.Listed.{listing-long, listing-all, zeros-empty}
+use Rattle.draw_rules.proofs.Listed.{listing-long, listing-all, zeros-empty}
 use Rattle.prepare.proofs.ToDraw.{boxes-few}
 use Rattle.lookup.proofs.Answers.{list-refused, left-refused, state-found}
 use Rattle.lookup.proofs.look_boxes.Statement.{statement}
@@ -50,13 +50,5 @@ pub look-boxes-spec : {M : Type 1} → statement M
 look-boxes-spec =
     tie.close
     (tie.spec
-    (λ c. search needs)
-    draw-rules-requires
-    (λ c κs. search needs)
-    returns
-    (λ c κs. search needs)
-    returns-2
-    (λ c. search needs)
-    look-requires
-    (λ c κs. search needs)
-    returns-3)
+    (λ c. search needs) draw-rules-requires (λ c κs. search needs) returns (λ c κs. search needs) returns-2 (λ c. search needs) look-requires
+    (λ c κs. search needs) returns-3)

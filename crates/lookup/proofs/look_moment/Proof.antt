@@ -119,31 +119,8 @@ pub look-moment-spec : {M : Type 1} → statement M
 look-moment-spec =
     tie.close
     (tie.spec
-    (λ c. search needs)
-    (λ c. search needs)
-    (λ c. search needs)
-    (λ c. search needs)
-    (λ c. search needs)
-    (λ c. search needs)
-    (λ c. search needs)
-    (λ c. search needs)
-    (λ c. search needs)
-    prepare-requires
-    (λ c κs. search needs)
-    returns
-    mul-places
-    array-share-prefix-states
-    slice-aggregate-look-boxes
-    array-share-prefix-span-counts
-    slice-aggregate-look-boxes-2
-    array-share-prefix-spans
-    slice-aggregate-look-boxes-3
-    (λ c. search needs)
-    (λ c. search needs)
-    (λ c. search needs)
-    (λ c. search needs)
-    (λ c. search needs)
-    (λ c. search needs)
-    sub-look-boxes
-    look-boxes-requires
-    returns-2)
+    (λ c. search needs) (λ c. search needs) (λ c. search needs) (λ c. search needs) (λ c. search needs) (λ c. search needs) (λ c. search needs)
+    (λ c. search needs) (λ c. search needs) prepare-requires (λ c κs. search needs) returns mul-places array-share-prefix-states
+    slice-aggregate-look-boxes array-share-prefix-span-counts slice-aggregate-look-boxes-2 array-share-prefix-spans slice-aggregate-look-boxes-3
+    (λ c. search needs) (λ c. search needs) (λ c. search needs) (λ c. search needs) (λ c. search needs) (λ c. search needs) sub-look-boxes
+    look-boxes-requires returns-2)

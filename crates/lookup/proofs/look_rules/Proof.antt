@@ -16,7 +16,9 @@ returns c =
     c .lookup-refused .ensures ∙ sym (look-no-minute (args .sheet .now) (args .year) (args .month) (args .day) (args .minute) _ _ read (c .before .if1 .taken))
 
 look-moment-requires : tie.Need-look-moment-requires
-look-moment-requires c κs = (c .before .before .before .before .before .before .before .pre, point-dated _ _ _ _ (sym (ap pointIn (c .before .dated .given .1)) ∙ c .before .before .before .point-of .ensures) .2)
+look-moment-requires c κs =
+    let dated = c .before .before .before in
+    (dated .before .before .before .before .pre, point-dated _ _ _ _ (sym (ap pointIn (c .before .dated .given .1)) ∙ dated .point-of .ensures) .2)
 
 returns-2 : tie.Need-returns-2
 returns-2 c =

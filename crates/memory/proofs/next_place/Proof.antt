@@ -1,31 +1,29 @@
--- `memory::next_place` meets its contract. The loop's invariant: no place passed has the number.
--- Assumes nothing.
+-- `memory::next_place` meets its contract. The loop's invariant: no row passed has the hash.
 use mathlib.Core.Path.{_≡_}
-use Prim.Native.Nat.{ℕ, _-_, _≤_, _<_}
+use Prim.Native.Nat.{ℕ, _+_, _-_, _*_, _≤_, _<_}
 use native.Mathlib.Omega.{arith}
 use lib.ListN.{getD}
 use borrow.Author.Count.{below-more}
 use borrow.Author.Needs.{needs}
+use Rattle.memory.specs.Rows.{memoryPlaces}
 use Rattle.memory.proofs.next_place.Statement.{statement}
 use Rattle.memory.proofs.next_place.Tie as tie
 
 abbrev Inv-loop : tie.InvT-loop
-Inv-loop row number many next place₀ place = (next ≤ place) × (place ≤ many) × ((k : ℕ) → k < place → next ≤ k → getD row k 0 ≡ number → ⊥)
+Inv-loop memory place hash known next row₀ row =
+    (next ≤ row) × (row ≤ known) × ((k : ℕ) → k < row → next ≤ k → getD memory (k * memoryPlaces + place) 0 ≡ hash → ⊥)
 
 abbrev μ-loop : tie.MeasureT-loop
-μ-loop row number many next place₀ place = many - place
+μ-loop memory place hash known next row₀ row = known - row
 
 pub next-place-spec : {M : Type 1} → statement M
 next-place-spec =
     tie.close
     (tie.spec
-    Inv-loop
-    μ-loop
+    Inv-loop μ-loop
     (λ c. (search needs, search needs, λ k l m. absurd (omega arith)))
-    (λ c. search needs)
-    (λ c. search needs)
+    (λ c. search needs) (λ c. search needs) (λ c. search needs) (λ c. search needs)
     (λ c. (search needs, search needs, λ k l m. c .before .before .before .loop .inv .2 k m l))
-    (λ c. search needs)
-    (λ c. search needs)
+    (λ c. search needs) (λ c. search needs)
     (λ c. (search needs, search needs, below-more _ _ (c .before .before .before .loop .inv .2) (λ l. c .if1 .left)))
     (λ c. (search needs, search needs, λ k l m. c .before .loop .inv .2 k m l)))

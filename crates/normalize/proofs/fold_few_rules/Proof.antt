@@ -14,13 +14,5 @@ pub fold-few-rules-spec : {M : Type 1} → statement M
 fold-few-rules-spec =
     tie.close
     (tie.spec
-    (λ c. search needs)
-    (λ c. search needs)
-    (λ c. search needs)
-    (λ c. search needs)
-    (λ c. search needs)
-    (λ c. search needs)
-    (λ c. search needs)
-    fold-rules-in-requires
-    (λ c. search needs)
-    (λ c. search needs))
+    (λ c. search needs) (λ c. search needs) (λ c. search needs) (λ c. search needs) (λ c. search needs) (λ c. search needs) (λ c. search needs)
+    fold-rules-in-requires (λ c. search needs) (λ c. search needs))

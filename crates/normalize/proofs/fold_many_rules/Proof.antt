@@ -24,13 +24,5 @@ pub fold-many-rules-spec : {M : Type 1} → statement M
 fold-many-rules-spec =
     tie.close
     (tie.spec
-    (λ c. search needs)
-    (λ c. search needs)
-    (λ c. search needs)
-    (λ c. search needs)
-    (λ c. search needs)
-    (λ c. search needs)
-    (λ c. search needs)
-    fold-rules-in-requires
-    (λ c. search needs)
-    (λ c. search needs))
+    (λ c. search needs) (λ c. search needs) (λ c. search needs) (λ c. search needs) (λ c. search needs) (λ c. search needs) (λ c. search needs)
+    fold-rules-in-requires (λ c. search needs) (λ c. search needs))

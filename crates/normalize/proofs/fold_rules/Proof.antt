@@ -1,5 +1,4 @@
 -- `normalize::fold_rules` meets its contract: in tables for few rules or for many.
--- Assumes nothing.
 use borrow.Author.Needs.{needs}
 use Rattle.normalize.proofs.fold_rules.Statement.{statement}
 use Rattle.normalize.proofs.fold_rules.Tie as tie
@@ -12,9 +11,4 @@ pub fold-rules-spec : {M : Type 1} → statement M
 fold-rules-spec =
     tie.close
     (tie.spec
-    fold-few-rules-requires
-    (λ c κs. search needs)
-    (λ c. search needs)
-    (λ c. search needs)
-    (λ c. search needs)
-    (λ c. search needs))
+    fold-few-rules-requires (λ c κs. search needs) (λ c. search needs) (λ c. search needs) (λ c. search needs) (λ c. search needs))

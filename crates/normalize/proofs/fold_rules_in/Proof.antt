@@ -44,7 +44,8 @@ rules-left-requires c κs =
     let read = entry .pre .0 in
     let prepared = preparing .prepare .ensures (read .0) (entry .args .end) (read .1 .0) (read .1 .1) in
     let sheet = entry .args .sheet .now in
-    let bytes = known-bytes sheet (λ j. omega (arith, preparing .before .before .before .before .before .before .before .before .before .before .before .before .before .before .before .before .before .before .before .shared-slice-known .given j)) in
+    let known = preparing .before .before .before .before .before .before .before .before .before .before .before .before .before .before .before .before .before .before .before .shared-slice-known in
+    let bytes = known-bytes sheet (λ j. omega (arith, known .given j)) in
     (begins-there sheet bytes _ _ _ _ (read .1 .0) (read .1 .1), drained-within _ _ _ _ _ _ _ _ _ _ _ prepared _ (read .1 .1))
 
 slice-reshare-prefix-fold-boxes : tie.Need-slice-reshare-prefix-fold-boxes
@@ -115,7 +116,8 @@ fold-boxes-requires c κs =
     let read = entry .pre .0 in
     let prepared = preparing .prepare .ensures (read .0) (entry .args .end) (read .1 .0) (read .1 .1) in
     let sheet = entry .args .sheet .now in
-    let bytes = known-bytes sheet (λ j. omega (arith, preparing .before .before .before .before .before .before .before .before .before .before .before .before .before .before .before .before .before .before .before .shared-slice-known .given j)) in
+    let known = preparing .before .before .before .before .before .before .before .before .before .before .before .before .before .before .before .before .before .before .before .shared-slice-known in
+    let bytes = known-bytes sheet (λ j. omega (arith, known .given j)) in
     let within = drained-within _ _ _ _ _ _ _ _ _ _ _ prepared _ (read .1 .1) in
     let left = c .before .before .before .before .before .before .before .before .before .before .rules-left .ensures in (
       read .0,
@@ -133,30 +135,10 @@ pub fold-rules-in-spec : {M : Type 1} → statement M
 fold-rules-in-spec =
     tie.close
     (tie.spec
-    (λ c. search needs)
-    (λ c. search needs)
-    prepare-requires
-    (λ c κs. search needs)
-    (λ c. search needs)
-    (λ c. search needs)
-    (λ c. search needs)
-    (λ c. search needs)
-    (λ c. search needs)
-    (λ c. search needs)
-    (λ c. search needs)
-    returns
-    mul-places
-    rules-left-requires
-    slice-reshare-prefix-fold-boxes
-    slice-aggregate-fold-boxes
-    slice-reshare-prefix-fold-boxes-2
-    slice-aggregate-fold-boxes-2
-    slice-reshare-prefix-fold-boxes-3
-    slice-aggregate-fold-boxes-3
-    (λ c. search needs)
-    (λ c. search needs)
-    fold-boxes-requires
-    (λ c. search needs)
+    (λ c. search needs) (λ c. search needs) prepare-requires (λ c κs. search needs) (λ c. search needs) (λ c. search needs) (λ c. search needs)
+    (λ c. search needs) (λ c. search needs) (λ c. search needs) (λ c. search needs) returns mul-places rules-left-requires
+    slice-reshare-prefix-fold-boxes slice-aggregate-fold-boxes slice-reshare-prefix-fold-boxes-2 slice-aggregate-fold-boxes-2
+    slice-reshare-prefix-fold-boxes-3 slice-aggregate-fold-boxes-3 (λ c. search needs) (λ c. search needs) fold-boxes-requires (λ c. search needs)
     (λ c.
     let branch = c .before .before .before .before .before .before .before .before .before .before .before .before .before .before in
     let preparing = branch .before .before .before .before .before .before .before .before .before .before .before .before .before .before .before .before .before .before in
@@ -181,5 +163,4 @@ fold-rules-in-spec =
     let branch = c .before .before .before .before .before .before .before .before .before .before .before .before .before .before in
     let preparing = branch .before .before .before .before .before .before .before .before .before .before .before .before .before .before .before .before .before .before in
     preparing .prepare .kept .1 .1 .1 .1 .1 .1 .1 .1 .0)
-    (λ c. search needs)
-    (λ c. search needs))
+    (λ c. search needs) (λ c. search needs))

@@ -23,8 +23,4 @@ pub rules-left-spec : {M : Type 1} → statement M
 rules-left-spec =
     tie.close
     (tie.spec
-    (λ c. search needs)
-    (λ c. search needs)
-    (λ c. search needs)
-    returns
-    returns-2)
+    (λ c. search needs) (λ c. search needs) (λ c. search needs) returns returns-2)

@@ -1,58 +1,127 @@
 -- `page_writer::measure_pages` meets its contract. The loop's invariant: the rules and bits so far and those of the pages left are all; the
--- pages left are ready, and the lengths are kept.
--- Assumes nothing.
-use mathlib.Core.Path.{_≡_, refl, sym, _∙_}
+-- pages left are ready, and the scratch keeps its lengths.
+use mathlib.Core.Path.{sym, _∙_}
 use native.Mathlib.Omega.{arith}
-use lib.ListN.{length}
-use Rattle.tables.specs.Days.{boxWords}
-use Rattle.box_day.proofs.Kept.{scratch-kept}
-use Rattle.tables.specs.Pages.{Pages}
-use Rattle.page_writer.proofs.Reading.{pages-first, pages-later}
+use borrow.Author.Needs.{needs}
 use Rattle.tables.proofs.Pages.{size-low}
-use Rattle.page_writer.proofs.Walking.{Measured, measured-none, measured-more, measured-all}
+use Rattle.page_writer.proofs.Reading.{cut-ready}
+use Rattle.page_writer.proofs.Walking.{Sized, sized-scratch, Measured, measured-none, measured-page, measured-more, measured-all}
 use Rattle.page_writer.proofs.measure_pages.Statement.{statement}
 use Rattle.page_writer.proofs.measure_pages.Tie as tie
 
 abbrev Inv-loop : tie.InvT-loop
-Inv-loop words₀ stated₀ spanned₀ strokes₀ cuts₀ painted₀ states counts spans lists text at rest here₀ left₀ rules₀ bits₀ words stated spanned strokes cuts painted here left rules bits =
-    Measured (boxWords states counts spans lists) text rest at left here rules bits × Pages states counts spans lists text (length words) left here
-    × (length words ≡ length words₀) × (length stated ≡ length stated₀) × (length spanned ≡ length spanned₀) × (length strokes ≡ length strokes₀) × (length cuts ≡ length cuts₀) × (length painted ≡ length painted₀)
+Inv-loop states counts spans lists pages count words₀ span-states₀ span-codes₀ strokes₀ cuts₀ intervals₀ here₀ left₀ rules₀ bits₀ words span-states span-codes strokes cuts
+    intervals here left rules bits =
+    Measured states counts spans lists pages count left here rules bits × Sized words span-states span-codes strokes cuts intervals
 
 abbrev μ-loop : tie.MeasureT-loop
-μ-loop words₀ stated₀ spanned₀ strokes₀ cuts₀ painted₀ states counts spans lists text at rest here₀ left₀ rules₀ bits₀ words stated spanned strokes cuts painted here left rules bits = left
+μ-loop states counts spans lists pages count words₀ span-states₀ span-codes₀ strokes₀ cuts₀ intervals₀ here₀ left₀ rules₀ bits₀ words span-states span-codes strokes cuts
+    intervals here left rules bits =
+    left
+
+loop-holds : tie.Need-loop-holds Inv-loop μ-loop
+loop-holds c =
+    let words = c .before .before .before .before .before in
+    let entry = words .before .before .before .before .before .before in (
+      measured-none _ _ _ _ _ _ (entry .pre .0),
+      record {
+        words = words .words .ensures;
+        states = c .before .before .before .before .states .ensures;
+        codes = c .before .before .before .spans .ensures;
+        strokes = c .before .before .ends .ensures;
+        cuts = c .before .ends2 .ensures;
+        intervals = c .ends3 .ensures;
+      },
+    )
+
+page-size-requires : tie.Need-page-size-requires Inv-loop μ-loop
+page-size-requires c κs =
+    let loop = c .before in
+    let entry = loop .before .before .before .before .before .before .before .before .before .before .before .before in
+    omega (arith, measured-page (loop .loop .inv .0) (c .loop-test .taken) .inside, size-low (entry .args .pages .now) (loop .loop .here))
+
+add-measure-page : tie.Need-add-measure-page Inv-loop μ-loop
+add-measure-page c =
+    let size = c .before .before .before .before .before .before in
+    let loop = size .before .before in
+    let entry = loop .before .before .before .before .before .before .before .before .before .before .before .before in
+    omega (arith, measured-page (loop .loop .inv .0) (size .before .loop-test .taken) .inside, size .page-size .ensures, entry .good)
+
+mul-measure-page : tie.Need-mul-measure-page Inv-loop μ-loop
+mul-measure-page c =
+    let size = c .before .before .before .before .before .before in
+    let loop = size .before .before in
+    let entry = loop .before .before .before .before .before .before .before .before .before .before .before .before in
+    omega (arith, measured-page (loop .loop .inv .0) (size .before .loop-test .taken) .inside, size .page-size .ensures, entry .good)
+
+part-measure-page-end : tie.Need-part-measure-page-end Inv-loop μ-loop
+part-measure-page-end c =
+    let size = c .before .before .before .before .before .before in
+    let loop = size .before .before in
+    omega (arith, measured-page (loop .loop .inv .0) (size .before .loop-test .taken) .inside, size .page-size .ensures)
+
+measure-page-requires : tie.Need-measure-page-requires Inv-loop μ-loop
+measure-page-requires c κs =
+    let size = c .before .before .before .before .before .before .before in
+    let loop = size .before .before in
+    let inv = loop .loop .inv in
+    let ready = measured-page (inv .0) (size .before .loop-test .taken) in
+    let sized = size .page-size .ensures in
+    (cut-ready _ _ _ sized (omega (arith, ready .inside, sized)) ready (inv .1 .words), sized-scratch (inv .1))
+
+add-rules : tie.Need-add-rules Inv-loop μ-loop
+add-rules c =
+    let test = c .before .before .before .before .before .before .before .before .before .before .before .before .before .before .before .before in
+    let loop = test .before in
+    let entry = loop .before .before .before .before .before .before .before .before .before .before .before .before in
+    omega (arith, loop .loop .inv .0 .few, test .loop-test .taken, c .before .before .before .before .before .before .before .measure-page .ensures .2, entry .pre .1)
+
+add-bits : tie.Need-add-bits Inv-loop μ-loop
+add-bits c =
+    let test = c .before .before .before .before .before .before .before .before .before .before .before .before .before .before .before .before .before in
+    let loop = test .before in
+    let entry = loop .before .before .before .before .before .before .before .before .before .before .before .before in
+    omega (arith, loop .loop .inv .0 .short, test .loop-test .taken, c .before .before .before .before .before .before .before .before .measure-page .ensures .3, entry .pre .1)
+
+add-here : tie.Need-add-here Inv-loop μ-loop
+add-here c =
+    let size = c .before .before .before .before .before .before .before .before .before .before .before .before .before .before .before .before in
+    let loop = size .before .before in
+    let entry = loop .before .before .before .before .before .before .before .before .before .before .before .before in
+    omega (arith, measured-page (loop .loop .inv .0) (size .before .loop-test .taken) .inside, size .page-size .ensures, entry .good)
 
 loop-again : tie.Need-loop-again Inv-loop μ-loop
 loop-again c =
-    let inv = c .before .before .before .before .before .before .before .before .before .before .before .before .before .before .before .before .before .before .before .before .before .before .before .loop .inv in
-    let page = c .before .before .before .before .before .before .before .before .before .before .before .before .before .before .before .measure-page .ensures in
-    let kept = c .before .before .before .before .before .before .before .before .before .before .before .before .before .before .before .measure-page .kept in (
-      measured-more (boxWords (c .before .before .before .before .before .before .before .before .before .before .before .before .before .before .before .before .before .before .before .before .before .before .before .before .before .before .before .before .before .before .before .before .before .before .before .args .states .now) (c .before .before .before .before .before .before .before .before .before .before .before .before .before .before .before .before .before .before .before .before .before .before .before .before .before .before .before .before .before .before .before .before .before .before .before .args .counts .now) (c .before .before .before .before .before .before .before .before .before .before .before .before .before .before .before .before .before .before .before .before .before .before .before .before .before .before .before .before .before .before .before .before .before .before .before .args .spans .now) (c .before .before .before .before .before .before .before .before .before .before .before .before .before .before .before .before .before .before .before .before .before .before .before .before .before .before .before .before .before .before .before .before .before .before .before .args .lists .now)) (c .before .before .before .before .before .before .before .before .before .before .before .before .before .before .before .before .before .before .before .before .before .before .before .before .before .before .before .before .before .before .before .before .before .before .before .args .text .now) _ _ _ _ (c .before .before .before .before .before .before .before .before .before .before .before .before .before .before .before .before .before .before .before .before .before .before .loop-test .taken) _ (c .page-size .ensures) _ _ _ _ (page .0) (page .1) (page .2) (page .3) (inv .0),
-      pages-later (c .before .before .before .before .before .before .before .before .before .before .before .before .before .before .before .before .before .before .before .before .before .before .before .before .before .before .before .before .before .before .before .before .before .before .before .args .states .now) (c .before .before .before .before .before .before .before .before .before .before .before .before .before .before .before .before .before .before .before .before .before .before .before .before .before .before .before .before .before .before .before .before .before .before .before .args .counts .now) (c .before .before .before .before .before .before .before .before .before .before .before .before .before .before .before .before .before .before .before .before .before .before .before .before .before .before .before .before .before .before .before .before .before .before .before .args .spans .now) (c .before .before .before .before .before .before .before .before .before .before .before .before .before .before .before .before .before .before .before .before .before .before .before .before .before .before .before .before .before .before .before .before .before .before .before .args .lists .now) (c .before .before .before .before .before .before .before .before .before .before .before .before .before .before .before .before .before .before .before .before .before .before .before .before .before .before .before .before .before .before .before .before .before .before .before .args .text .now) _ _ _ _ _ (c .before .before .before .before .before .before .before .before .before .before .before .before .before .before .before .before .before .before .before .before .before .before .loop-test .taken) (c .page-size .ensures) (sym (kept .0)) (inv .1),
-      kept .0 ∙ inv .2,
-      kept .1 .0 ∙ inv .3,
-      kept .1 .1 .0 ∙ inv .4,
-      kept .1 .1 .1 .0 ∙ inv .5,
-      kept .1 .1 .1 .1 .0 ∙ inv .6,
-      kept .1 .1 .1 .1 .1 .0 ∙ inv .7,
+    let call = c .before .before .before .before .before .before .before .before in
+    let size = call .before .before .before .before .before .before .before .before in
+    let inv = size .before .before .loop .inv in
+    let page = call .measure-page .ensures in
+    let kept = call .measure-page .kept in (
+      measured-more (inv .0) (size .before .loop-test .taken) (size .page-size .ensures) (page .0) (page .1) (page .2) (page .3),
+      record {
+        words = inv .1 .words ∙ sym (kept .0);
+        states = inv .1 .states ∙ sym (kept .1 .0);
+        codes = inv .1 .codes ∙ sym (kept .1 .1 .0);
+        strokes = inv .1 .strokes ∙ sym (kept .1 .1 .1 .0);
+        cuts = inv .1 .cuts ∙ sym (kept .1 .1 .1 .1 .0);
+        intervals = inv .1 .intervals ∙ sym (kept .1 .1 .1 .1 .1 .0);
+      },
     )
 
 pub measure-pages-spec : {M : Type 1} → statement M
 measure-pages-spec =
     tie.close
     (tie.spec Inv-loop μ-loop
-    (λ c. (measured-none (boxWords (c .before .before .before .before .before .before .before .before .before .before .before .args .states .now) (c .before .before .before .before .before .before .before .before .before .before .before .args .counts .now) (c .before .before .before .before .before .before .before .before .before .before .before .args .spans .now) (c .before .before .before .before .before .before .before .before .before .before .before .args .lists .now)) (c .before .before .before .before .before .before .before .before .before .before .before .args .text .now) _ _, c .before .before .before .before .before .before .before .before .before .before .before .pre .0, refl, refl, refl, refl, refl, refl))
-    (λ c κs. (pages-first (c .before .before .before .before .before .before .before .before .before .before .before .before .before .before .before .before .before .before .before .args .states .now) (c .before .before .before .before .before .before .before .before .before .before .before .before .before .before .before .before .before .before .before .args .counts .now) (c .before .before .before .before .before .before .before .before .before .before .before .before .before .before .before .before .before .before .before .args .spans .now) (c .before .before .before .before .before .before .before .before .before .before .before .before .before .before .before .before .before .before .before .args .lists .now) (c .before .before .before .before .before .before .before .before .before .before .before .before .before .before .before .before .before .before .before .args .text .now) _ _ _ (c .before .before .before .before .before .before .loop-test .taken) (c .before .before .before .before .before .before .before .loop .inv .1), scratch-kept _ _ _ _ _ _ _ _ _ _ (c .before .before .before .before .before .before .before .loop .inv .3) (c .before .before .before .before .before .before .before .loop .inv .4) (c .before .before .before .before .before .before .before .loop .inv .5) (c .before .before .before .before .before .before .before .loop .inv .6) (c .before .before .before .before .before .before .before .loop .inv .7) (c .before .before .before .before .before .before .before .before .before .before .before .before .before .before .before .before .before .before .before .pre .1 .0)))
-    (λ c. omega (arith, c .before .before .before .before .before .before .before .before .before .before .before .before .before .before .before .before .before .before .before .before .before .loop .inv .0 .few, c .before .before .before .before .before .before .before .before .before .before .before .before .before .before .before .before .before .before .before .before .loop-test .taken, c .before .before .before .before .before .before .before .before .before .before .before .before .before .measure-page .ensures .2, c .before .before .before .before .before .before .before .before .before .before .before .before .before .before .before .before .before .before .before .before .before .before .before .before .before .before .before .before .before .before .before .before .before .pre .1 .1))
-    (λ c. omega (arith, c .before .before .before .before .before .before .before .before .before .before .before .before .before .before .before .before .before .before .before .before .before .before .loop .inv .0 .short, c .before .before .before .before .before .before .before .before .before .before .before .before .before .before .before .before .before .before .before .before .before .loop-test .taken, c .before .before .before .before .before .before .before .before .before .before .before .before .before .before .measure-page .ensures .3, c .before .before .before .before .before .before .before .before .before .before .before .before .before .before .before .before .before .before .before .before .before .before .before .before .before .before .before .before .before .before .before .before .before .before .pre .1 .1))
-    (λ c κs. omega (arith, (pages-first (c .before .before .before .before .before .before .before .before .before .before .before .before .before .before .before .before .before .before .before .before .before .before .before .before .before .before .before .before .before .before .before .before .before .before .args .states .now) (c .before .before .before .before .before .before .before .before .before .before .before .before .before .before .before .before .before .before .before .before .before .before .before .before .before .before .before .before .before .before .before .before .before .before .args .counts .now) (c .before .before .before .before .before .before .before .before .before .before .before .before .before .before .before .before .before .before .before .before .before .before .before .before .before .before .before .before .before .before .before .before .before .before .args .spans .now) (c .before .before .before .before .before .before .before .before .before .before .before .before .before .before .before .before .before .before .before .before .before .before .before .before .before .before .before .before .before .before .before .before .before .before .args .lists .now) (c .before .before .before .before .before .before .before .before .before .before .before .before .before .before .before .before .before .before .before .before .before .before .before .before .before .before .before .before .before .before .before .before .before .before .args .text .now) _ _ _ (c .before .before .before .before .before .before .before .before .before .before .before .before .before .before .before .before .before .before .before .before .before .loop-test .taken) (c .before .before .before .before .before .before .before .before .before .before .before .before .before .before .before .before .before .before .before .before .before .before .loop .inv .1)) .inside, size-low (c .before .before .before .before .before .before .before .before .before .before .before .before .before .before .before .before .before .before .before .before .before .before .before .before .before .before .before .before .before .before .before .before .before .before .args .text .now) (c .before .before .before .before .before .before .before .before .before .before .before .before .before .before .before .before .before .before .before .before .before .before .loop .here)))
-    (λ c. omega (arith, (pages-first (c .before .before .before .before .before .before .before .before .before .before .before .before .before .before .before .before .before .before .before .before .before .before .before .before .before .before .before .before .before .before .before .before .before .before .before .args .states .now) (c .before .before .before .before .before .before .before .before .before .before .before .before .before .before .before .before .before .before .before .before .before .before .before .before .before .before .before .before .before .before .before .before .before .before .before .args .counts .now) (c .before .before .before .before .before .before .before .before .before .before .before .before .before .before .before .before .before .before .before .before .before .before .before .before .before .before .before .before .before .before .before .before .before .before .before .args .spans .now) (c .before .before .before .before .before .before .before .before .before .before .before .before .before .before .before .before .before .before .before .before .before .before .before .before .before .before .before .before .before .before .before .before .before .before .before .args .lists .now) (c .before .before .before .before .before .before .before .before .before .before .before .before .before .before .before .before .before .before .before .before .before .before .before .before .before .before .before .before .before .before .before .before .before .before .before .args .text .now) _ _ _ (c .before .before .before .before .before .before .before .before .before .before .before .before .before .before .before .before .before .before .before .before .before .before .loop-test .taken) (c .before .before .before .before .before .before .before .before .before .before .before .before .before .before .before .before .before .before .before .before .before .before .before .loop .inv .1)) .inside, c .page-size .ensures, c .before .before .before .before .before .before .before .before .before .before .before .before .before .before .before .before .before .before .before .before .before .before .before .before .before .before .before .before .before .before .before .before .before .before .before .good))
-    (λ c. omega (arith, c .before .before .before .before .before .before .before .before .before .before .before .before .before .before .before .before .before .before .before .before .before .before .loop-test .taken))
-    (λ c. omega (arith, c .before .before .before .before .before .before .before .before .before .before .before .before .before .before .before .before .before .before .before .before .before .before .loop-test .taken))
+    (λ c κs. search needs) (λ c κs. search needs) (λ c κs. search needs) (λ c κs. search needs) (λ c κs. search needs) (λ c κs. search needs)
+    loop-holds page-size-requires
+    (λ c. c .before .before .before .loop .inv .1 .words)
+    (λ c. c .before .before .before .before .loop .inv .1 .states)
+    (λ c. c .before .before .before .before .before .loop .inv .1 .codes)
+    (λ c. c .before .before .before .before .before .before .loop .inv .1 .strokes)
+    (λ c. c .before .before .before .before .before .before .before .loop .inv .1 .cuts)
+    (λ c. c .before .before .before .before .before .before .before .before .loop .inv .1 .intervals)
+    add-measure-page mul-measure-page (λ c. omega arith) (λ c. omega arith) part-measure-page-end measure-page-requires add-rules add-bits add-here
+    (λ c. omega (arith, c .before .before .before .before .before .before .before .before .before .before .before .before .before .before .before .before .before .loop-test .taken))
+    (λ c. omega (arith, c .before .before .before .before .before .before .before .before .before .before .before .before .before .before .before .before .before .loop-test .taken))
     loop-again
-    (λ c. c .before .loop .inv .2)
-    (λ c. c .before .loop .inv .3)
-    (λ c. c .before .loop .inv .4)
-    (λ c. c .before .loop .inv .5)
-    (λ c. c .before .loop .inv .6)
-    (λ c. c .before .loop .inv .7)
-    (λ c. measured-all (boxWords (c .before .before .before .before .before .before .before .before .before .before .before .before .before .args .states .now) (c .before .before .before .before .before .before .before .before .before .before .before .before .before .args .counts .now) (c .before .before .before .before .before .before .before .before .before .before .before .before .before .args .spans .now) (c .before .before .before .before .before .before .before .before .before .before .before .before .before .args .lists .now)) (c .before .before .before .before .before .before .before .before .before .before .before .before .before .args .text .now) _ _ _ _ _ _ (omega (arith, c .loop-test .left)) (c .before .loop .inv .0)))
+    (λ c. measured-all (c .before .loop .inv .0) (omega (arith, c .loop-test .left))))

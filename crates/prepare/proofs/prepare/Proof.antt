@@ -57,22 +57,28 @@ pub prepare-spec : {M : Type 1} → statement M
 prepare-spec =
     tie.close
     (tie.spec drain-requires cut-all-requires (λ c.
-    let drain = c .before .before .before .before .before .before .before .before .before .before .before .before .before .before .before .before .before .before .before .before .before .before .before .before in
+    let cutting = c .before .before .before .before .before .before in
+    let drain = cutting .before .before .before .before .before .before .before .before .before .before .before .before .before .before .before .before .before .before in
     drain .drain .kept .1 .1 .1 .0)
     (λ c.
-    let drain = c .before .before .before .before .before .before .before .before .before .before .before .before .before .before .before .before .before .before .before .before .before .before .before .before in
+    let cutting = c .before .before .before .before .before .before in
+    let drain = cutting .before .before .before .before .before .before .before .before .before .before .before .before .before .before .before .before .before .before in
     drain .drain .kept .1 .1 .1 .1 .0)
     (λ c.
-    let drain = c .before .before .before .before .before .before .before .before .before .before .before .before .before .before .before .before .before .before .before .before .before .before .before .before in
+    let cutting = c .before .before .before .before .before .before in
+    let drain = cutting .before .before .before .before .before .before .before .before .before .before .before .before .before .before .before .before .before .before in
     drain .drain .kept .1 .1 .1 .1 .1 .0)
     (λ c.
-    let drain = c .before .before .before .before .before .before .before .before .before .before .before .before .before .before .before .before .before .before .before .before .before .before .before .before in
+    let cutting = c .before .before .before .before .before .before in
+    let drain = cutting .before .before .before .before .before .before .before .before .before .before .before .before .before .before .before .before .before .before in
     drain .drain .kept .1 .1 .1 .1 .1 .1 .0)
     (λ c.
-    let drain = c .before .before .before .before .before .before .before .before .before .before .before .before .before .before .before .before .before .before .before .before .before .before .before .before in
+    let cutting = c .before .before .before .before .before .before in
+    let drain = cutting .before .before .before .before .before .before .before .before .before .before .before .before .before .before .before .before .before .before in
     drain .drain .kept .1 .1 .1 .1 .1 .1 .1 .0)
     (λ c.
-    let drain = c .before .before .before .before .before .before .before .before .before .before .before .before .before .before .before .before .before .before .before .before .before .before .before .before in
+    let cutting = c .before .before .before .before .before .before in
+    let drain = cutting .before .before .before .before .before .before .before .before .before .before .before .before .before .before .before .before .before .before in
     drain .drain .kept .1 .1 .1 .1 .1 .1 .1 .1 .0)
     (λ c.
     let cut-all = c .before .before .before .before .before .before in

@@ -2,7 +2,6 @@
 -- that the proof knows of the two is that each meets its contract.
 -- In a local of a body MIR erases the lifetime of the view's type, so the value is shown to have the type at `erased`: what the view owns
 -- does not say the lifetime's name.
--- Assumes nothing.
 use mathlib.Core.Path.{_≡_, refl, subst}
 use Prim.Native.Nat.{ℕ, _<_, _^_}
 use mathlib.Core.List.{List, [], _∷_}

@@ -1,7 +1,6 @@
 -- `reader::moved` meets its contract: a walk of its MIR, by hand. A view is made of the sheet of the one passed and another place.
 -- The view is Copy, so what it owns is had twice: once for the exit, and once for the result, where the number's facts take the place
 -- of those of the old one.
--- Assumes nothing.
 use mathlib.Core.Path.{refl}
 use Prim.Native.Nat.{ℕ, _<_, _^_}
 use mathlib.Core.List.{[], _∷_}

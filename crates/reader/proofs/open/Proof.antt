@@ -1,6 +1,5 @@
 -- `reader::open` meets its contract: a walk of its MIR, by hand. A view is made of the sheet passed and 0, in the result's local.
 -- A `&[u8]` is Copy, so what it owns is had twice: once for the sheet at exit, and once inside the result, beside the facts of its place.
--- Assumes nothing.
 use mathlib.Core.Path.{refl}
 use Prim.Native.Nat.{ℕ}
 use mathlib.Core.List.{List, [], _∷_}

@@ -1,5 +1,4 @@
 -- `reader::read_at` meets its contract: the field read in the sheet's bytes from its own byte on, or none where the sheet ends before.
--- Assumes nothing.
 use mathlib.Core.Logic.{inl, inr}
 use native.Mathlib.Omega.{arith}
 use borrow.Author.Needs.{needs}

@@ -1,5 +1,4 @@
 -- `reader::rule_count` meets its contract: the sheet's first field, tested. It is never too large to be said.
--- Assumes nothing.
 use mathlib.Core.Path.{_≡_, subst}
 use mathlib.Core.Logic.{_⊎_, inl, inr}
 use mathlib.Core.List.{List}

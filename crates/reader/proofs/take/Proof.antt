@@ -2,7 +2,6 @@
 -- place. All that the proof knows of `read_at` is that it meets its contract.
 -- The view is Copy: what it owns is had twice. One copy is kept whole for the exit; of the other, what the sheet owns goes to the
 -- callee, beside the lifetime's token, which comes back.
--- Assumes nothing.
 use mathlib.Core.Path.{_≡_, refl}
 use Prim.Native.Nat.{ℕ, _<_, _^_}
 use mathlib.Core.List.{[], _∷_}

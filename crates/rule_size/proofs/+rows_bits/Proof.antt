@@ -1,11 +1,10 @@
 -- `rule_size::rows_bits` meets its contract: a sort's row, and the rows behind it.
--- Assumes nothing.
 use Prim.Native.Nat.{ℕ, _-_, _<_}
 use native.Mathlib.Omega.{arith}
 use borrow.Author.Needs.{needs}
 use borrow.Fn.Kinds.{In}
 use borrow.Fn.PlainCycle.{Measures, is, falls, and}
-use Rattle.rule_writer.proofs.row.size.Reads as size-reads
+use Rattle.casts.proofs.u16_to_usize.Reads as u16-to-usize-reads
 use Rattle.rule_size.proofs.Sizes.{row-low, no-rows, rows-size}
 use Rattle.rule_size.proofs.item_bits.Reads as item-bits-reads
 use Rattle.rule_size.proofs.+rows_bits.{statement}
@@ -25,10 +24,10 @@ rows-bits-below t = and 1 rows-bits-kinds.ps (falls 1 rows-bits-kinds.ps _<_ μ-
 
 pub +rows-bits-spec : {M : Type 1} → statement M
 +rows-bits-spec = close μ-rows-bits λ t. rows-bits-lts.spec
-    (rows-bits-below t, rows-bits.Post, size-reads.Asked, size-reads.Learnt, item-bits-reads.Asked, item-bits-reads.Learnt)
+    (rows-bits-below t, rows-bits.Post, u16-to-usize-reads.Asked, u16-to-usize-reads.Learnt, item-bits-reads.Asked, item-bits-reads.Learnt)
     (rows-bits-at t)
     rows-bits.Post
-    (λ c. (λ ends h. no-rows ends (c .before .before .args .counts .now) (c .before .before .args .sort) (c .if1 .taken), omega (arith, c .if1 .taken)))
+    (λ c. (λ ends h. no-rows ends (c .before .before .args .item-counts .now) (c .before .before .args .sort) (c .if1 .taken), omega (arith, c .if1 .taken)))
     (λ c. omega (arith, c .before .before .pre .1 .2, c .if1 .left))
     (λ c κs.
     let entry = c .before .before in
@@ -42,7 +41,7 @@ pub +rows-bits-spec : {M : Type 1} → statement M
     let entry = c .before .before .before .before .before .before in
     omega (
       arith,
-      row-low (c .before .size .result) (c .item-bits .result) (omega (arith, c .before .size .ensures, entry .pre .1 .1 (entry .args .sort)))
+      row-low (c .before .u16-to-usize .result) (c .item-bits .result) (omega (arith, c .before .u16-to-usize .ensures .0, entry .pre .1 .1 (entry .args .sort)))
           (c .item-bits .ensures .1),
     ))
     (λ c.
@@ -50,23 +49,23 @@ pub +rows-bits-spec : {M : Type 1} → statement M
     let entry = at-rows-bits .before .before .before in
     omega (
       arith,
-      row-low (c .before .size .result) (c .item-bits .result) (omega (arith, c .before .size .ensures, entry .pre .1 .1 (entry .args .sort)))
+      row-low (c .before .u16-to-usize .result) (c .item-bits .result) (omega (arith, c .before .u16-to-usize .ensures .0, entry .pre .1 .1 (entry .args .sort)))
           (c .item-bits .ensures .1),
       at-rows-bits .rows-bits .ensures .1,
     ))
     (λ c.
-    let size = c .before in
-    let at-rows-bits = size .before .before in
+    let cast = c .before in
+    let at-rows-bits = cast .before .before in
     let if1 = at-rows-bits .before in
     let entry = if1 .before .before in
     let a = entry .args in
     let pre = entry .pre .1 in (
       λ ends h.
-          rows-size ends (a .counts .now) (a .sort) (size .size .result) (c .item-bits .result) (at-rows-bits .rows-bits .result)
-          (omega (arith, pre .2, if1 .if1 .left)) h (size .size .ensures) (c .item-bits .ensures .0) (at-rows-bits .rows-bits .ensures .0 ends h),
+          rows-size ends (a .item-counts .now) (a .sort) (cast .u16-to-usize .result) (c .item-bits .result) (at-rows-bits .rows-bits .result)
+          (omega (arith, pre .2, if1 .if1 .left)) h (cast .u16-to-usize .ensures .0) (c .item-bits .ensures .0) (at-rows-bits .rows-bits .ensures .0 ends h),
       omega (
         arith,
-        row-low (size .size .result) (c .item-bits .result) (omega (arith, size .size .ensures, pre .1 (a .sort))) (c .item-bits .ensures .1),
+        row-low (cast .u16-to-usize .result) (c .item-bits .result) (omega (arith, cast .u16-to-usize .ensures .0, pre .1 (a .sort))) (c .item-bits .ensures .1),
         at-rows-bits .rows-bits .ensures .1,
       ),
     ))

@@ -1,5 +1,4 @@
 -- `rule_size::spans_bits` meets its contract: the first span, and those behind it.
--- Assumes nothing.
 use Prim.Native.Nat.{ℕ, _<_}
 use native.Mathlib.Omega.{arith}
 use borrow.Author.Needs.{needs}
@@ -26,7 +25,7 @@ pub +spans-bits-spec : {M : Type 1} → statement M
 +spans-bits-spec = close μ-spans-bits λ t. spans-bits-lts.spec (spans-bits-below t, spans-bits.Post, span-bits-reads.Asked, span-bits-reads.Learnt)
     (spans-bits-at t)
     spans-bits.Post
-    (λ c. (no-spans (c .before .before .args .spans .now) (c .before .before .args .first) (c .before .before .args .many) (c .if1 .taken), omega arith))
+    (λ c. (no-spans (c .before .before .args .spans .now) (c .before .before .args .first) (c .before .before .args .span-count) (c .if1 .taken), omega arith))
     (λ c. omega (arith, c .before .before .pre .1 .0, c .if1 .left))
     (λ c. omega (arith, c .if1 .left))
     (λ c κs.
@@ -42,7 +41,7 @@ pub +spans-bits-spec : {M : Type 1} → statement M
     let if1 = at-spans-bits .before in
     let entry = if1 .before .before in
     let a = entry .args in (
-      spans-size (a .spans .now) (a .first) (a .many) (if1 .if1 .left) (entry .pre .1 .0) _ _ (c .span-bits .ensures .0)
+      spans-size (a .spans .now) (a .first) (a .span-count) (if1 .if1 .left) (entry .pre .1 .0) _ _ (c .span-bits .ensures .0)
           (at-spans-bits .spans-bits .ensures .0),
       omega (arith, c .span-bits .ensures .1, at-spans-bits .spans-bits .ensures .1, if1 .if1 .left),
     ))

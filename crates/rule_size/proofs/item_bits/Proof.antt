@@ -1,5 +1,4 @@
 -- `rule_size::item_bits` meets its contract, sort by sort.
--- Assumes nothing.
 use native.Mathlib.Omega.{arith}
 use borrow.Author.Needs.{needs}
 use Rattle.rule_size.proofs.Sizes.{years-size, months-size, weeks-size, weekdays-size}

@@ -1,5 +1,4 @@
 -- `rule_size::rule_bits` meets its contract.
--- Assumes nothing.
 use native.Mathlib.Omega.{arith}
 use Rattle.rule_size.proofs.Sizes.{rule-size}
 use Rattle.rule_size.proofs.rule_bits.Statement.{statement}
@@ -13,7 +12,7 @@ returns c =
     let rows = c .before .rows-bits .ensures in
     let times = c .spans-bits .ensures in (
       λ operator state ends h.
-          rule-size operator state ends (a .counts .now) (a .spans .now) (a .first) (a .many) _ _ h (pre .1 .0) (rows .0 ends h) (times .0),
+          rule-size operator state ends (a .item-counts .now) (a .spans .now) (a .first) (a .span-count) _ _ h (pre .1 .0) (rows .0 ends h) (times .0),
       omega (arith, rows .1, times .1, pre .1 .1),
     )
 

@@ -1,5 +1,4 @@
 -- `rule_size::span_bits` meets its contract, without repeats and with.
--- Assumes nothing.
 use native.Mathlib.Omega.{arith}
 use borrow.Author.Needs.{needs}
 use Rattle.rule_size.proofs.Sizes.{once-size, repeated-size}

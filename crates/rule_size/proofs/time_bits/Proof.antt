@@ -1,5 +1,4 @@
 -- `rule_size::time_bits` meets its contract, fixed and variable.
--- Assumes nothing.
 use native.Mathlib.Omega.{arith}
 use borrow.Author.Needs.{needs}
 use Rattle.rule_size.proofs.Sizes.{fixed-size, variable-size}

@@ -1,5 +1,4 @@
 -- `sheet_writer::put_count` meets its contract.
--- Assumes nothing.
 use native.Mathlib.Omega.{arith}
 use borrow.Author.Needs.{needs}
 use Rattle.definition.proofs.Bits.{length-bits}

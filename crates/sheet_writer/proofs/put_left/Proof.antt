@@ -1,5 +1,4 @@
 -- `sheet_writer::put_left` meets its contract: bits copied, then the padding.
--- Assumes nothing.
 use borrow.Author.Needs.{needs}
 use Rattle.sheet_writer.specs.Frame.{between}
 use Rattle.sheet_writer.proofs.Left.{between-length, end-wrote}

@@ -1,5 +1,4 @@
 -- `sheet_writer::put_padding` meets its contract.
--- Assumes nothing.
 use mathlib.Core.Path.{ap, _∙_}
 use Prim.Native.Nat.{_+_, _*_, _-_, _/_}
 use native.Mathlib.Omega.{arith}

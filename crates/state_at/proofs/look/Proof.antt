@@ -11,7 +11,13 @@ pub look-spec : {M : Type 1} → statement M
 look-spec =
     tie.close
     (tie.spec
-    (λ c κs. let p = c .before .before .before .before .before .before .before .pre .0 in point-gridded _ _ _ _ (p .0) (p .2) (entries-lawful _ _ _ (p .0) (p .1)) _ (c .before .before .before .before .before .before .before .pre .1))
-    (λ c κs. let p = c .before .before .before .before .before .before .before .before .pre .0 in ((p .0, p .1, p .2 .listed .named (c .box-at .result)), list-there _ _ _ _ (p .0) (p .2) (entries-lawful _ _ _ (p .0) (p .1)) _ _ (c .box-at .ensures)))
-    (λ c. λ rs tables boxed. c .list-state .ensures rs tables (boxed .listed .named (c .before .box-at .result))
-    ∙ ap (λ l. stateAt [] l (c .before .before .before .before .before .before .before .before .before .args .moment .minute)) (box-list _ _ _ _ rs boxed (entries-lawful _ _ _ rs tables) _ _ (c .before .box-at .ensures))))
+    (λ c κs.
+    let entry = c .before .before .before .before .before .before .before in
+    let p = entry .pre .0 in point-gridded _ _ _ _ (p .0) (p .2) (entries-lawful _ _ _ (p .0) (p .1)) _ (entry .pre .1))
+    (λ c κs.
+    let entry = c .before .before .before .before .before .before .before .before in
+    let p = entry .pre .0 in ((p .0, p .1, p .2 .listed .named (c .box-at .result)), list-there _ _ _ _ (p .0) (p .2) (entries-lawful _ _ _ (p .0) (p .1)) _ _ (c .box-at .ensures)))
+    (λ c.
+    let entry = c .before .before .before .before .before .before .before .before .before in
+    λ rs tables boxed. c .list-state .ensures rs tables (boxed .listed .named (c .before .box-at .result))
+    ∙ ap (λ l. stateAt [] l (entry .args .moment .minute)) (box-list _ _ _ _ rs boxed (entries-lawful _ _ _ rs tables) _ _ (c .before .box-at .ensures))))

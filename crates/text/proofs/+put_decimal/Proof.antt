@@ -1,5 +1,4 @@
 -- `text::put_decimal` meets its contract: one digit, or the last one behind the others. The number falls.
--- Assumes nothing.
 use mathlib.Core.Path.{ap, _∙_}
 use mathlib.Core.List.{[], _∷_, _++_}
 use lib.ListN.{length}

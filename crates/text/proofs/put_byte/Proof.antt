@@ -1,5 +1,4 @@
 -- `text::put_byte` meets its contract: stored where there is room.
--- Assumes nothing.
 use mathlib.Core.Logic.{⊎-elim}
 use native.Mathlib.Omega.{arith}
 use borrow.Author.Needs.{needs}

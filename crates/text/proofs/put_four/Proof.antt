@@ -1,5 +1,4 @@
 -- `text::put_four` meets its contract: two digits and two.
--- Assumes nothing.
 use native.Mathlib.Omega.{arith}
 use Prim.Native.Nat.{_/_}
 use borrow.Author.Needs.{needs}

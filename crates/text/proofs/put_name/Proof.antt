@@ -1,5 +1,4 @@
 -- `text::put_name` meets its contract: the name's part of the names.
--- Assumes nothing.
 use Prim.Native.Nat.{_*_}
 use borrow.Author.Needs.{needs}
 use Rattle.text.proofs.Putting.{name-put}

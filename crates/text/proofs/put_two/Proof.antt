@@ -1,5 +1,4 @@
 -- `text::put_two` meets its contract.
--- Assumes nothing.
 use mathlib.Core.List.{[], _∷_}
 use mathlib.Core.Path.{ap₂, _∙_}
 use borrow.Author.Needs.{needs}

@@ -1,5 +1,4 @@
 -- `text::put_word` meets its contract: byte after byte.
--- Assumes nothing.
 use Prim.Native.Nat.{_+_, _-_, _≤_}
 use native.Mathlib.Omega.{arith}
 use lib.ListN.{length, take}

@@ -1,6 +1,5 @@
 -- `writer::copy_bits` meets its contract, 32 bits at a time. The loop's invariant: storing the bits still ahead leaves what storing them
 -- all leaves.
--- Assumes nothing.
 use mathlib.Core.Path.{_≡_, refl, _∙_}
 use Prim.Native.Nat.{_+_, _-_, _≤_}
 use native.Mathlib.Omega.{arith}

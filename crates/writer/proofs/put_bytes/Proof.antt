@@ -1,6 +1,5 @@
 -- `writer::put_bytes` meets its contract. The loop's invariant: storing the rest of the number before the bytes already stored leaves
 -- what storing it whole leaves.
--- Assumes nothing.
 use mathlib.Core.Path.{_≡_, refl, _∙_}
 use Prim.Native.Nat.{_-_, _*_, _%_, _^_, _≤_, _<_}
 use native.Mathlib.Omega.{arith}

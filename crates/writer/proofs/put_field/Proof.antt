@@ -1,5 +1,4 @@
 -- `writer::put_field` meets its contract: the number of the bytes that the field spans, with the value in its place, is stored in them.
--- Assumes nothing.
 use mathlib.Core.Path.{_≡_, _∙_, subst}
 use Prim.Native.Nat.{_+_, _-_, _^_, _<_}
 use native.Mathlib.Omega.{arith}

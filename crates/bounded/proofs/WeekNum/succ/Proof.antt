@@ -1,5 +1,4 @@
 -- `bounded::WeekNum::succ` meets its contract, by the two ways of `next`.
--- Assumes nothing.
 use native.Mathlib.Omega.{arith}
 use borrow.Author.Needs.{needs}
 use Rattle.definition.specs.Rule.{weekBounds}

@@ -1,5 +1,4 @@
 -- `bounded::Year::pred` meets its contract, by the two ways of `prior`.
--- Assumes nothing.
 use native.Mathlib.Omega.{arith}
 use borrow.Author.Needs.{needs}
 use Rattle.definition.specs.Rule.{yearBounds}

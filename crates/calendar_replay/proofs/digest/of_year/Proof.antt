@@ -1,5 +1,4 @@
 -- `calendar_replay::digest::of_year` is safe and ends. The loop's invariant: the digest stays below the prime. The measure is the months left.
--- Assumes nothing.
 use Prim.Native.Nat.{_-_, _≤_}
 use native.Mathlib.Omega.{arith}
 use Rattle.calendar_replay.proofs.digest.of_year.Statement.{statement}
@@ -15,11 +14,5 @@ pub of-year-spec : {M : Type 1} → statement M
 of-year-spec =
     tie.close
     (tie.spec
-    Inv-loop
-    μ-loop
-    (λ c. omega arith)
-    (λ c κs. omega arith)
-    (λ c. omega arith)
-    (λ c. omega arith)
-    (λ c. omega arith)
+    Inv-loop μ-loop (λ c. omega arith) (λ c κs. omega arith) (λ c. omega arith) (λ c. omega arith) (λ c. omega arith)
     (λ c. tt))

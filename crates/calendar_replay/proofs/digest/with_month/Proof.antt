@@ -1,5 +1,4 @@
 -- `calendar_replay::digest::with_month` meets its contract. The loop's invariant: the digest stays below the prime. The measure is the days left.
--- Assumes nothing.
 use Prim.Native.Nat.{_-_, _≤_}
 use native.Mathlib.Omega.{arith}
 use Rattle.calendar_replay.proofs.digest.with_month.Statement.{statement}
@@ -15,11 +14,4 @@ pub with-month-spec : {M : Type 1} → statement M
 with-month-spec =
     tie.close
     (tie.spec
-    Inv-loop
-    μ-loop
-    (λ c. omega arith)
-    (λ c κs. omega arith)
-    (λ c. omega arith)
-    (λ c. omega arith)
-    (λ c. omega arith)
-    (λ c. omega arith))
+    Inv-loop μ-loop (λ c. omega arith) (λ c κs. omega arith) (λ c. omega arith) (λ c. omega arith) (λ c. omega arith) (λ c. omega arith))

@@ -1,5 +1,4 @@
 -- `canonical_date::canonical::weeks_at` meets its contract: ends within their bounds, split by their kind.
--- Assumes nothing.
 use mathlib.Core.Path.{sym, ap, _∙_}
 use native.Mathlib.Omega.{arith}
 use borrow.Author.Needs.{needs}
@@ -12,25 +11,38 @@ use Rattle.canonical_date.proofs.Saying.{said, said-stops, said-refused
 use Rattle.canonical_date.proofs.canonical.weeks_at.Statement.{statement}
 use Rattle.canonical_date.proofs.canonical.weeks_at.Tie as tie
 
-number8-requires : tie.Need-number8-requires
-number8-requires c κs =
-    let low = weeks-low (c .before .before .before .before .before .before .args .sheet .now) (known-bytes (c .before .before .before .before .before .before .args .sheet .now) (λ j. omega (arith, c .before .before .before .before .before .shared-slice-known .given j))) _ _ _ (sym (c .before .before .before .before .week-range-at .ensures) ∙ ap (asStepped weeksOf) (c .before .before .read .given .1)) in
+u64-to-u8-requires : tie.Need-u64-to-u8-requires
+u64-to-u8-requires c κs =
+    let after-week-range-at = c .before .before .before .before in
+    let known = after-week-range-at .before in
+    let entry = known .before in
+    let low = weeks-low (entry .args .sheet .now) (known-bytes (entry .args .sheet .now) (λ j. omega (arith, known .shared-slice-known .given j))) _ _ _
+    (sym (after-week-range-at .week-range-at .ensures) ∙ ap (asStepped weeksOf) (c .before .before .read .given .1)) in
     omega (arith, low .0)
 
-number8-requires-2 : tie.Need-number8-requires-2
-number8-requires-2 c κs =
-    let low = weeks-low (c .before .before .before .before .before .before .before .args .sheet .now) (known-bytes (c .before .before .before .before .before .before .before .args .sheet .now) (λ j. omega (arith, c .before .before .before .before .before .before .shared-slice-known .given j))) _ _ _ (sym (c .before .before .before .before .before .week-range-at .ensures) ∙ ap (asStepped weeksOf) (c .before .before .before .read .given .1)) in
+u64-to-u8-requires-2 : tie.Need-u64-to-u8-requires-2
+u64-to-u8-requires-2 c κs =
+    let after-week-range-at = c .before .before .before .before .before in
+    let known = after-week-range-at .before in
+    let entry = known .before in
+    let low = weeks-low (entry .args .sheet .now) (known-bytes (entry .args .sheet .now) (λ j. omega (arith, known .shared-slice-known .given j))) _ _ _
+    (sym (after-week-range-at .week-range-at .ensures) ∙ ap (asStepped weeksOf) (c .before .before .before .read .given .1)) in
     omega (arith, low .1)
 
 returns-2 : tie.Need-returns-2
 returns-2 c =
-    said weekSays _ _ _ _ (sym (c .before .before .before .before .before .before .before .week-range-at .ensures) ∙ ap (asStepped weeksOf) (c .before .before .before .before .before .read .given .1))
-    (only-some _ _ _ (eq-eqb _ 1 (c .before .before .before .if1 .taken)) (split-some _ _ _ _ _ _ (c .split-inverted-range .ensures) (c .before .before .number8 .ensures) (c .before .number82 .ensures)))
+    let after-read = c .before .before .before .before .before in
+    let after-week-range-at = after-read .before .before in
+    said weekSays _ _ _ _ (sym (after-week-range-at .week-range-at .ensures) ∙ ap (asStepped weeksOf) (after-read .read .given .1))
+    (only-some _ _ _ (eq-eqb _ 1 (c .before .before .before .if1 .taken))
+    (split-some _ _ _ _ _ _ (c .split-inverted-range .ensures) (c .before .before .u64-to-u8 .ensures) (c .before .u64-to-u82 .ensures)))
 
 pub weeks-at-spec : {M : Type 1} → statement M
 weeks-at-spec =
     tie.close
     (tie.spec (λ c κs. search needs) (λ c. search needs) (λ c. search needs)
     (λ c. said-refused weekSays _ _ _ (sym (c .before .before .week-range-at .ensures) ∙ ap (asStepped weeksOf) (c .enum-told .given .1)))
-    number8-requires number8-requires-2 (λ c κs. search needs) returns-2
-    (λ c. said-stops weekSays _ _ _ (sym (c .before .before .before .before .week-range-at .ensures) ∙ ap (asStepped weeksOf) (c .before .before .read .given .1)) (only-none _ _ (ne-eqb _ 1 (c .if1 .left)))))
+    u64-to-u8-requires u64-to-u8-requires-2 (λ c κs. search needs) returns-2
+    (λ c.
+    let after-week-range-at = c .before .before .before .before in
+    said-stops weekSays _ _ _ (sym (after-week-range-at .week-range-at .ensures) ∙ ap (asStepped weeksOf) (c .before .before .read .given .1)) (only-none _ _ (ne-eqb _ 1 (c .if1 .left)))))

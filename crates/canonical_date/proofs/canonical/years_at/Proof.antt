@@ -1,5 +1,4 @@
 -- `canonical_date::canonical::years_at` meets its contract: ends within their bounds, split by their kind.
--- Assumes nothing.
 use mathlib.Core.Path.{sym, ap, _∙_}
 use native.Mathlib.Omega.{arith}
 use borrow.Author.Needs.{needs}
@@ -12,25 +11,38 @@ use Rattle.canonical_date.proofs.Saying.{said, said-stops, said-refused
 use Rattle.canonical_date.proofs.canonical.years_at.Statement.{statement}
 use Rattle.canonical_date.proofs.canonical.years_at.Tie as tie
 
-number16-requires : tie.Need-number16-requires
-number16-requires c κs =
-    let low = years-low (c .before .before .before .before .before .before .args .sheet .now) (known-bytes (c .before .before .before .before .before .before .args .sheet .now) (λ j. omega (arith, c .before .before .before .before .before .shared-slice-known .given j))) _ _ _ (sym (c .before .before .before .before .year-range-at .ensures) ∙ ap (asStepped yearsOf) (c .before .before .read .given .1)) in
+u64-to-u16-requires : tie.Need-u64-to-u16-requires
+u64-to-u16-requires c κs =
+    let after-year-range-at = c .before .before .before .before in
+    let known = after-year-range-at .before in
+    let entry = known .before in
+    let low = years-low (entry .args .sheet .now) (known-bytes (entry .args .sheet .now) (λ j. omega (arith, known .shared-slice-known .given j))) _ _ _
+    (sym (after-year-range-at .year-range-at .ensures) ∙ ap (asStepped yearsOf) (c .before .before .read .given .1)) in
     omega (arith, low .0)
 
-number16-requires-2 : tie.Need-number16-requires-2
-number16-requires-2 c κs =
-    let low = years-low (c .before .before .before .before .before .before .before .args .sheet .now) (known-bytes (c .before .before .before .before .before .before .before .args .sheet .now) (λ j. omega (arith, c .before .before .before .before .before .before .shared-slice-known .given j))) _ _ _ (sym (c .before .before .before .before .before .year-range-at .ensures) ∙ ap (asStepped yearsOf) (c .before .before .before .read .given .1)) in
+u64-to-u16-requires-2 : tie.Need-u64-to-u16-requires-2
+u64-to-u16-requires-2 c κs =
+    let after-year-range-at = c .before .before .before .before .before in
+    let known = after-year-range-at .before in
+    let entry = known .before in
+    let low = years-low (entry .args .sheet .now) (known-bytes (entry .args .sheet .now) (λ j. omega (arith, known .shared-slice-known .given j))) _ _ _
+    (sym (after-year-range-at .year-range-at .ensures) ∙ ap (asStepped yearsOf) (c .before .before .before .read .given .1)) in
     omega (arith, low .1)
 
 returns-2 : tie.Need-returns-2
 returns-2 c =
-    said yearSays _ _ _ _ (sym (c .before .before .before .before .before .before .before .year-range-at .ensures) ∙ ap (asStepped yearsOf) (c .before .before .before .before .before .read .given .1))
-    (only-some _ _ _ (eq-eqb _ 1 (c .before .before .before .if1 .taken)) (split-some _ _ _ _ _ _ (c .split-inverted-range .ensures) (c .before .before .number16 .ensures) (c .before .number162 .ensures)))
+    let after-read = c .before .before .before .before .before in
+    let after-year-range-at = after-read .before .before in
+    said yearSays _ _ _ _ (sym (after-year-range-at .year-range-at .ensures) ∙ ap (asStepped yearsOf) (after-read .read .given .1))
+    (only-some _ _ _ (eq-eqb _ 1 (c .before .before .before .if1 .taken))
+    (split-some _ _ _ _ _ _ (c .split-inverted-range .ensures) (c .before .before .u64-to-u16 .ensures) (c .before .u64-to-u162 .ensures)))
 
 pub years-at-spec : {M : Type 1} → statement M
 years-at-spec =
     tie.close
     (tie.spec (λ c κs. search needs) (λ c. search needs) (λ c. search needs)
     (λ c. said-refused yearSays _ _ _ (sym (c .before .before .year-range-at .ensures) ∙ ap (asStepped yearsOf) (c .enum-told .given .1)))
-    number16-requires number16-requires-2 (λ c κs. search needs) returns-2
-    (λ c. said-stops yearSays _ _ _ (sym (c .before .before .before .before .year-range-at .ensures) ∙ ap (asStepped yearsOf) (c .before .before .read .given .1)) (only-none _ _ (ne-eqb _ 1 (c .if1 .left)))))
+    u64-to-u16-requires u64-to-u16-requires-2 (λ c κs. search needs) returns-2
+    (λ c.
+    let after-year-range-at = c .before .before .before .before in
+    said-stops yearSays _ _ _ (sym (after-year-range-at .year-range-at .ensures) ∙ ap (asStepped yearsOf) (c .before .before .read .given .1)) (only-none _ _ (ne-eqb _ 1 (c .if1 .left)))))

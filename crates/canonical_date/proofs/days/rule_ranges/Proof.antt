@@ -1,5 +1,4 @@
 -- `canonical_date::days::rule_ranges` meets its contract: the rows from the first sort on.
--- Assumes nothing.
 use native.Mathlib.Omega.{arith}
 use borrow.Author.Needs.{needs}
 use Rattle.field.proofs.Bytes.{known-bytes}

@@ -1,5 +1,4 @@
 -- `canonical_date::row::items` meets its contract: an item's ranges, then those of the items after it.
--- Assumes nothing.
 use mathlib.Core.Path.{sym, ap, _∙_}
 use Prim.Native.Nat.{ℕ, _<_}
 use native.Mathlib.Omega.{arith}
@@ -36,19 +35,46 @@ pub +items-spec : {M : Type 1} → statement M
     (λ c. items-none _ _ _ _ _ _ (c .if1 .taken))
     (λ c κs. omega (arith, c .before .before .before .pre .1 .0))
     (λ c. search needs)
-    (λ c κs. let s = c .before .before .before .before .before .before .before .before .args .sheet .now in
-    let facts = item-facts _ s (known-bytes s (λ j. omega (arith, c .before .before .before .before .before .before .before .shared-slice-known .given j))) _ _ _ (sym (c .before .before .before .before .item-at .ensures) ∙ ap itemOf (c .before .before .item .given .1)) in
-    (omega (arith, c .before .before .before .before .before .before .before .before .pre .1 .1, c .before .before .before .before .before .if1 .left), facts .narrow))
+    (λ c κs.
+    let after-item-at = c .before .before .before .before in
+    let test = after-item-at .before in
+    let known = test .before .before in
+    let entry = known .before in
+    let s = entry .args .sheet .now in
+    let facts = item-facts _ s (known-bytes s (λ j. omega (arith, known .shared-slice-known .given j))) _ _ _
+    (sym (after-item-at .item-at .ensures) ∙ ap itemOf (c .before .before .item .given .1)) in
+    (omega (arith, entry .pre .1 .1, test .if1 .left), facts .narrow))
     (λ c. search needs)
-    (λ c κs. let s = c .before .before .before .before .before .before .before .before .before .before .before .before .args .sheet .now in
-    let facts = item-facts _ s (known-bytes s (λ j. omega (arith, c .before .before .before .before .before .before .before .before .before .before .before .shared-slice-known .given j))) _ _ _ (sym (c .before .before .before .before .before .before .before .before .item-at .ensures) ∙ ap itemOf (c .before .before .before .before .before .before .item .given .1)) in (
-      omega (arith, c .before .before .before .before .before .before .before .before .before .before .before .before .pre .0, c .before .before .before .before .before .before .before .before .before .if1 .left),
+    (λ c κs.
+    let after-put-split = c .before .before .before in
+    let after-item = after-put-split .before .before .before in
+    let after-item-at = after-item .before .before in
+    let test = after-item-at .before in
+    let known = test .before .before in
+    let entry = known .before in
+    let s = entry .args .sheet .now in
+    let facts = item-facts _ s (known-bytes s (λ j. omega (arith, known .shared-slice-known .given j))) _ _ _ (sym (after-item-at .item-at .ensures) ∙ ap itemOf (after-item .item .given .1)) in (
+      omega (arith, entry .pre .0, test .if1 .left),
       (
-        omega (arith, facts .ends, c .before .before .before .before .before .before .before .before .before .before .before .before .pre .1 .0, c .before .before .before .before .before .before .before .before .before .if1 .left),
-        omega (arith, facts .few, flat-length (listOf (c .before .before .before .before .before .before .item .given .0 .0)), c .before .before .before .put-split .ensures .0, c .before .before .before .put-split .kept, c .before .before .before .before .before .before .before .before .before .before .before .before .pre .1 .1, c .before .before .before .before .before .before .before .before .before .if1 .left),
+        omega (arith, facts .ends, entry .pre .1 .0, test .if1 .left),
+        omega (
+          arith,
+          facts .few,
+          flat-length (listOf (after-item .item .given .0 .0)),
+          after-put-split .put-split .ensures .0,
+          after-put-split .put-split .kept,
+          entry .pre .1 .1,
+          test .if1 .left,
+        ),
       ),
     ))
     (λ c. search needs)
     (λ c. search needs)
-    (λ c. items-go _ _ _ _ _ _ _ _ _ _ _ _ _ (omega (arith, c .before .before .before .before .before .before .before .before .before .before .before .before .if1 .left)) (sym (c .before .before .before .before .before .before .before .before .before .before .before .item-at .ensures) ∙ ap itemOf (c .before .before .before .before .before .before .before .before .before .item .given .1)) (c .before .before .before .before .before .before .put-split .ensures .0) (c .before .before .before .before .before .before .put-split .ensures .1) (c .before .before .items .ensures))
+    (λ c.
+    let after-put-split = c .before .before .before .before .before .before in
+    let after-item = after-put-split .before .before .before in
+    let after-item-at = after-item .before .before in
+    let test = after-item-at .before in
+    items-go _ _ _ _ _ _ _ _ _ _ _ _ _ (omega (arith, test .if1 .left)) (sym (after-item-at .item-at .ensures) ∙ ap itemOf (after-item .item .given .1))
+    (after-put-split .put-split .ensures .0) (after-put-split .put-split .ensures .1) (c .before .before .items .ensures))
     (λ c. items-stop _ _ _ _ _ _ (c .before .before .before .if1 .left) (sym (c .before .before .item-at .ensures) ∙ ap itemOf (c .enum-told .given .1)))

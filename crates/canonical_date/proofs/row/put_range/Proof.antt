@@ -1,5 +1,4 @@
 -- `canonical_date::row::put_range` meets its contract.
--- Assumes nothing.
 use borrow.Author.Needs.{needs}
 use Rattle.canonical_date.proofs.Flat.{put-one}
 use Rattle.canonical_date.proofs.row.put_range.Statement.{statement}

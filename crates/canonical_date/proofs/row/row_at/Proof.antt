@@ -1,5 +1,4 @@
 -- `canonical_date::row::row_at` meets its contract: the whole dimension, or the items.
--- Assumes nothing.
 use mathlib.Core.Path.{sym, subst}
 use native.Mathlib.Omega.{arith}
 use borrow.Author.Needs.{needs}

@@ -16,24 +16,24 @@ abbrev μ-loop : tie.MeasureT-loop
 loop-holds : tie.Need-loop-holds Inv-loop μ-loop
 loop-holds c = flat-start _ _ _ _ _ _ _ (c .before .before .before .before .before .before .pre .1)
 
-mul-index : tie.Need-mul-index Inv-loop μ-loop
-mul-index c = search needs
+mul-u16-to-usize : tie.Need-mul-u16-to-usize Inv-loop μ-loop
+mul-u16-to-usize c = search needs
 
-shared-slice-read-index : tie.Need-shared-slice-read-index Inv-loop μ-loop
-shared-slice-read-index c = search needs
+shared-slice-read-u16-to-usize : tie.Need-shared-slice-read-u16-to-usize Inv-loop μ-loop
+shared-slice-read-u16-to-usize c = search needs
 
-index-requires : tie.Need-index-requires Inv-loop μ-loop
-index-requires c κs = search needs
+u16-to-usize-requires : tie.Need-u16-to-usize-requires Inv-loop μ-loop
+u16-to-usize-requires c κs = search needs
 
-shared-slice-read-count : tie.Need-shared-slice-read-count Inv-loop μ-loop
-shared-slice-read-count c =
+shared-slice-read-u8-to-usize : tie.Need-shared-slice-read-u8-to-usize Inv-loop μ-loop
+shared-slice-read-u8-to-usize c =
     let rule = c .before in
     let turn = rule .before .before in
     let start = turn .before .before .before .before .before .before .before .before in
-    named-rule _ _ _ _ (start .pre .0) _ _ (turn .loop-test .taken) (rule .index .ensures .0) .1
+    named-rule _ _ _ _ (start .pre .0) _ _ (turn .loop-test .taken) (rule .u16-to-usize .ensures .0) .1
 
-count-requires : tie.Need-count-requires Inv-loop μ-loop
-count-requires c κs = search needs
+u8-to-usize-requires : tie.Need-u8-to-usize-requires Inv-loop μ-loop
+u8-to-usize-requires c κs = search needs
 
 mul-push-spans : tie.Need-mul-push-spans Inv-loop μ-loop
 mul-push-spans c = search needs
@@ -43,7 +43,7 @@ shared-slice-read-push-spans c =
     let rule = c .before .before .before .before .before in
     let turn = rule .before .before in
     let start = turn .before .before .before .before .before .before .before .before in
-    named-rule _ _ _ _ (start .pre .0) _ _ (turn .loop-test .taken) (rule .index .ensures .0) .0
+    named-rule _ _ _ _ (start .pre .0) _ _ (turn .loop-test .taken) (rule .u16-to-usize .ensures .0) .0
 
 mul-push-spans-2 : tie.Need-mul-push-spans-2 Inv-loop μ-loop
 mul-push-spans-2 c = search needs
@@ -56,7 +56,7 @@ add-push-spans c =
     let count = c .before .before .before in
     let rule = count .before .before in
     let start = rule .before .before .before .before .before .before .before .before .before .before in
-    omega (arith, start .pre .0 .few (rule .index .result), count .count .ensures, rule .index .ensures)
+    omega (arith, start .pre .0 .few (rule .u16-to-usize .result), count .u8-to-usize .ensures .0, rule .u16-to-usize .ensures)
 
 push-spans-requires : tie.Need-push-spans-requires Inv-loop μ-loop
 push-spans-requires c κs =
@@ -67,12 +67,12 @@ push-spans-requires c κs =
     let start = loop .before .before .before .before .before .before .before in
     let pre = start .pre in
     let more = turn .loop-test .taken in
-    let named = named-rule _ _ _ _ (pre .0) _ _ more (rule .index .ensures .0) in
-    let few = pre .0 .few (rule .index .result) in
+    let named = named-rule _ _ _ _ (pre .0) _ _ more (rule .u16-to-usize .ensures .0) in
+    let few = pre .0 .few (rule .u16-to-usize .result) in
     let room = loop .loop .inv .room in (
-      omega (arith, few, count .count .ensures, room .0, more),
-      omega (arith, few, count .count .ensures, room .1, more),
-      omega (arith, few, count .count .ensures, named .2),
+      omega (arith, few, count .u8-to-usize .ensures .0, room .0, more),
+      omega (arith, few, count .u8-to-usize .ensures .0, room .1, more),
+      omega (arith, few, count .u8-to-usize .ensures .0, named .2),
     )
 
 add-next : tie.Need-add-next Inv-loop μ-loop
@@ -89,9 +89,9 @@ loop-again c =
     let more = rule .before .before in
     let loop = more .before in
     let entry = loop .before .before .before .before .before .before .before in
-    let few = entry .pre .0 .few (rule .index .result) in
-    flat-on _ _ _ _ _ _ _ _ _ _ _ (loop .loop .inv) (more .loop-test .taken) _ _ (rule .index .ensures .0) (count .count .ensures)
-    (omega (arith, few, count .count .ensures)) _ _ _ (pushed .push-spans .ensures) (pushed .push-spans .kept .0, pushed .push-spans .kept .1 .0)
+    let few = entry .pre .0 .few (rule .u16-to-usize .result) in
+    flat-on _ _ _ _ _ _ _ _ _ _ _ (loop .loop .inv) (more .loop-test .taken) _ _ (rule .u16-to-usize .ensures .0) (count .u8-to-usize .ensures .0)
+    (omega (arith, few, count .u8-to-usize .ensures .0)) _ _ _ (pushed .push-spans .ensures) (pushed .push-spans .kept .0, pushed .push-spans .kept .1 .0)
 
 same-length : tie.Need-same-length Inv-loop μ-loop
 same-length c = c .before .loop .inv .lengths .0
@@ -106,23 +106,6 @@ pub flatten-spec : {M : Type 1} → statement M
 flatten-spec =
     tie.close
     (tie.spec
-    Inv-loop
-    μ-loop
-    loop-holds
-    mul-index
-    shared-slice-read-index
-    index-requires
-    shared-slice-read-count
-    count-requires
-    mul-push-spans
-    shared-slice-read-push-spans
-    mul-push-spans-2
-    mul-push-spans-3
-    add-push-spans
-    push-spans-requires
-    add-next
-    loop-less
-    loop-again
-    same-length
-    same-length-2
-    returns)
+    Inv-loop μ-loop loop-holds mul-u16-to-usize shared-slice-read-u16-to-usize u16-to-usize-requires shared-slice-read-u8-to-usize
+    u8-to-usize-requires mul-push-spans shared-slice-read-push-spans mul-push-spans-2 mul-push-spans-3 add-push-spans push-spans-requires add-next
+    loop-less loop-again same-length same-length-2 returns)

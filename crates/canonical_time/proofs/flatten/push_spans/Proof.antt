@@ -1,5 +1,4 @@
 -- `canonical_time::flatten::push_spans` meets its contract.
--- Assumes nothing.
 use mathlib.Core.Path.{_≡_, refl, _∙_}
 use Prim.Native.Nat.{_+_, _-_}
 use native.Mathlib.Omega.{arith}
@@ -24,23 +23,23 @@ abbrev μ-loop : tie.MeasureT-loop
 loop-holds : tie.Need-loop-holds Inv-loop μ-loop
 loop-holds c = (refl, (refl, refl), refl, refl)
 
-mul-stated : tie.Need-mul-stated Inv-loop μ-loop
-mul-stated c = search needs
+mul-span-states : tie.Need-mul-span-states Inv-loop μ-loop
+mul-span-states c = search needs
 
-slice-write-stated : tie.Need-slice-write-stated Inv-loop μ-loop
-slice-write-stated c = search needs
+slice-write-span-states : tie.Need-slice-write-span-states Inv-loop μ-loop
+slice-write-span-states c = search needs
 
-mul-spanned : tie.Need-mul-spanned Inv-loop μ-loop
-mul-spanned c = search needs
+mul-span-codes : tie.Need-mul-span-codes Inv-loop μ-loop
+mul-span-codes c = search needs
 
-shared-slice-read-spanned : tie.Need-shared-slice-read-spanned Inv-loop μ-loop
-shared-slice-read-spanned c = search needs
+shared-slice-read-span-codes : tie.Need-shared-slice-read-span-codes Inv-loop μ-loop
+shared-slice-read-span-codes c = search needs
 
-mul-spanned-2 : tie.Need-mul-spanned-2 Inv-loop μ-loop
-mul-spanned-2 c = search needs
+mul-span-codes-2 : tie.Need-mul-span-codes-2 Inv-loop μ-loop
+mul-span-codes-2 c = search needs
 
-slice-write-spanned : tie.Need-slice-write-spanned Inv-loop μ-loop
-slice-write-spanned c = search needs
+slice-write-span-codes : tie.Need-slice-write-span-codes Inv-loop μ-loop
+slice-write-span-codes c = search needs
 
 add-place : tie.Need-add-place Inv-loop μ-loop
 add-place c = search needs
@@ -56,7 +55,7 @@ loop-again c =
     let loop = c .before .before in
     let entry = loop .before in
     let args = entry .args in
-    let l = push-more (args .spans .now) (args .s) (loop .loop .place) (loop .loop .next) (args .e) (loop .loop .stated) (loop .loop .spanned)
+    let l = push-more (args .spans .now) (args .s) (loop .loop .place) (loop .loop .next) (args .e) (loop .loop .span-states) (loop .loop .span-codes)
     (omega arith) in (
       omega arith,
       (simp length-set (loop .loop .inv .1 .0), simp length-set (loop .loop .inv .1 .1)),
@@ -75,7 +74,7 @@ returns c =
     let loop = c .before in
     let entry = loop .before in
     let args = entry .args in
-    let l = push-none (args .spans .now) (args .s) (loop .loop .place) (loop .loop .next) (args .e) (loop .loop .stated) (loop .loop .spanned)
+    let l = push-none (args .spans .now) (args .s) (loop .loop .place) (loop .loop .next) (args .e) (loop .loop .span-states) (loop .loop .span-codes)
     (omega arith) in
     (omega (arith, loop .loop .inv .0), l .0 ∙ loop .loop .inv .2, l .1 ∙ loop .loop .inv .3)
 
@@ -83,19 +82,5 @@ pub push-spans-spec : {M : Type 1} → statement M
 push-spans-spec =
     tie.close
     (tie.spec
-    Inv-loop
-    μ-loop
-    loop-holds
-    mul-stated
-    slice-write-stated
-    mul-spanned
-    shared-slice-read-spanned
-    mul-spanned-2
-    slice-write-spanned
-    add-place
-    add-next
-    loop-less
-    loop-again
-    same-length
-    same-length-2
-    returns)
+    Inv-loop μ-loop loop-holds mul-span-states slice-write-span-states mul-span-codes shared-slice-read-span-codes mul-span-codes-2
+    slice-write-span-codes add-place add-next loop-less loop-again same-length same-length-2 returns)

@@ -49,15 +49,5 @@ pub last-meeting-spec : {M : Type 1} → statement M
 last-meeting-spec =
     tie.close
     (tie.spec
-    Inv-loop
-    μ-loop
-    loop-holds
-    sub-meets-range
-    mul-meets-range
-    shared-slice-read-meets-range
-    meets-range-requires
-    returns
-    sub-next
-    loop-less
-    loop-again
-    returns-2)
+    Inv-loop μ-loop loop-holds sub-meets-range mul-meets-range shared-slice-read-meets-range meets-range-requires returns sub-next loop-less
+    loop-again returns-2)

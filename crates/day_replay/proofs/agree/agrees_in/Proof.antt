@@ -1,5 +1,4 @@
 -- `day_replay::agree::agrees_in` is safe: what is lent on is as long as it was, and what is loaded are tables.
--- Assumes nothing.
 use mathlib.Core.Path.{sym}
 use native.Mathlib.Omega.{arith}
 use lib.Seq.{length-take-le}
@@ -51,12 +50,7 @@ pub agrees-in-spec : {M : Type 1} → statement M
 agrees-in-spec =
     tie.close
     (tie.spec
-    (λ c. search needs)
-    load-requires
-    (λ c κs. search needs)
-    slice-aggregate-with-days
-    with-days-requires
-    (λ c κs. search needs)
+    (λ c. search needs) load-requires (λ c κs. search needs) slice-aggregate-with-days with-days-requires (λ c κs. search needs)
     (λ c.
     let with-days = c .before .before .before .before .before .before .before .before .before .before .before .before .before in
     with-days .with-days .kept .1 .0)

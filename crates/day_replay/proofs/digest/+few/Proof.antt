@@ -1,5 +1,4 @@
 -- `day_replay::digest::few` meets its contract.
--- Assumes nothing.
 use borrow.Author.Needs.{needs}
 use Rattle.day_replay.proofs.Loaded.{below-none, below-more, below-not}
 use Prim.Native.Nat.{ℕ, _<_}
@@ -24,7 +23,7 @@ pub +few-spec : {M : Type 1} → statement M
 +few-spec = close μ-few λ t. few-lts.spec (few-below t, few.Post)
     (few-at t)
     few.Post
-    (λ c. below-none (c .before .before .args .counts .now) 16 (c .before .before .args .n) (c .if1 .taken))
+    (λ c. below-none (c .before .before .args .span-counts .now) 16 (c .before .before .args .n) (c .if1 .taken))
     (λ c. search needs)
     (λ c. search needs)
     (λ c. search needs)
@@ -33,5 +32,5 @@ pub +few-spec : {M : Type 1} → statement M
     let if1 = c .before .before .before in
     let entry = if1 .before .before in
     let args = entry .args in
-    below-more (args .counts .now) 16 (args .n) (if1 .if1 .left) (c .before .if2 .taken) _ (c .few .ensures))
-    (λ c. below-not (c .before .before .before .before .args .counts .now) 16 (c .before .before .before .before .args .n))
+    below-more (args .span-counts .now) 16 (args .n) (if1 .if1 .left) (c .before .if2 .taken) _ (c .few .ensures))
+    (λ c. below-not (c .before .before .before .before .args .span-counts .now) 16 (c .before .before .before .before .args .n))

@@ -1,5 +1,4 @@
 -- `day_replay::digest::known` meets its contract.
--- Assumes nothing.
 use borrow.Author.Needs.{needs}
 use Rattle.day_replay.proofs.Loaded.{below-none, below-more, below-not}
 use Prim.Native.Nat.{ℕ, _<_}

@@ -1,5 +1,4 @@
 -- `day_replay::digest::with_days` meets its contract. The measure falls with the end of a list, and more with its beginning.
--- Assumes nothing.
 use mathlib.Core.Path.{_∙_}
 use Prim.Native.Nat.{ℕ, _+_, _*_, _-_, _<_}
 use native.Mathlib.Omega.{arith}

@@ -1,5 +1,4 @@
 -- `day_replay::digest::with_day` meets its contract: the day's words fit into the buffer that is lent.
--- Assumes nothing.
 use native.Mathlib.Omega.{arith}
 use borrow.Author.Needs.{needs}
 use Rattle.day_replay.proofs.Loaded.{tables-known, words-room}
@@ -16,7 +15,7 @@ normalize-time-rules-requires c κs =
     let pre = first .pre in
     let lent = pre .0 in
     let short = if1 .if1 .left in (
-      tables-known (args .states .now) (args .counts .now) (args .spans .now) (args .list .now) (pre .1 .0) (known .known .ensures (if2 .if2 .taken)),
+      tables-known (args .states .now) (args .span-counts .now) (args .spans .now) (args .list .now) (pre .1 .0) (known .known .ensures (if2 .if2 .taken)),
       (
         omega (arith, short),
         omega (arith, short, lent),
@@ -36,17 +35,14 @@ with-words-requires c κs =
     let pre = first .pre in
     let made = normalize-time-rules .normalize-time-rules in
     let room =
-    words-room (args .states .now) (args .counts .now) (args .spans .now) (args .list .now) (pre .1 .0) (if1 .if1 .left) _ (made .ensures .1) in
+    words-room (args .states .now) (args .span-counts .now) (args .spans .now) (args .list .now) (pre .1 .0) (if1 .if1 .left) _ (made .ensures .1) in
     (pre .1 .1, omega (arith, room, made .kept .0, pre .0))
 
 pub with-day-spec : {M : Type 1} → statement M
 with-day-spec =
     tie.close
     (tie.spec
-    (λ c. search needs)
-    (λ c κs. search needs)
-    normalize-time-rules-requires
-    with-words-requires
+    (λ c. search needs) (λ c κs. search needs) normalize-time-rules-requires with-words-requires
     (λ c.
     let normalize-time-rules = c .before .before .before .before .before .before .before .before .before .before .before .before .before .before in
     normalize-time-rules .normalize-time-rules .kept .0)
@@ -65,5 +61,4 @@ with-day-spec =
     (λ c.
     let normalize-time-rules = c .before .before .before .before .before .before .before .before .before .before .before .before .before .before in
     normalize-time-rules .normalize-time-rules .kept .1 .1 .1 .1 .1 .0)
-    (λ c. search needs)
-    (λ c. search needs))
+    (λ c. search needs) (λ c. search needs))

@@ -1,5 +1,4 @@
 -- `day_replay::rule_tables::load` is safe and ends: the rules left fall.
--- Assumes nothing.
 use native.Mathlib.Omega.{arith}
 use borrow.Author.Needs.{needs}
 use mathlib.Core.Path.{_∙_}
@@ -10,7 +9,7 @@ use borrow.Fn.PlainCycle.{Measures, is, falls, and}
 use Rattle.day_replay.proofs.rule_tables.load.Reads as load
 use Rattle.day_replay.proofs.rule_tables.load.Kinds as load-kinds
 use Rattle.day_replay.proofs.rule_tables.+load.Lts-load as load-lts
-use Rattle.day_replay.proofs.rule_tables.count.Reads as count-reads
+use Rattle.casts.proofs.u8_to_usize.Reads as u8-to-usize-reads
 use Rattle.day_replay.proofs.rule_tables.load_spans.Reads as load-spans-reads
 use Rattle.day_replay.proofs.rule_tables.state.Reads as state-reads
 use Rattle.day_replay.proofs.rule_tables.+load.{statement}
@@ -27,8 +26,8 @@ load-below t = and 4 load-kinds.ps (falls 4 load-kinds.ps _<_ μ-load t) load.Pr
 
 pub +load-spec : {M : Type 1} → statement M
 +load-spec = close μ-load λ t. load-lts.spec (
-  count-reads.Asked,
-  count-reads.Learnt,
+  u8-to-usize-reads.Asked,
+  u8-to-usize-reads.Learnt,
   state-reads.Asked,
   state-reads.Learnt,
   load-spans-reads.Asked,

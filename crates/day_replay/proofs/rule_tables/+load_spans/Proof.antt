@@ -1,5 +1,4 @@
 -- `day_replay::rule_tables::load_spans` is safe and ends: the spans left fall.
--- Assumes nothing.
 use Prim.Native.Nat.{ℕ, _<_}
 use mathlib.Core.Path.{_∙_}
 use native.Mathlib.Omega.{arith}

@@ -1,14 +1,13 @@
 -- `draining::rule::drain_rule` meets its contract: days and spans, then the title.
--- Assumes nothing.
 use mathlib.Core.Path.{_≡_, sym, ap, _∙_}
 use Prim.Native.Nat.{_≤_}
 use native.Mathlib.Omega.{arith}
 use borrow.Author.Needs.{needs}
 use lib.ListN.{length}
 use Rattle.definition.specs.Field.{sheetBits}
-use Rattle.sheet.specs.Begin.{ruleAt}
+use Rattle.sheet.specs.Begin.{ruleReadAt}
 use Rattle.draining.specs.Rule.{partsStop, loadOf}
-use Rattle.draining.proofs.RuleWays.{spans-few, load-some, load-none, drain-stop, drain-go}
+use Rattle.draining.proofs.RuleReturns.{spans-few, load-some, load-none, drain-stop, drain-go}
 use Rattle.draining.proofs.rule.drain_rule.Statement.{statement}
 use Rattle.draining.proofs.rule.drain_rule.Tie as tie
 
@@ -18,7 +17,7 @@ set-rule-requires c κs =
     let load-rule = load .before .before .before .before .before .before .before .before in
     let entry = load-rule .before .before .before .before .before .before .before .before .before .before .before in
     let a = entry .pre .1 .0 in
-    let r = ruleAt (sheetBits (entry .args .sheet .now)) (entry .args .at) in
+    let r = ruleReadAt (sheetBits (entry .args .sheet .now)) (entry .args .at) in
     let many : load .load .given .0 .0 ≡ length (r .spans) = load-some (partsStop r) _ _
     (sym (ap loadOf (load .load .given .1)) ∙ load-rule .load-rule .ensures .0) .1 in
     let few : length (r .spans) ≤ 16 = spans-few _ _ (entry .pre .0) in

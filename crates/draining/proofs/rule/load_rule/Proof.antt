@@ -1,10 +1,9 @@
 -- `draining::rule::load_rule` meets its contract: the days, then the spans behind them.
--- Assumes nothing.
 use mathlib.Core.Path.{ap}
 use native.Mathlib.Omega.{arith}
 use borrow.Author.Needs.{needs}
 use Rattle.field.proofs.Bytes.{known-bytes}
-use Rattle.draining.proofs.RuleWays.{found-loads, found-stops, spans-early, load-days-stop, load-spans-stop, load-passes}
+use Rattle.draining.proofs.RuleReturns.{found-loads, found-stops, spans-early, load-days-stop, load-spans-stop, load-passes}
 use Rattle.draining.proofs.rule.load_rule.Statement.{statement}
 use Rattle.draining.proofs.rule.load_rule.Tie as tie
 

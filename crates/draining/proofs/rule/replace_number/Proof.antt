@@ -1,8 +1,7 @@
 -- `draining::rule::replace_number` meets its contract.
--- Assumes nothing.
 use mathlib.Core.Path.{sym}
 use borrow.Author.Tests.{eq-eqb}
-use Rattle.draining.proofs.RuleWays.{not-normal, closed-kind, other-kind}
+use Rattle.draining.proofs.RuleReturns.{not-normal, closed-kind, other-kind}
 use Rattle.draining.proofs.rule.replace_number.Statement.{statement}
 use Rattle.draining.proofs.rule.replace_number.Tie as tie
 

@@ -1,8 +1,7 @@
 -- `draining::rule::state_number` meets its contract.
--- Assumes nothing.
 use native.Mathlib.Omega.{arith}
 use borrow.Author.Needs.{needs}
-use Rattle.draining.proofs.RuleWays.{state-open, state-closed, state-unknown}
+use Rattle.draining.proofs.RuleReturns.{state-open, state-closed, state-unknown}
 use Rattle.draining.proofs.rule.state_number.Statement.{statement}
 use Rattle.draining.proofs.rule.state_number.Tie as tie
 

@@ -1,5 +1,4 @@
 -- `draining::span::open_bit` meets its contract.
--- Assumes nothing.
 use mathlib.Core.Path.{sym}
 use borrow.Author.Tests.{eq-eqb, ne-eqb}
 use Rattle.draining.proofs.span.open_bit.Statement.{statement}

@@ -1,12 +1,11 @@
 -- `draining::span::time_number` meets its contract: minutes, or an event and an offset.
--- Assumes nothing.
 use mathlib.Core.Path.{sym, ap, ap₂, _∙_, subst}
 use native.Mathlib.Omega.{arith}
 use borrow.Author.Needs.{needs}
 use Rattle.definition.specs.Rule.{fixed, variable}
 use Rattle.item.specs.Answer.{asTime}
-use Rattle.span_number.specs.Number.{timeNumber}
-use Rattle.span_number.specs.Carried.{CarriedTime}
+use Rattle.codes.specs.Number.{timeNumber}
+use Rattle.codes.specs.Carried.{CarriedTime}
 use Rattle.draining.proofs.span.time_number.Statement.{statement}
 use Rattle.draining.proofs.span.time_number.Tie as tie
 
@@ -19,5 +18,8 @@ time-number-spec =
     (λ c κs. let low = subst (λ t. CarriedTime (asTime t)) (c .before .time2 .given .1) (c .before .before .before .pre) in omega (arith, low .0))
     (λ c κs. let low = subst (λ t. CarriedTime (asTime t)) (c .before .before .time2 .given .1) (c .before .before .before .before .pre) in omega (arith, low .1))
     (λ c κs. search needs)
-    (λ c. c .fixed-time .ensures ∙ ap (λ m. timeNumber (fixed m)) (c .before .number16 .ensures) ∙ sym (ap (λ t. timeNumber (asTime t)) (c .before .before .before .time .given .1)))
-    (λ c. c .variable-time .ensures ∙ ap₂ (λ e o. timeNumber (variable e o)) (c .before .before .number8 .ensures) (c .before .number162 .ensures) ∙ sym (ap (λ t. timeNumber (asTime t)) (c .before .before .before .before .time2 .given .1))))
+    (λ c. c .fixed-time .ensures ∙ ap (λ m. timeNumber (fixed m)) (c .before .u64-to-u16 .ensures) ∙ sym (ap (λ t. timeNumber (asTime t)) (c .before .before .before .time .given .1)))
+    (λ c.
+    let after-time2 = c .before .before .before .before in
+    c .variable-time .ensures ∙ ap₂ (λ e o. timeNumber (variable e o)) (c .before .before .u64-to-u8 .ensures) (c .before .u64-to-u162 .ensures) ∙ sym
+    (ap (λ t. timeNumber (asTime t)) (after-time2 .time2 .given .1))))

@@ -1,5 +1,4 @@
 -- `hours::export::put_answer` meets its contract, by the invariant that storing what is left leaves what the whole answer leaves.
--- Assumes nothing.
 use mathlib.Core.Path.{_≡_, refl, sym, ap, _∙_}
 use Prim.Native.Nat.{suc, _+_, _-_, _≤_}
 use native.Mathlib.Omega.{arith}
@@ -38,12 +37,9 @@ pub put-answer-spec : {M : Type 1} → statement M
 put-answer-spec =
     tie.close
     (tie.spec
-    Inv-loop
-    μ-loop
+    Inv-loop μ-loop
     (λ c. (omega arith, refl, refl))
-    (λ c. search needs)
-    (λ c. search needs)
-    (λ c. search needs)
+    (λ c. search needs) (λ c. search needs) (λ c. search needs)
     (λ c. omega (arith, c .before .loop-test .taken, c .before .before .loop .inv .1, c .before .before .before .pre))
     (λ c. search needs)
     (λ c. omega (arith, c .before .loop-test .taken))

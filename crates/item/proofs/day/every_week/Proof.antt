@@ -1,5 +1,4 @@
 -- `item::day::every_week` meets its contract.
--- Assumes nothing.
 use mathlib.Core.Path.{sym}
 use borrow.Author.Tests.{eq-eqb, ne-eqb}
 use Rattle.item.proofs.day.every_week.Statement.{statement}

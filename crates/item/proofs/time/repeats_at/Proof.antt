@@ -1,5 +1,4 @@
 -- `item::time::repeats_at` meets its contract: a flag and, if it is set, the minutes.
--- Assumes nothing.
 use mathlib.Core.Path.{sym, ap, _∙_}
 use native.Mathlib.Omega.{arith}
 use borrow.Author.Needs.{needs}

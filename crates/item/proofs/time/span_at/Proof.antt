@@ -1,5 +1,4 @@
 -- `item::time::span_at` meets its contract: two times, a flag and repeats, one behind the other.
--- Assumes nothing.
 use mathlib.Core.Path.{sym}
 use native.Mathlib.Omega.{arith}
 use borrow.Author.Needs.{needs}

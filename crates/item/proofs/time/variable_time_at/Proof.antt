@@ -1,5 +1,4 @@
 -- `item::time::variable_time_at` meets its contract: two fields, one behind the other.
--- Assumes nothing.
 use mathlib.Core.Path.{sym}
 use native.Mathlib.Omega.{arith}
 use borrow.Author.Needs.{needs}

@@ -1,5 +1,4 @@
 -- `item_text::day::once` meets its contract.
--- Assumes nothing.
 use mathlib.Core.Path.{sym}
 use borrow.Author.Tests.{eq-eqb, ne-eqb}
 use Rattle.item_text.proofs.day.once.Statement.{statement}

@@ -1,5 +1,4 @@
 -- `item_text::day::put_behind` meets its contract: `-`, the last end, and a step other than 1 behind `/`.
--- Assumes nothing.
 use mathlib.Core.Path.{sym}
 use native.Mathlib.Omega.{arith}
 use borrow.Author.Needs.{needs}

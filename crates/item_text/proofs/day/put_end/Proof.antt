@@ -1,5 +1,4 @@
 -- `item_text::day::put_end` meets its contract, sort by sort.
--- Assumes nothing.
 use mathlib.Core.Path.{sym, ap, _∙_}
 use native.Mathlib.Omega.{arith}
 use borrow.Author.Needs.{needs}

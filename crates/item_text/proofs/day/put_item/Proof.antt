@@ -1,5 +1,4 @@
 -- `item_text::day::put_item` meets its contract: once, or with what stands behind the first end.
--- Assumes nothing.
 use mathlib.Core.Path.{sym, ap, _∙_}
 use native.Mathlib.Omega.{arith}
 use lib.ListN.{length, length-append}
@@ -31,8 +30,7 @@ put-item-spec =
     let args = entry .args in
     let pre = entry .pre in
     (pre .0, omega (arith, pre .2, item-least (args .sort) (args .last) (args .step) (args .first))))
-    (λ c κs. search needs)
-    (λ c. search needs)
+    (λ c κs. search needs) (λ c. search needs)
     (λ c. put-as (sym (item-once _ _ _ _ (sym (c .before .once .ensures) ∙ c .if1 .taken))) (c .before .before .before .before .put-end .ensures))
     put-behind-requires (λ c. search needs)
     (λ c.

@@ -1,5 +1,4 @@
 -- `item_text::day::put_weekday` meets its contract: the name is found in the row.
--- Assumes nothing.
 use native.Mathlib.Omega.{arith}
 use borrow.Author.Needs.{needs}
 use Rattle.definition.specs.Text.{ascii}

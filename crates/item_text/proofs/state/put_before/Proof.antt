@@ -1,5 +1,4 @@
 -- `item_text::state::put_before` meets its contract, operator by operator.
--- Assumes nothing.
 use mathlib.Core.Path.{ap}
 use native.Mathlib.Omega.{arith}
 use lib.ListN.{length}

@@ -1,5 +1,4 @@
 -- `item_text::state::put_kind` meets its contract, kind by kind.
--- Assumes nothing.
 use mathlib.Core.Path.{ap}
 use native.Mathlib.Omega.{arith}
 use lib.ListN.{length}

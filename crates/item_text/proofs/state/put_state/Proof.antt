@@ -1,5 +1,4 @@
 -- `item_text::state::put_state` meets its contract: kind, then comment.
--- Assumes nothing.
 use mathlib.Core.Path.{sym}
 use native.Mathlib.Omega.{arith}
 use borrow.Author.Needs.{needs}

@@ -1,5 +1,4 @@
 -- `item_text::time::put_clock` meets its contract: hours, `:`, minutes.
--- Assumes nothing.
 use mathlib.Core.Path.{sym}
 use Prim.Native.Nat.{_/_}
 use native.Mathlib.Omega.{arith}

@@ -1,5 +1,4 @@
 -- `item_text::time::put_span` meets its contract: start, `-`, end, and `+` where the end is open.
--- Assumes nothing.
 use mathlib.Core.Path.{sym, ap}
 use mathlib.Core.Bool.{cond}
 use Prim.Native.Nat.{ℕ}

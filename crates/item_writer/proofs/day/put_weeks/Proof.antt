@@ -1,5 +1,4 @@
 -- `item_writer::day::put_weeks` meets its contract.
--- Assumes nothing.
 use native.Mathlib.Omega.{arith}
 use borrow.Author.Needs.{needs}
 use Rattle.definition.specs.Field.{field, _then_, via}

@@ -1,5 +1,4 @@
 -- `item_writer::put::put` meets its contract: a field, and its width.
--- Assumes nothing.
 use native.Mathlib.Omega.{arith}
 use borrow.Author.Needs.{needs}
 use Rattle.definition.proofs.Bits.{length-bits}

@@ -1,5 +1,4 @@
 -- `item_writer::put::put_three` meets its contract: three fields, one behind the other.
--- Assumes nothing.
 use borrow.Author.Needs.{needs}
 use Rattle.item_writer.proofs.Chain.{wrote-then, room-first, room-rest}
 use Rattle.item_writer.proofs.put.put_three.Statement.{statement}

@@ -1,5 +1,4 @@
 -- `item_writer::time::put_span` meets its contract: two times, a flag, repeats.
--- Assumes nothing.
 use mathlib.Core.Path.{refl}
 use native.Mathlib.Omega.{arith}
 use borrow.Author.Needs.{needs}

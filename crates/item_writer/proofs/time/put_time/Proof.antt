@@ -1,5 +1,4 @@
 -- `item_writer::time::put_time` meets its contract, fixed and variable.
--- Assumes nothing.
 use native.Mathlib.Omega.{arith}
 use borrow.Author.Needs.{needs}
 use Rattle.item_writer.proofs.Chain.{wrote-then, room-first, room-rest, room-as, wrote-as}

@@ -1,7 +1,7 @@
 -- `normalize::boxes::fold_boxes_in` meets its contract: a list that is too long refuses; else the pages are those of the folded rules, and what
 -- is written is the definition's fold.
 use borrow.Author.Needs.{needs}
-use Rattle.drawing.proofs.Listed.{listing-long, listing-all}
+use Rattle.draw_rules.proofs.Listed.{listing-long, listing-all}
 use Rattle.prepare.proofs.ToDraw.{boxes-few}
 use Rattle.normalize.proofs.Answers.{list-refused, rules-folded}
 use Rattle.normalize.proofs.boxes.fold_boxes_in.Statement.{statement}
@@ -56,13 +56,5 @@ pub fold-boxes-in-spec : {M : Type 1} → statement M
 fold-boxes-in-spec =
     tie.close
     (tie.spec
-    draw-rules-requires
-    (λ c κs. search needs)
-    (λ c. search needs)
-    returns
-    fold-pages-requires
-    emit-requires
-    (λ c. search needs)
-    (λ c. search needs)
-    (λ c. search needs)
-    returns-2)
+    draw-rules-requires (λ c κs. search needs) (λ c. search needs) returns fold-pages-requires emit-requires (λ c. search needs) (λ c. search needs)
+    (λ c. search needs) returns-2)

@@ -1,7 +1,7 @@
 -- `normalize::boxes::fold_few_boxes` meets its contract: the small buffers are large enough for 16 boxes.
 use native.Mathlib.Omega.{arith}
 use borrow.Author.Needs.{needs}
-use Rattle.drawing.proofs.Listed.{zeros-empty}
+use Rattle.draw_rules.proofs.Listed.{zeros-empty}
 use Rattle.normalize.proofs.boxes.fold_few_boxes.Statement.{statement}
 use Rattle.normalize.proofs.boxes.fold_few_boxes.Tie as tie
 
@@ -14,8 +14,4 @@ pub fold-few-boxes-spec : {M : Type 1} → statement M
 fold-few-boxes-spec =
     tie.close
     (tie.spec
-    (λ c. search needs)
-    (λ c. search needs)
-    fold-boxes-in-requires
-    (λ c. search needs)
-    (λ c. search needs))
+    (λ c. search needs) (λ c. search needs) fold-boxes-in-requires (λ c. search needs) (λ c. search needs))

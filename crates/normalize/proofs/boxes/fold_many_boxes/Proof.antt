@@ -1,7 +1,7 @@
 -- `normalize::boxes::fold_many_boxes` meets its contract: the buffers are as large as the limits ask for.
 use native.Mathlib.Omega.{arith}
 use borrow.Author.Needs.{needs}
-use Rattle.drawing.proofs.Listed.{zeros-empty}
+use Rattle.draw_rules.proofs.Listed.{zeros-empty}
 use Rattle.normalize.proofs.boxes.fold_many_boxes.Statement.{statement}
 use Rattle.normalize.proofs.boxes.fold_many_boxes.Tie as tie
 
@@ -15,8 +15,4 @@ pub fold-many-boxes-spec : {M : Type 1} → statement M
 fold-many-boxes-spec =
     tie.close
     (tie.spec
-    (λ c. search needs)
-    (λ c. search needs)
-    fold-boxes-in-requires
-    (λ c. search needs)
-    (λ c. search needs))
+    (λ c. search needs) (λ c. search needs) fold-boxes-in-requires (λ c. search needs) (λ c. search needs))

@@ -1,6 +1,5 @@
 -- The cycle of `paving::check::check_predicate` and `check_columns` meets its contracts. The invariant of the loop over the columns:
 -- whether what is left from here agrees is whether all does.
--- Assumes nothing.
 use mathlib.Core.Path.{_≡_, refl, _∙_}
 use mathlib.Core.Logic.{⊎-elim}
 use Prim.Native.Nat.{suc, _+_, _*_, _-_, ℕ, _<_}
@@ -20,7 +19,7 @@ use Rattle.paving.proofs.check.check_predicate.Reads as check-predicate
 use Rattle.paving.proofs.check.check_predicate.Kinds as check-predicate-kinds
 use Rattle.paving.proofs.check.+check_columns+check_predicate.Lts-check_predicate as check-predicate-lts
 use Rattle.paving.proofs.row.check_cells.Reads as check-cells-reads
-use Rattle.paving.proofs.wide.Reads as wide-reads
+use Rattle.casts.proofs.u16_to_usize.Reads as u16-to-usize-reads
 use Rattle.paving.proofs.check.+check_columns+check_predicate.{statement}
 use Rattle.paving.proofs.check.+check_columns+check_predicate.Tie.{close}
 
@@ -131,10 +130,12 @@ pub +check-columns+check-predicate-spec : {M : Type 1} → statement M
     (λ w. columns-out _ _ _ _ _ _ _ _ _ (pre .1 .1 .0) (turn .loop-test .taken) (w .left)) (c .if2 .came) ∙ loop .loop .inv)
     (λ c. columns-end _ _ _ _ _ _ _ _ _ (c .before .before .before .before .before .before .pre .1 .1 .0) (c .loop-test .left) ∙ c .before .loop .inv))
     λ t. check-predicate-lts.spec
-    (wide-reads.Asked, wide-reads.Learnt, check-columns-below t, check-columns.Post)
+    (u16-to-usize-reads.Asked, u16-to-usize-reads.Learnt, check-columns-below t, check-columns.Post)
     (check-predicate-at t)
     check-predicate.Post
-    (λ c. omega (arith, room-node _ _ _ _ _ _ (c .before .before .before .before .pre .1), c .before .before .before .before .good))
+    (λ c.
+    let entry = c .before .before .before .before in
+    omega (arith, room-node _ _ _ _ _ _ (entry .pre .1), entry .good))
     (λ c. room-node _ _ _ _ _ _ (c .before .before .before .before .before .pre .1))
     (λ c. check-leaf _ _ _ _ _ _ _ (c .before .if1 .taken))
     (λ c. search needs)
@@ -146,11 +147,11 @@ pub +check-columns+check-predicate-spec : {M : Type 1} → statement M
     let entry = if1 .before .before .before .before in
     let a = entry .args in
     let pre = entry .pre in
-    let e : a .left ≡ suc (a .left - 1) = omega (arith, if1 .if1 .left) in
-    (omega (arith, pre .0), (room-at _ _ _ _ _ _ _ e (pre .1), c .wide .ensures)))
+    let e : a .dims-left ≡ suc (a .dims-left - 1) = omega (arith, if1 .if1 .left) in
+    (omega (arith, pre .0), (room-at _ _ _ _ _ _ _ e (pre .1), c .u16-to-usize .ensures)))
     (λ c.
     let if1 = c .before .before .before in
     let entry = if1 .before .before .before .before in
     let a = entry .args in
-    let e : a .left ≡ suc (a .left - 1) = omega (arith, if1 .if1 .left) in
+    let e : a .dims-left ≡ suc (a .dims-left - 1) = omega (arith, if1 .if1 .left) in
     check-node _ _ _ _ _ _ _ _ _ e (c .check-columns .ensures))

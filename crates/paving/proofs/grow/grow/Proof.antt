@@ -1,5 +1,4 @@
 -- `paving::grow::grow` meets its contract. The loop's invariant: painting what is left from here gives what painting all gives.
--- Assumes nothing.
 use mathlib.Core.Path.{_≡_, refl, _∙_}
 use Prim.Native.Nat.{_-_}
 use native.Mathlib.Omega.{arith}

@@ -1,5 +1,4 @@
 -- `paving::place::column_of` meets its contract: what lies before the column of a cell lies before the cell.
--- Assumes nothing.
 use mathlib.Core.Path.{refl}
 use native.Mathlib.Omega.{arith}
 use Rattle.paving.proofs.Room.{size-pos}

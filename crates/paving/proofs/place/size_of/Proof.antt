@@ -1,5 +1,4 @@
 -- `paving::place::size_of` meets its contract. The loop's invariant: the size of a node with the dimensions passed.
--- Assumes nothing.
 use mathlib.Core.Path.{_≡_, ap, _∙_}
 use Prim.Native.Nat.{_-_, _≤_}
 use native.Mathlib.Omega.{arith}
@@ -21,15 +20,15 @@ mul-size c =
     let loop = turn .before in
     let start = loop .before .before in
     let pre = start .pre in
-    omega (arith, size-fits _ _ _ _ _ (pre .1) (turn .loop-test .taken) (loop .loop .inv .1) (c .wide .ensures .0), pre .2)
+    omega (arith, size-fits _ _ _ _ _ (pre .1) (turn .loop-test .taken) (loop .loop .inv .1) (c .u16-to-usize .ensures .0), pre .2)
 
 loop-again : tie.Need-loop-again Inv-loop μ-loop
-loop-again c = (omega arith, size-next _ _ _ _ (c .before .before .before .loop .inv .1) (c .wide .ensures .0))
+loop-again c = (omega arith, size-next _ _ _ _ (c .before .before .before .loop .inv .1) (c .u16-to-usize .ensures .0))
 
 returns : tie.Need-returns Inv-loop μ-loop
 returns c =
     let args = c .before .before .before .args in
-    let all : c .before .loop .dimension ≡ args .left = omega arith in
+    let all : c .before .loop .dimension ≡ args .dims-left = omega arith in
     c .before .loop .inv .1 ∙ ap (sizeOf (args .sizes .now)) all
 
 pub size-of-spec : {M : Type 1} → statement M

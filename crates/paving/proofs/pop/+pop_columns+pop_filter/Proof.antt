@@ -1,6 +1,5 @@
 -- The cycle of `paving::pop::pop_filter` and `pop_columns` meets its contracts. The invariant of the loop over the columns: what is found
 -- from here on is what is found in all of them, and the marks are as they were.
--- Assumes nothing.
 use mathlib.Core.Path.{_≡_, refl, ap, _∙_}
 use Prim.Native.Nat.{suc, _+_, _*_, _-_, ℕ, _<_}
 use borrow.Author.Needs.{needs}
@@ -23,7 +22,7 @@ use Rattle.paving.proofs.class.in_class.Reads as in-class-reads
 use Rattle.paving.proofs.row.first_cell.Reads as first-cell-reads
 use Rattle.paving.proofs.place.column_of.Reads as column-of-reads
 use Rattle.paving.proofs.grow.grow.Reads as grow-reads
-use Rattle.paving.proofs.wide.Reads as wide-reads
+use Rattle.casts.proofs.u16_to_usize.Reads as u16-to-usize-reads
 use Rattle.paving.proofs.pop.+pop_columns+pop_filter.{statement}
 use Rattle.paving.proofs.pop.+pop_columns+pop_filter.Tie.{close}
 
@@ -50,11 +49,11 @@ pop-filter-below t =
     and 4 pop-filter-kinds.ps (falls 4 pop-filter-kinds.ps _<_ μ-pop-filter t) pop-filter.Pre
 
 abbrev pop-columns-Inv-loop : pop-columns-lts.InvT-loop
-pop-columns-Inv-loop cells kinds sizes marks₀ class dimension node base width first child column₀ marks column =
-    (popFrom cells sizes dimension node (inClass kinds class) column ≡ popFrom cells sizes dimension node (inClass kinds class) 0) × (marks ≡ marks₀)
+pop-columns-Inv-loop cells classes sizes marks₀ class dimension node base width first child column₀ marks column =
+    (popFrom cells sizes dimension node (inClass classes class) column ≡ popFrom cells sizes dimension node (inClass classes class) 0) × (marks ≡ marks₀)
 
 abbrev pop-columns-μ-loop : pop-columns-lts.MeasureT-loop
-pop-columns-μ-loop cells kinds sizes marks₀ class dimension node base width first child column₀ marks column = width - column
+pop-columns-μ-loop cells classes sizes marks₀ class dimension node base width first child column₀ marks column = width - column
 
 pub +pop-columns+pop-filter-spec : {M : Type 1} → statement M
 +pop-columns+pop-filter-spec =
@@ -158,8 +157,8 @@ pub +pop-columns+pop-filter-spec : {M : Type 1} → statement M
     pop-filter-lts.spec (
       in-class-reads.Asked,
       in-class-reads.Learnt,
-      wide-reads.Asked,
-      wide-reads.Learnt,
+      u16-to-usize-reads.Asked,
+      u16-to-usize-reads.Learnt,
       pop-columns-below t,
       pop-columns.Post,
       grow-reads.Asked,
@@ -167,7 +166,9 @@ pub +pop-columns+pop-filter-spec : {M : Type 1} → statement M
     )
     (pop-filter-at t)
     pop-filter.Post
-    (λ c. omega (arith, room-node _ _ _ _ _ _ (c .before .before .before .before .before .pre .1 .0), c .before .before .before .before .before .good))
+    (λ c.
+    let entry = c .before .before .before .before .before in
+    omega (arith, room-node _ _ _ _ _ _ (entry .pre .1 .0), entry .good))
     (λ c. room-node _ _ _ _ _ _ (c .before .before .before .before .before .before .pre .1 .0))
     (λ c κs. search needs)
     (λ c. pop-leaf-yes _ _ _ _ _ _ _ _ _ (c .before .before .before .if1 .taken) (c .before .in-class .ensures) (c .if2 .taken))
@@ -181,38 +182,38 @@ pub +pop-columns+pop-filter-spec : {M : Type 1} → statement M
     let entry = if1 .before .before .before .before .before in
     let a = entry .args in
     let pre = entry .pre in
-    let e : a .left ≡ suc (a .left - 1) = omega (arith, if1 .if1 .left) in
-    (omega (arith, pre .0), (room-at _ _ _ _ _ _ _ e (pre .1 .0), (c .before .wide .ensures .0, c .before .wide .ensures .1, pre .1 .1))))
+    let e : a .dims-left ≡ suc (a .dims-left - 1) = omega (arith, if1 .if1 .left) in
+    (omega (arith, pre .0), (room-at _ _ _ _ _ _ _ e (pre .1 .0), (c .before .u16-to-usize .ensures .0, c .before .u16-to-usize .ensures .1, pre .1 .1))))
     (λ c. search needs)
     (λ c κs.
     let at-pop-columns = c .before .before .before .before .before .before in
-    let wide = at-pop-columns .before .before in
-    let if1 = wide .before .before in
+    let u16-to-usize = at-pop-columns .before .before in
+    let if1 = u16-to-usize .before .before in
     let entry = if1 .before .before .before .before .before in
     let a = entry .args in
-    let e : a .left ≡ suc (a .left - 1) = omega (arith, if1 .if1 .left) in
-    (room-len₂ _ _ _ _ _ _ _ (at-pop-columns .pop-columns .kept .1 .1 .1 .0) (room-at _ _ _ _ _ _ _ e (entry .pre .1 .0)), wide .wide .ensures))
+    let e : a .dims-left ≡ suc (a .dims-left - 1) = omega (arith, if1 .if1 .left) in
+    (room-len₂ _ _ _ _ _ _ _ (at-pop-columns .pop-columns .kept .1 .1 .1 .0) (room-at _ _ _ _ _ _ _ e (entry .pre .1 .0)), u16-to-usize .u16-to-usize .ensures))
     (λ c. search needs)
     (λ c. search needs)
     (λ c.
     let grow = c .before .before in
     let found = grow .before .before .before in
     let at-pop-columns = found .before .before .before .before in
-    let wide = at-pop-columns .before .before in
-    let if1 = wide .before .before in
+    let u16-to-usize = at-pop-columns .before .before in
+    let if1 = u16-to-usize .before .before in
     let entry = if1 .before .before .before .before .before in
     let a = entry .args in
-    let e : a .left ≡ suc (a .left - 1) = omega (arith, if1 .if1 .left) in
-    pop-node-some _ _ _ _ _ _ _ _ _ e (wide .wide .ensures .0) _ _ _ (at-pop-columns .pop-columns .ensures .0)
+    let e : a .dims-left ≡ suc (a .dims-left - 1) = omega (arith, if1 .if1 .left) in
+    pop-node-some _ _ _ _ _ _ _ _ _ e (u16-to-usize .u16-to-usize .ensures .0) _ _ _ (at-pop-columns .pop-columns .ensures .0)
     (at-pop-columns .pop-columns .ensures .1) _ _ (found .found .given .1)
-    (room-width _ _ _ _ _ _ _ (wide .wide .ensures .0) (room-at _ _ _ _ _ _ _ e (entry .pre .1 .0))) (grow .grow .ensures))
+    (room-width _ _ _ _ _ _ _ (u16-to-usize .u16-to-usize .ensures .0) (room-at _ _ _ _ _ _ _ e (entry .pre .1 .0))) (grow .grow .ensures))
     (λ c. search needs)
     (λ c.
     let at-pop-columns = c .before .before .before .before in
-    let wide = at-pop-columns .before .before in
-    let if1 = wide .before .before in
+    let u16-to-usize = at-pop-columns .before .before in
+    let if1 = u16-to-usize .before .before in
     let entry = if1 .before .before .before .before .before in
     let a = entry .args in
-    let e : a .left ≡ suc (a .left - 1) = omega (arith, if1 .if1 .left) in
-    pop-node-none _ _ _ _ _ _ _ _ _ e (wide .wide .ensures .0) _ _ _ (at-pop-columns .pop-columns .ensures .0)
+    let e : a .dims-left ≡ suc (a .dims-left - 1) = omega (arith, if1 .if1 .left) in
+    pop-node-none _ _ _ _ _ _ _ _ _ e (u16-to-usize .u16-to-usize .ensures .0) _ _ _ (at-pop-columns .pop-columns .ensures .0)
     (at-pop-columns .pop-columns .ensures .1) (c .enum-told .given .1))

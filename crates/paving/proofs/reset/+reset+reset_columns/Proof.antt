@@ -1,6 +1,5 @@
 -- The cycle of `paving::reset::reset` and `reset_columns` meets its contracts. The invariant of the loop over the columns: what empties
 -- the marked columns that are left empties, in all, those of the cells as they came.
--- Assumes nothing.
 use mathlib.Core.Path.{_≡_, refl, ap, _∙_}
 use mathlib.Core.Logic.{⊎-elim}
 use Prim.Native.Nat.{suc, _+_, _*_, _-_, ℕ, _<_}
@@ -19,7 +18,7 @@ use Rattle.paving.proofs.reset.reset_columns.Reads as reset-columns
 use Rattle.paving.proofs.reset.reset_columns.Kinds as reset-columns-kinds
 use Rattle.paving.proofs.reset.+reset+reset_columns.Lts-reset_columns as reset-columns-lts
 use Rattle.paving.proofs.row.reset_cells.Reads as reset-cells-reads
-use Rattle.paving.proofs.wide.Reads as wide-reads
+use Rattle.casts.proofs.u16_to_usize.Reads as u16-to-usize-reads
 use Rattle.paving.proofs.reset.+reset+reset_columns.{statement}
 use Rattle.paving.proofs.reset.+reset+reset_columns.Tie.{close}
 
@@ -55,10 +54,12 @@ abbrev reset-columns-μ-loop : reset-columns-lts.MeasureT-loop
 reset-columns-μ-loop cells₀ sizes marks dimension node base width column₀ cells column = width - column
 
 pub +reset+reset-columns-spec : {M : Type 1} → statement M
-+reset+reset-columns-spec = close μ-reset μ-reset-columns (λ t. reset-lts.spec (wide-reads.Asked, wide-reads.Learnt, reset-columns-below t, reset-columns.Post)
++reset+reset-columns-spec = close μ-reset μ-reset-columns (λ t. reset-lts.spec (u16-to-usize-reads.Asked, u16-to-usize-reads.Learnt, reset-columns-below t, reset-columns.Post)
     (reset-at t)
     reset.Post
-    (λ c. omega (arith, room-node _ _ _ _ _ _ (c .before .before .before .before .pre .1), c .before .before .before .before .good))
+    (λ c.
+    let entry = c .before .before .before .before in
+    omega (arith, room-node _ _ _ _ _ _ (entry .pre .1), entry .good))
     (λ c. room-node _ _ _ _ _ _ (c .before .before .before .before .pre .1))
     (λ c. search needs)
     (λ c. reset-leaf _ _ _ _ _ _ (c .if1 .taken) (room-node _ _ _ _ _ _ (c .before .before .before .before .pre .1)))
@@ -71,15 +72,15 @@ pub +reset+reset-columns-spec : {M : Type 1} → statement M
     let entry = if1 .before .before .before .before in
     let a = entry .args in
     let pre = entry .pre in
-    let e : a .left ≡ suc (a .left - 1) = omega (arith, if1 .if1 .left) in
-    (omega (arith, pre .0), (room-at _ _ _ _ _ _ _ e (pre .1), c .before .wide .ensures)))
+    let e : a .dims-left ≡ suc (a .dims-left - 1) = omega (arith, if1 .if1 .left) in
+    (omega (arith, pre .0), (room-at _ _ _ _ _ _ _ e (pre .1), c .before .u16-to-usize .ensures)))
     (λ c. search needs)
     (λ c.
     let at-reset-columns = c .before .before in
     let if1 = at-reset-columns .before .before .before .before in
     let entry = if1 .before .before .before .before in
     let a = entry .args in
-    let e : a .left ≡ suc (a .left - 1) = omega (arith, if1 .if1 .left) in
+    let e : a .dims-left ≡ suc (a .dims-left - 1) = omega (arith, if1 .if1 .left) in
     reset-node _ _ _ _ _ _ _ _ e (at-reset-columns .reset-columns .ensures)))
     λ t. reset-columns-lts.spec
     (reset-cells-reads.Asked, reset-cells-reads.Learnt, reset-below t, reset.Post)

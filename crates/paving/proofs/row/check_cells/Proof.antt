@@ -1,5 +1,4 @@
 -- `paving::row::check_cells` meets its contract. The loop's invariant: whether what is left from here agrees is whether all does.
--- Assumes nothing.
 use mathlib.Core.Path.{_≡_, refl, _∙_}
 use mathlib.Core.Logic.{⊎-elim}
 use Prim.Native.Nat.{_-_}

@@ -1,5 +1,4 @@
 -- `paving::row::first_cell` meets its contract: the cell that is next is the first.
--- Assumes nothing.
 use borrow.Author.Needs.{needs}
 use Rattle.paving.proofs.Rows.{first-hit, first-none}
 use Rattle.paving.proofs.row.first_cell.Statement.{statement}

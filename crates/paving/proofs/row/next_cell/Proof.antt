@@ -1,5 +1,4 @@
 -- `paving::row::next_cell` meets its contract. The loop's invariant: no cell passed is of the class.
--- Assumes nothing.
 use mathlib.Core.Path.{sym, _∙_}
 use Prim.Native.Nat.{_-_, _≤_}
 use native.Mathlib.Omega.{arith}
@@ -10,10 +9,10 @@ use Rattle.paving.proofs.row.next_cell.Statement.{statement}
 use Rattle.paving.proofs.row.next_cell.Tie as tie
 
 abbrev Inv-loop : tie.InvT-loop
-Inv-loop cells kinds class first end at₀ at = (first ≤ at) × (at ≤ end) × NoneFrom cells (inClass kinds class) first at
+Inv-loop cells classes class first end at₀ at = (first ≤ at) × (at ≤ end) × NoneFrom cells (inClass classes class) first at
 
 abbrev μ-loop : tie.MeasureT-loop
-μ-loop cells kinds class first end at₀ at = end - at
+μ-loop cells classes class first end at₀ at = end - at
 
 returns : tie.Need-returns Inv-loop μ-loop
 returns c =

@@ -1,5 +1,4 @@
 -- `paving::row::reset_cells` meets its contract. The loop's invariant: emptying what is left from here gives what emptying all gives.
--- Assumes nothing.
 use mathlib.Core.Path.{_≡_, refl, ap, _∙_}
 use mathlib.Core.Logic.{⊎-elim}
 use mathlib.Core.List.{List}

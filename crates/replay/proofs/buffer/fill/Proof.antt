@@ -1,5 +1,4 @@
 -- `replay::buffer::fill` is safe and ends. The loop's invariant: the buffer keeps its length. The measure is the bytes left.
--- Assumes nothing.
 use Prim.Native.Nat.{_-_, _≤_}
 use mathlib.Core.Path.{_≡_}
 use lib.ListN.{length, length-set}
@@ -18,13 +17,9 @@ pub fill-spec : {M : Type 1} → statement M
 fill-spec =
     tie.close
     (tie.spec
-    Inv-loop
-    μ-loop
-    (λ c. search needs)
+    Inv-loop μ-loop (λ c. search needs)
     (λ c κs. tt)
-    (λ c. omega arith)
-    (λ c. omega arith)
-    (λ c. omega arith)
+    (λ c. omega arith) (λ c. omega arith) (λ c. omega arith)
     (λ c. simp length-set (omega arith, omega arith))
     (λ c. search needs)
     (λ c. tt))

@@ -1,5 +1,4 @@
 -- `replay::buffer::holds` is safe and ends. The measure is the bytes left.
--- Assumes nothing.
 use Prim.Native.Nat.{_-_, _≤_}
 use lib.ListN.{length}
 use native.Mathlib.Omega.{arith}
@@ -16,13 +15,8 @@ pub holds-spec : {M : Type 1} → statement M
 holds-spec =
     tie.close
     (tie.spec
-    Inv-loop
-    μ-loop
-    (λ c. omega arith)
-    (λ c. omega arith)
+    Inv-loop μ-loop (λ c. omega arith) (λ c. omega arith)
     (λ c κs. tt)
     (λ c. tt)
-    (λ c. omega arith)
-    (λ c. omega arith)
-    (λ c. omega arith)
+    (λ c. omega arith) (λ c. omega arith) (λ c. omega arith)
     (λ c. tt))

@@ -1,5 +1,4 @@
 -- `rule_text::row::put_opening` meets its contract.
--- Assumes nothing.
 use mathlib.Core.Path.{sym, ap}
 use native.Mathlib.Omega.{arith}
 use lib.ListN.{length}

@@ -1,5 +1,4 @@
 -- `rule_text::row::show_items` meets its contract: the first item, then the others.
--- Assumes nothing.
 use mathlib.Core.Path.{ap}
 use Prim.Native.Nat.{_-_}
 use native.Mathlib.Omega.{arith}

@@ -1,5 +1,4 @@
 -- `rule_text::row::show_others` meets its contract: what is put so far and what is left make the whole.
--- Assumes nothing.
 use Prim.Native.Nat.{_+_, _*_, _≤_}
 use native.Mathlib.Omega.{arith}
 use Rattle.definition.specs.Field.{sheetBits}

@@ -1,5 +1,4 @@
 -- `rule_text::row::show_part` meets its contract: the items, and the space behind them.
--- Assumes nothing.
 use native.Mathlib.Omega.{arith}
 use borrow.Author.Needs.{needs}
 use Rattle.definition.specs.Field.{sheetBits}

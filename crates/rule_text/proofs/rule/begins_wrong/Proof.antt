@@ -1,5 +1,4 @@
 -- `rule_text::rule::begins_wrong` meets its contract.
--- Assumes nothing.
 use mathlib.Core.Path.{sym}
 use Rattle.rule_text.proofs.Rules.{normal-number}
 use Rattle.rule_text.proofs.rule.begins_wrong.Statement.{statement}

@@ -1,5 +1,4 @@
 -- `rule_text::rule::put_start` meets its contract.
--- Assumes nothing.
 use mathlib.Core.Path.{sym, ap}
 use native.Mathlib.Omega.{arith}
 use lib.ListN.{length}

@@ -1,5 +1,4 @@
 -- `rule_text::rule::show_body` meets its contract: the days and spans of the rule.
--- Assumes nothing.
 use mathlib.Core.Path.{sym, ap, ap₂, _∙_}
 use mathlib.Core.Bool.{_||_}
 use native.Mathlib.Omega.{arith}
@@ -7,7 +6,7 @@ use lib.Dec.{eqb}
 use lib.ListN.{length}
 use borrow.Author.Needs.{needs}
 use Rattle.definition.specs.Field.{sheetBits}
-use Rattle.sheet.specs.Begin.{ruleAt}
+use Rattle.sheet.specs.Begin.{ruleReadAt}
 use Rattle.sheet.specs.Head.{asCounts}
 use Rattle.sheet.proofs.Titles.{counts-same, counts-refused}
 use Rattle.text.proofs.Putting.{put-then, put-as}
@@ -29,7 +28,7 @@ show-days-requires c κs =
     let read = sym (at-counts .counts-at .ensures) ∙ ap asCounts (counts .counts .given .1) in
     let few = counts-few s (args .at) (pre .0) _ _ read in
     let told = ap (λ x. length (x .text)) (days-told s (args .at) (pre .0) _ _ read) in
-    ((omega (arith, few .5, pre .1 .0), few .0, few .1, few .2, few .3), omega (arith, pre .1 .1, told, body-long (ruleAt s (args .at))))
+    ((omega (arith, few .5, pre .1 .0), few .0, few .1, few .2, few .3), omega (arith, pre .1 .1, told, body-long (ruleReadAt s (args .at))))
 
 show-items-requires : tie.Need-show-items-requires
 show-items-requires c κs =
@@ -48,7 +47,7 @@ show-items-requires c κs =
     let days = shows-as told (show-days .show-days .ensures) in
     let spans = ap (λ x. length (x .text)) (spans-told s (args .at) (pre .0) _ _ read _ (days .read-to)) in (
       omega (arith, near, few .0, few .1, few .2, few .3, few .4, few .5, show-days .show-days .ensures .read-to, pre .1 .0),
-      omega (arith, pre .1 .1, days .put .ends, spans, body-long (ruleAt s (args .at))),
+      omega (arith, pre .1 .1, days .put .ends, spans, body-long (ruleReadAt s (args .at))),
     )
 
 returns : tie.Need-returns
@@ -64,9 +63,9 @@ returns c =
     let read = sym (at-counts .counts-at .ensures) ∙ ap asCounts (counts .counts .given .1) in
     let days = shows-as (days-told s (args .at) (pre .0) _ _ read) (show-days .show-days .ensures) in
     let spans = shows-as (spans-told s (args .at) (pre .0) _ _ read _ (days .read-to)) (show-items .show-items .ensures) in
-    let none = lacks-either (ruleAt s (args .at)) _ (counts-same s (args .at) (pre .0) _ _ read .2) in
+    let none = lacks-either (ruleReadAt s (args .at)) _ (counts-same s (args .at) (pre .0) _ _ read .2) in
     record {
-      put = put-as (body-text (ruleAt s (args .at))) (put-then (days .put) (spans .put));
+      put = put-as (body-text (ruleReadAt s (args .at))) (put-then (days .put) (spans .put));
       so = c .either2 .ensures ∙ ap₂ _||_ (days .lacks)
           (c .before .either .ensures ∙ ap (_|| eqb (counts .counts .given .0 .1 .1 .1 .1 .0) 0) (spans .lacks)) ∙ none;
     }

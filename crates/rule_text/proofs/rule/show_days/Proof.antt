@@ -1,5 +1,4 @@
 -- `rule_text::rule::show_days` meets its contract: part behind part.
--- Assumes nothing.
 use mathlib.Core.Path.{ap}
 use native.Mathlib.Omega.{arith}
 use lib.ListN.{length}

@@ -1,5 +1,4 @@
 -- `rule_text::rule::show_rule` meets its contract: what stands before it, days and spans, kind and comment.
--- Assumes nothing.
 use mathlib.Core.Path.{sym, ap, ap₂, _∙_}
 use mathlib.Core.Bool.{_||_}
 use native.Mathlib.Omega.{arith}
@@ -8,7 +7,7 @@ use borrow.Author.Needs.{needs}
 use Rattle.definition.specs.Field.{sheetBits}
 use Rattle.definition.specs.Text.{Text}
 use Rattle.definition.specs.Line.{stateText}
-use Rattle.sheet.specs.Begin.{ruleAt}
+use Rattle.sheet.specs.Begin.{ruleReadAt}
 use Rattle.sheet.specs.Head.{asTitle}
 use Rattle.sheet.proofs.Titles.{title-same, title-refused}
 use Rattle.text.proofs.Putting.{put-then, put-as}
@@ -27,7 +26,7 @@ put-start-requires c κs =
     let s = sheetBits (args .sheet .now) in
     let read = sym (at-title .title-at .ensures) ∙ ap asTitle (title .title .given .1) in
     let same = title-same s (args .at) (pre .0) _ _ _ _ read in
-    omega (arith, pre .1 .1, shown-long (args .first) (ruleAt s (args .at)), ap (λ o. length (startText (args .first) o)) (same .0))
+    omega (arith, pre .1 .1, shown-long (args .first) (ruleReadAt s (args .at)), ap (λ o. length (startText (args .first) o)) (same .0))
 
 show-body-requires : tie.Need-show-body-requires
 show-body-requires c κs =
@@ -41,7 +40,7 @@ show-body-requires c κs =
     let read = sym (at-title .title-at .ensures) ∙ ap asTitle (title .title .given .1) in
     let same = title-same s (args .at) (pre .0) _ _ _ _ read in
     let start = ap (λ o. length (startText (args .first) o)) (same .0) in
-    (pre .0, (pre .1 .0, omega (arith, pre .1 .1, shown-long (args .first) (ruleAt s (args .at)), start, put-start .put-start .ensures .ends)))
+    (pre .0, (pre .1 .0, omega (arith, pre .1 .1, shown-long (args .first) (ruleReadAt s (args .at)), start, put-start .put-start .ensures .ends)))
 
 put-state-requires : tie.Need-put-state-requires
 put-state-requires c κs =
@@ -56,11 +55,11 @@ put-state-requires c κs =
     let read = sym (at-title .title-at .ensures) ∙ ap asTitle (title .title .given .1) in
     let same = title-same s (args .at) (pre .0) _ _ _ _ read in
     let start = ap (λ o. length (startText (args .first) o)) (same .0) in
-    let state = ap (λ S. length (stateText .write S)) (state-same (ruleAt s (args .at)) _ _ (same .1) (same .2)) in
+    let state = ap (λ S. length (stateText .write S)) (state-same (ruleReadAt s (args .at)) _ _ (same .1) (same .2)) in
     omega (
       arith,
       pre .1 .1,
-      shown-long (args .first) (ruleAt s (args .at)),
+      shown-long (args .first) (ruleReadAt s (args .at)),
       start,
       state,
       put-start .put-start .ensures .ends,
@@ -76,7 +75,7 @@ returns c =
     let at-title = title .before .before in
     let entry = at-title .before .before .before in
     let args = entry .args in
-    let r = ruleAt (sheetBits (args .sheet .now)) (args .at) in
+    let r = ruleReadAt (sheetBits (args .sheet .now)) (args .at) in
     let read = sym (at-title .title-at .ensures) ∙ ap asTitle (title .title .given .1) in
     let same = title-same (sheetBits (args .sheet .now)) (args .at) (entry .pre .0) _ _ _ _ read in
     let body = show-body .show-body .ensures in

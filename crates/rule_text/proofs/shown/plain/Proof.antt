@@ -1,5 +1,4 @@
 -- `rule_text::shown::plain` meets its contract.
--- Assumes nothing.
 use mathlib.Core.Path.{sym, _∙_}
 use borrow.Author.Needs.{needs}
 use Rattle.rule_text.proofs.Items.{no-repeats}

@@ -1,5 +1,4 @@
 -- `rule_text::shown::show_item` meets its contract, sort by sort.
--- Assumes nothing.
 use mathlib.Core.Path.{ap}
 use native.Mathlib.Omega.{arith}
 use lib.ListN.{length}

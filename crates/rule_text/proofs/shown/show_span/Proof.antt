@@ -1,5 +1,4 @@
 -- `rule_text::shown::show_span` meets its contract: a span between fixed times without repeats has words, and no other.
--- Assumes nothing.
 use mathlib.Core.Path.{sym, ap, ap₂, _∙_}
 use mathlib.Core.Bool.{not}
 use native.Mathlib.Omega.{arith}

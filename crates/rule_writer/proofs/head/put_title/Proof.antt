@@ -1,5 +1,4 @@
 -- `rule_writer::head::put_title` meets its contract.
--- Assumes nothing.
 use mathlib.Core.Path.{_∙_}
 use native.Mathlib.Omega.{arith}
 use borrow.Author.Needs.{needs}
@@ -14,7 +13,7 @@ put-three-requires c κs =
     let args = entry .args in
     let pre = entry .pre in
     let state = args .state in
-    let kind = c .wide8 .ensures ∙ c .before .kind-of .ensures in (
+    let kind = c .u8-to-u64 .ensures .0 ∙ c .before .kind-of .ensures in (
       ((omega arith, omega (arith, pre .0)), (omega arith, omega (arith, kind, kind-low state)), (omega arith, omega arith)),
       room-as (title-bits (args .operator) state _ (pre .0 .0) (pre .0 .1) kind) (pre .1),
     )
@@ -22,12 +21,12 @@ put-three-requires c κs =
 returns : tie.Need-returns
 returns c =
     let put-three = c .before .before in
-    let wide8 = put-three .before in
-    let kind-of = wide8 .before in
+    let cast8 = put-three .before in
+    let kind-of = cast8 .before in
     let entry = kind-of .before .before .before in
     let args = entry .args in
     let pre = entry .pre in
-    wrote-as (title-bits (args .operator) (args .state) _ (pre .0 .0) (pre .0 .1) (wide8 .wide8 .ensures ∙ kind-of .kind-of .ensures))
+    wrote-as (title-bits (args .operator) (args .state) _ (pre .0 .0) (pre .0 .1) (cast8 .u8-to-u64 .ensures .0 ∙ kind-of .kind-of .ensures))
     (put-three .put-three .ensures)
 
 pub put-title-spec : {M : Type 1} → statement M

@@ -1,5 +1,4 @@
 -- `rule_writer::row::put_spans` meets its contract: the first span, and those behind it.
--- Assumes nothing.
 use Prim.Native.Nat.{ℕ, _<_}
 use native.Mathlib.Omega.{arith}
 use borrow.Author.Needs.{needs}
@@ -31,7 +30,7 @@ pub +put-spans-spec : {M : Type 1} → statement M
     (λ c.
     let entry = c .before .before .before in
     let args = entry .args in
-    wrote-none (spans-none (args .spans .now) (args .first) (args .many) (c .if1 .taken)))
+    wrote-none (spans-none (args .spans .now) (args .first) (args .span-count) (c .if1 .taken)))
     (λ c. search needs)
     (λ c. omega (arith, c .before .before .before .before .before .pre .1 .0, c .before .before .if1 .left))
     (λ c κs.
@@ -39,8 +38,8 @@ pub +put-spans-spec : {M : Type 1} → statement M
     let entry = if1 .before .before .before in
     let a = entry .args in
     let pre = entry .pre .1 in (
-      spans-lawful (a .spans .now) (a .first) (a .many) (if1 .if1 .left) (pre .0) FitsSpan (pre .1 .0) .0,
-      room-first _ _ (room-as (spans-more (a .spans .now) (a .first) (a .many) (if1 .if1 .left) (pre .0)) (pre .1 .1)),
+      spans-lawful (a .spans .now) (a .first) (a .span-count) (if1 .if1 .left) (pre .0) FitsSpan (pre .1 .0) .0,
+      room-first _ _ (room-as (spans-more (a .spans .now) (a .first) (a .span-count) (if1 .if1 .left) (pre .0)) (pre .1 .1)),
     ))
     (λ c.
     let if1 = c .before .before .before .before .before .before in
@@ -57,8 +56,8 @@ pub +put-spans-spec : {M : Type 1} → statement M
       (
         omega (arith, pre .0, if1 .if1 .left),
         (
-          spans-lawful (a .spans .now) (a .first) (a .many) (if1 .if1 .left) (pre .0) FitsSpan (pre .1 .0) .1,
-          room-rest (put-span .put-span .ensures) _ (room-as (spans-more (a .spans .now) (a .first) (a .many) (if1 .if1 .left) (pre .0)) (pre .1 .1)),
+          spans-lawful (a .spans .now) (a .first) (a .span-count) (if1 .if1 .left) (pre .0) FitsSpan (pre .1 .0) .1,
+          room-rest (put-span .put-span .ensures) _ (room-as (spans-more (a .spans .now) (a .first) (a .span-count) (if1 .if1 .left) (pre .0)) (pre .1 .1)),
         ),
       ),
     ))
@@ -69,5 +68,5 @@ pub +put-spans-spec : {M : Type 1} → statement M
     let if1 = put-span .before .before .before in
     let entry = if1 .before .before .before in
     let a = entry .args in
-    wrote-as (spans-more (a .spans .now) (a .first) (a .many) (if1 .if1 .left) (entry .pre .1 .0))
+    wrote-as (spans-more (a .spans .now) (a .first) (a .span-count) (if1 .if1 .left) (entry .pre .1 .0))
     (wrote-then (put-span .put-span .ensures) (at-put-spans .put-spans .ensures)))

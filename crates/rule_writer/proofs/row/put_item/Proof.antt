@@ -1,5 +1,4 @@
 -- `rule_writer::row::put_item` meets its contract, sort by sort.
--- Assumes nothing.
 use native.Mathlib.Omega.{arith}
 use borrow.Author.Needs.{needs}
 use Rattle.item_writer.proofs.Chain.{room-as, wrote-as}

@@ -1,5 +1,4 @@
 -- `sheet::back::write_back` meets its contract: a refusal stands, and what is accepted is copied.
--- Assumes nothing.
 use mathlib.Core.Path.{sym, ap, _∙_}
 use native.Mathlib.Omega.{arith}
 use borrow.Author.Needs.{needs}

@@ -1,5 +1,4 @@
 -- `sheet::check::check` meets its contract: the count of rules, then the rules.
--- Assumes nothing.
 use mathlib.Core.Path.{sym, _∙_}
 use native.Mathlib.Omega.{arith}
 use borrow.Author.Needs.{needs}

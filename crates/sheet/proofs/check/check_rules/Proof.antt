@@ -1,5 +1,4 @@
 -- `sheet::check::check_rules` meets its contract: the rules, then what follows them.
--- Assumes nothing.
 use mathlib.Core.Path.{sym, ap, _∙_}
 use Prim.Native.Nat.{_+_, _*_, _≤_}
 use native.Mathlib.Omega.{arith}

@@ -1,5 +1,4 @@
 -- `sheet::check::ended_at` meets its contract: a padding bit is set, or bytes follow, or the sheet ends.
--- Assumes nothing.
 use mathlib.Core.Path.{sym}
 use native.Mathlib.Omega.{arith}
 use borrow.Author.Needs.{needs}

@@ -1,5 +1,4 @@
 -- `sheet::check::first_set` meets its contract. The loop's invariant: every bit passed is zero, so that the first set one is still ahead.
--- Assumes nothing.
 use mathlib.Core.Path.{_≡_, refl, sym, ap, _∙_}
 use Prim.Native.Nat.{_+_, _-_, _≤_}
 use native.Mathlib.Omega.{arith}

@@ -1,6 +1,5 @@
 -- `sheet::check::rules_end` meets its contract. The loop's invariant: what is left from here ends, and is noted, as the whole row is; each
 -- rule passed took 2,998 bits at most.
--- Assumes nothing.
 use mathlib.Core.Path.{_≡_, sym, ap, _∙_}
 use Prim.Native.Nat.{_+_, _-_, _*_, _≤_}
 use native.Mathlib.Omega.{arith}

@@ -1,5 +1,4 @@
 -- `sheet::end::item_end` meets its contract: the layout of each sort.
--- Assumes nothing.
 use mathlib.Core.Path.{_∙_}
 use native.Mathlib.Omega.{arith}
 use borrow.Author.Needs.{needs}

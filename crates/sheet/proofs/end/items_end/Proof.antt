@@ -1,6 +1,5 @@
 -- `sheet::end::items_end` meets its contract. The loop's invariant: what is left from here ends as the whole row does, and each item passed
 -- took 52 bits at most.
--- Assumes nothing.
 use mathlib.Core.Path.{_≡_, refl, sym, _∙_}
 use Prim.Native.Nat.{_+_, _*_, _≤_}
 use native.Mathlib.Omega.{arith}

@@ -1,5 +1,4 @@
 -- `sheet::rule::body_end` meets its contract: five rows of items, one behind the other.
--- Assumes nothing.
 use mathlib.Core.Path.{sym, ap, _∙_}
 use native.Mathlib.Omega.{arith}
 use borrow.Author.Needs.{needs}

@@ -1,5 +1,4 @@
 -- `sheet::rule::counted_end` meets its contract: the counts keep their limits, and their items begin fifty bits on.
--- Assumes nothing.
 use mathlib.Core.Path.{sym, _∙_}
 use native.Mathlib.Omega.{arith}
 use borrow.Author.Needs.{needs}

@@ -1,5 +1,4 @@
 -- `sheet::rule::counts_at` meets its contract: five fields, one behind the other.
--- Assumes nothing.
 use mathlib.Core.Path.{sym}
 use native.Mathlib.Omega.{arith}
 use borrow.Author.Needs.{needs}

@@ -1,5 +1,4 @@
 -- `sheet::rule::rule_end` meets its contract: a title of twenty bits, then what is counted.
--- Assumes nothing.
 use mathlib.Core.Path.{sym, _∙_}
 use native.Mathlib.Omega.{arith}
 use borrow.Author.Needs.{needs}

@@ -1,5 +1,4 @@
 -- `state_at::answer::comment_of` meets its contract, kind by kind.
--- Assumes nothing.
 use native.Mathlib.Omega.{arith}
 use Rattle.state_at.proofs.Numbers.{open-comment, closed-comment, unknown-comment}
 use Rattle.state_at.proofs.answer.comment_of.Statement.{statement}

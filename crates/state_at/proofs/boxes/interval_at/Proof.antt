@@ -1,5 +1,4 @@
 -- `state_at::boxes::interval_at` meets its contract: the value stays between two cuts, which come together.
--- Assumes nothing.
 use Prim.Native.Nat.{_-_}
 use native.Mathlib.Omega.{arith}
 use denote.Ref.{now}
@@ -18,17 +17,16 @@ pub interval-at-spec : {M : Type 1} → statement M
 interval-at-spec =
     tie.close
     (tie.spec
-    Inv-loop
-    μ-loop
+    Inv-loop μ-loop
     (λ c. enclosed-first (now (c .args .cuts)) (c .args .first) _ _ (c .pre .1) (c .pre .2) (c .pre .3))
-    (λ c. search needs)
-    (λ c. search needs)
-    (λ c. search needs)
-    (λ c. search needs)
-    (λ c. search needs)
+    (λ c. search needs) (λ c. search needs) (λ c. search needs) (λ c. search needs) (λ c. search needs)
     (λ c. omega (arith, c .before .before .loop .inv .1, c .before .before .before .pre .0))
     (λ c. search needs)
-    (λ c. (omega arith, omega (arith, c .before .before .before .loop .inv .1), c .before .before .before .loop .inv .2, c .if1 .taken))
+    (λ c.
+    let in-loop = c .before .before .before in
+    (omega arith, omega (arith, in-loop .loop .inv .1), in-loop .loop .inv .2, c .if1 .taken))
     (λ c. search needs)
-    (λ c. (omega arith, c .before .before .before .loop .inv .1, c .if1 .left, c .before .before .before .loop .inv .3))
+    (λ c.
+    let in-loop = c .before .before .before in
+    (omega arith, in-loop .loop .inv .1, c .if1 .left, in-loop .loop .inv .3))
     (λ c. enclosed-last (now (c .before .before .args .cuts)) (c .before .before .args .first) _ _ _ _ (c .before .loop .inv) (omega arith)))

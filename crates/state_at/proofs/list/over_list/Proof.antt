@@ -1,5 +1,4 @@
 -- `state_at::list::over_list` meets its contract: the rules that are left, from the state shown so far, give what all give from plain Closed.
--- Assumes nothing.
 use mathlib.Core.Path.{_≡_, refl, _∙_}
 use Prim.Native.Nat.{_-_}
 use native.Mathlib.Omega.{arith}
@@ -23,20 +22,27 @@ pub over-list-spec : {M : Type 1} → statement M
 over-list-spec =
     tie.close
     (tie.spec
-    Inv-loop
-    μ-loop
+    Inv-loop μ-loop
     (λ c. (refl, c .before .before .before .before .pre .1))
-    (λ c. search needs)
-    (λ c. search needs)
-    (λ c. search needs)
-    (λ c κs. let a = c .before .before .before .before .before .before .before .args in numbers-all (now (a .lists)) _ _ _ (InTables (now (a .states)) (now (a .span-counts)) (now (a .spans))) (omega arith) (c .before .before .loop .inv .1) .0)
-    (λ c. search needs)
-    (λ c. search needs)
-    (λ c. search needs)
-    (λ c. let a = c .before .before .before .before .before .before .before .before .before .before .before .args in (
-      list-on (now (a .lists)) _ _ _ (now (a .states)) (now (a .span-counts)) (now (a .spans)) _ _ (omega arith) _ (c .before .before .before .over-rule .ensures) _ (c .before .found .given .1) ∙ c .before .before .before .before .before .before .loop .inv .0,
-      numbers-all (now (a .lists)) _ _ _ (InTables (now (a .states)) (now (a .span-counts)) (now (a .spans))) (omega arith) (c .before .before .before .before .before .before .loop .inv .1) .1,
+    (λ c. search needs) (λ c. search needs) (λ c. search needs)
+    (λ c κs.
+    let entry = c .before .before .before .before .before .before .before in
+    let a = entry .args in numbers-all (now (a .lists)) _ _ _ (InTables (now (a .states)) (now (a .span-counts)) (now (a .spans))) (omega arith) (c .before .before .loop .inv .1) .0)
+    (λ c. search needs) (λ c. search needs) (λ c. search needs)
+    (λ c.
+    let in-loop = c .before .before .before .before .before .before in
+    let entry = in-loop .before .before .before .before .before in
+    let a = entry .args in (
+      list-on (now (a .lists)) _ _ _ (now (a .states)) (now (a .span-counts)) (now (a .spans)) _ _ (omega arith) _ (c .before .before .before .over-rule .ensures) _
+          (c .before .found .given .1) ∙ in-loop .loop .inv .0,
+      numbers-all (now (a .lists)) _ _ _ (InTables (now (a .states)) (now (a .span-counts)) (now (a .spans))) (omega arith) (in-loop .loop .inv .1) .1,
     ))
     (λ c. search needs)
-    (λ c. let a = c .before .before .before .before .before .before .before .before .before .before .args in list-unsettled (now (a .lists)) _ _ _ (now (a .states)) (now (a .span-counts)) (now (a .spans)) _ _ (omega arith) _ (c .before .before .over-rule .ensures) (c .enum-told .given .1) ∙ c .before .before .before .before .before .loop .inv .0)
-    (λ c. let a = c .before .before .before .before .before .before .args in list-end (now (a .lists)) _ _ _ (now (a .states)) (now (a .span-counts)) (now (a .spans)) _ _ (omega arith) ∙ c .before .loop .inv .0))
+    (λ c.
+    let in-loop = c .before .before .before .before .before in
+    let entry = in-loop .before .before .before .before .before in
+    let a = entry .args in list-unsettled (now (a .lists)) _ _ _ (now (a .states)) (now (a .span-counts)) (now (a .spans)) _ _ (omega arith) _ (c .before .before .over-rule .ensures)
+    (c .enum-told .given .1) ∙ in-loop .loop .inv .0)
+    (λ c.
+    let entry = c .before .before .before .before .before .before in
+    let a = entry .args in list-end (now (a .lists)) _ _ _ (now (a .states)) (now (a .span-counts)) (now (a .spans)) _ _ (omega arith) ∙ c .before .loop .inv .0))

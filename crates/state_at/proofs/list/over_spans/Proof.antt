@@ -1,5 +1,4 @@
 -- `state_at::list::over_spans` meets its contract: the spans that are left, from the state shown so far, give what all give from the first.
--- Assumes nothing.
 use mathlib.Core.Path.{_≡_, refl, sym, _∙_}
 use Prim.Native.Nat.{_-_}
 use native.Mathlib.Omega.{arith}
@@ -21,15 +20,11 @@ pub over-spans-spec : {M : Type 1} → statement M
 over-spans-spec =
     tie.close
     (tie.spec
-    Inv-loop
-    μ-loop
+    Inv-loop μ-loop
     (λ c. refl)
-    (λ c. search needs)
-    (λ c. search needs)
-    (λ c κs. search needs)
+    (λ c. search needs) (λ c. search needs) (λ c κs. search needs)
     (λ c κs. sym (c .before .is-simple .ensures) ∙ c .if1 .taken)
-    (λ c. search needs)
-    (λ c. search needs)
+    (λ c. search needs) (λ c. search needs)
     (λ c. spans-on _ _ _ _ _ _ (omega arith) (sym (c .before .before .is-simple .ensures) ∙ c .before .if1 .taken) _ (c .after-span .ensures) ∙ c .before .before .before .before .before .loop .inv)
     (λ c. spans-unsettled _ _ _ _ _ _ (omega arith) (sym (c .before .is-simple .ensures) ∙ c .if1 .left) ∙ c .before .before .before .before .loop .inv)
     (λ c. spans-end _ _ _ _ _ _ (omega arith) ∙ c .before .loop .inv))

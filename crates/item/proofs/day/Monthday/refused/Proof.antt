@@ -1,4 +1,4 @@
--- `item::day::Monthday::refused` meets its contract. Assumes nothing.
+-- `item::day::Monthday::refused` meets its contract.
 use mathlib.Core.Path.{sym, ap}
 use borrow.Author.Needs.{needs}
 use Rattle.item.specs.Answer.{monthdayRefused}

@@ -1,4 +1,4 @@
--- `sheet::check::Checked::of` meets its contract. Assumes nothing.
+-- `sheet::check::Checked::of` meets its contract.
 use mathlib.Core.Path.{sym, ap}
 use borrow.Author.Needs.{needs}
 use Rattle.definition.specs.Field.{got, andThen}

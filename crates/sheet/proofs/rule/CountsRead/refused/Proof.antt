@@ -1,4 +1,4 @@
--- `sheet::rule::CountsRead::refused` meets its contract. Assumes nothing.
+-- `sheet::rule::CountsRead::refused` meets its contract.
 use mathlib.Core.Path.{sym, ap}
 use borrow.Author.Needs.{needs}
 use Rattle.sheet.specs.Head.{countsRefused}

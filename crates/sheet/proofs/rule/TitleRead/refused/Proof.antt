@@ -1,4 +1,4 @@
--- `sheet::rule::TitleRead::refused` meets its contract. Assumes nothing.
+-- `sheet::rule::TitleRead::refused` meets its contract.
 use mathlib.Core.Path.{sym, ap}
 use borrow.Author.Needs.{needs}
 use Rattle.sheet.specs.Head.{titleRefused}

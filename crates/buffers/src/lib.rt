@@ -1,0 +1,52 @@
+// Scratch that is as large as the limits ask: the words of a day, what folding the list of a box works in, and what a fold notes of each box.
+// Each array is made in a function of its own, so that a proof that lends it knows its length and no more.
+ghost use mathlib.Core.Path.{_≡_};
+ghost use lib.ListN.{length, getD};
+
+// A day of a list of 32 rules: 64 words for each rule, and one.
+pub fn words() -> [u64; 2049]
+    ensures { λ r. ⌜ 2049 ≡ length r ⌝ }
+{
+    [0u64; 2049]
+}
+
+// The states and the spans of a list: 32 rules of 16 spans.
+pub fn states() -> [u32; 512]
+    ensures { λ r. ⌜ 512 ≡ length r ⌝ }
+{
+    [0u32; 512]
+}
+
+pub fn spans() -> [u64; 512]
+    ensures { λ r. ⌜ 512 ≡ length r ⌝ }
+{
+    [0u64; 512]
+}
+
+// Both ends of these spans, and of the day.
+pub fn ends() -> [u64; 1026]
+    ensures { λ r. ⌜ 1026 ≡ length r ⌝ }
+{
+    [0u64; 1026]
+}
+
+// The number of each box's day.
+pub fn day_numbers() -> [u16; 1024]
+    ensures { λ r. ⌜ 1024 ≡ length r ⌝ }
+{
+    [0u16; 1024]
+}
+
+// A class for each box's day and one for the empty day, which has none.
+pub fn day_classes() -> [u8; 1025]
+    ensures { λ r. ⌜ (1025 ≡ length r) × (getD r 0 0 ≡ 0) ⌝ }
+{
+    [0u8; 1025]
+}
+
+// A mark for each interval of four dimensions.
+pub fn marks() -> [u8; 1027]
+    ensures { λ r. ⌜ 1027 ≡ length r ⌝ }
+{
+    [0u8; 1027]
+}

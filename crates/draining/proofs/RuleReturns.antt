@@ -1,0 +1,180 @@
+-- One lemma for each return of draining one rule, and how a rule stops: by its parts, or as a Fallback.
+use mathlib.Core.Path.{_≡_, refl, sym, ap, ap₂, _∙_, subst}
+use mathlib.Core.List.{List, map}
+use mathlib.Core.Option.{none, some}
+use mathlib.Core.Bool.{Bool, true, false, _&&_, _||_, not, cond}
+use Prim.Native.Nat.{ℕ, _+_, _*_, _≤_, _<_, _^_}
+use native.Mathlib.Omega.{arith}
+use lib.Dec.{eqb}
+use lib.ListN.{length, set}
+use lib.Seq.{sets}
+use borrow.Author.Tests.{eq-eqb, ne-eqb}
+use Rattle.laws.specs.Lists.{anyOf}
+use Rattle.laws.proofs.Flags.{or-assoc}
+use Rattle.definition.specs.Field.{got, sheetBits, several}
+use Rattle.definition.specs.Rule.{Operator, Additional, Fallback, operatorOf, Kind, Open, Unknown, kindOf, Rule}
+use Rattle.definition.specs.Sheet.{form1, limits1, span, title}
+use Rattle.definition.specs.Stop.{isFallback, monthdayStops, weekdayStops, spanStops, stops}
+use Rattle.definition.specs.Point.{isNormal, isClosed}
+use Rattle.definition.proofs.Bits.{Bytes}
+use Rattle.definition.proofs.Reading.{several-short}
+use Rattle.definition.proofs.Lengths.{span-short}
+use Rattle.definition.proofs.RuleParts.{rule-parts}
+use Rattle.definition.proofs.SheetRead.{carried, rule-faithful}
+use Rattle.sheet.specs.Begin.{ruleReadAt, Readable}
+use Rattle.sheet.proofs.Titles.{title-same}
+use Rattle.codes.specs.Number.{stateNumber, stateOf, spanNumber}
+use Rattle.codes.proofs.Carried.{state-numbered}
+use Rattle.canonical_date.specs.declared.days.Days.{Days}
+use Rattle.canonical_date.specs.declared.days.Days.the-variants.{Spans, Stops}
+use Rattle.canonical_date.specs.Rule.{daysStop}
+use Rattle.canonical_date.specs.Found.{SpansRead, Loads, Found}
+use Rattle.canonical_date.proofs.ItemFacts.{some-other}
+use Rattle.canonical_date.proofs.DayRows.{count-few}
+use Rattle.draining.specs.Span.{spanNumbers, spansStop}
+use Rattle.draining.specs.Rule.{loadedSpans, partsStop, replaceNumber, setUnless, SetRule, DrainedRule}
+use Rattle.draining.proofs.SpanMeaning.{spans-meaning}
+
+-- ## How a rule stops
+stops-either : (a b c d e f : Bool) → f || (a || (b || (c || (d || e)))) ≡ cond ((a || (b || (c || d))) || e) true f
+stops-either a b c d e f = ap (f ||_) (sym (or-assoc a (b || (c || d)) e ∙ ap (a ||_) (or-assoc b (c || d) e ∙ ap (b ||_) (or-assoc c d e)))) ∙ last f ((a || (b || (c || d))) || e)
+  where
+    last : (x y : Bool) → x || y ≡ cond y true x
+    last true true = refl
+    last true false = refl
+    last false true = refl
+    last false false = refl
+
+pub stops-parts : (r : Rule) → stops r ≡ cond (partsStop r) true (isFallback (r .operator))
+unfolding stops daysStop
+stops-parts r =
+    stops-either (anyOf (λ y. not (eqb (y .step) 1)) (r .years)) (anyOf monthdayStops (r .monthdays)) (anyOf (λ w. not (eqb (w .step) 1)) (r .weeks)) (anyOf weekdayStops (r .weekdays))
+    (anyOf spanStops (r .spans)) (isFallback (r .operator))
+
+-- ## A rule's days and spans
+-- spans end behind where they begin
+pub spans-early : {s : List ℕ} {r : Rule} {n q : ℕ} → SpansRead s r n q → q < 2 ^ 26
+unfolding several
+spans-early {s} {r} {n} {q} w = omega (arith, several-short span 52 span-short n s q (r .spans) (w .end) (w .read), w .near)
+
+module _ (r : Rule) where
+  pub load-days-stop : daysStop r ≡ true → (l : List ℕ) (p : ℕ) → (none ≡ cond (partsStop r) none (some (length (r .spans)))) × (l ≡ sets l p (map spanNumber (loadedSpans r)))
+  load-days-stop f l p = rw f (refl, refl)
+
+module _ (sheet : List ℕ) (b : Bytes sheet) (r : Rule) (n q : ℕ) (w : SpansRead (sheetBits sheet) r n q) (f : daysStop r ≡ false) (l l′ : List ℕ) (p : ℕ)
+    (h : l′ ≡ sets l p (spanNumbers n (sheetBits sheet) q)) (t : Bool) (k : t ≡ spansStop n (sheetBits sheet) q) where
+  numbers : l′ ≡ sets l p (map spanNumber (loadedSpans r))
+  numbers = rw f (h ∙ ap (sets l p) (spans-meaning sheet b n q (r .spans) (w .end) (w .read) .1))
+
+  pub load-spans-stop : t ≡ true → (none ≡ cond (partsStop r) none (some (length (r .spans)))) × (l′ ≡ sets l p (map spanNumber (loadedSpans r)))
+  load-spans-stop e =
+      let g : anyOf spanStops (r .spans) ≡ true = sym (spans-meaning sheet b n q (r .spans) (w .end) (w .read) .0) ∙ sym k ∙ e in
+      (sym (rw (f, g)), numbers)
+
+  pub load-passes : t ≡ false → (some n ≡ cond (partsStop r) none (some (length (r .spans)))) × (l′ ≡ sets l p (map spanNumber (loadedSpans r)))
+  load-passes e =
+      let g : anyOf spanStops (r .spans) ≡ false = sym (spans-meaning sheet b n q (r .spans) (w .end) (w .read) .0) ∙ sym k ∙ e in
+      (ap some (w .many) ∙ sym (rw (f, g)), numbers)
+
+-- what was found, once its case is known
+pub found-loads : (s : List ℕ) (r : Rule) (v : Days) (n q : ℕ) → v ≡ Spans n q → Found s r v → Loads s r n q
+found-loads s r v n q e h = subst (Found s r) e h
+
+pub found-stops : (s : List ℕ) (r : Rule) (v : Days) → v ≡ Stops → Found s r v → daysStop r ≡ true
+found-stops s r v e h = subst (Found s r) e h
+
+-- ## A rule's title
+pub not-normal : (n : ℕ) → (n ≡ 0 → ⊥) → isNormal (operatorOf n) ≡ false
+not-normal n f = rw (ne-eqb n 0 f) (go (eqb n 1))
+  where
+    go : (t : Bool) → isNormal (cond t Additional Fallback) ≡ false
+    go true = refl
+    go false = refl
+
+pub closed-kind : (k : ℕ) → k ≡ 1 → isClosed (kindOf k) ≡ true
+closed-kind k e = rw (ne-eqb k 0 (λ z. omega arith), eq-eqb k 1 e)
+
+pub other-kind : (k : ℕ) → (k ≡ 1 → ⊥) → isClosed (kindOf k) ≡ false
+other-kind k f = rw (ne-eqb k 1 f) (go (eqb k 0))
+  where
+    go : (t : Bool) → isClosed (cond t Open Unknown) ≡ false
+    go true = refl
+    go false = refl
+
+module _ (k c : ℕ) where
+  pub state-open : k ≡ 0 → c ≡ stateNumber (stateOf (kindOf k) c)
+  unfolding stateNumber
+  state-open e = rw (eq-eqb k 0 e) (omega arith)
+
+  pub state-closed : k ≡ 1 → 65536 + c ≡ stateNumber (stateOf (kindOf k) c)
+  unfolding stateNumber
+  state-closed e = rw (ne-eqb k 0 (λ z. omega arith), eq-eqb k 1 e) (omega arith)
+
+  pub state-unknown : (k ≡ 0 → ⊥) → (k ≡ 1 → ⊥) → 131072 + c ≡ stateNumber (stateOf (kindOf k) c)
+  unfolding stateNumber
+  state-unknown e f = rw (ne-eqb k 0 e, ne-eqb k 1 f) (omega arith)
+
+module _ (s : List ℕ) (p : ℕ) (readable : Readable s p) where
+  pub spans-few : length ((ruleReadAt s p) .spans) ≤ 16
+  spans-few =
+      let w = rule-parts s p (ruleReadAt s p) (readable .end) (readable .read) in
+      count-few s (p + 20) 4 (length ((ruleReadAt s p) .spans)) _ (w .count-spans)
+
+  module _ (o k c q i n : ℕ) (e : (title form1 limits1) .read s p ≡ got (operatorOf o, (kindOf k, c)) q) (states counts replacing : List ℕ) (t : Bool) (h : t ≡ isFallback (operatorOf o)) where
+    stopped-same : t ≡ isFallback ((ruleReadAt s p) .operator)
+    stopped-same = h ∙ ap isFallback (title-same s p readable (operatorOf o) (kindOf k) c q e .0)
+
+    pub set-fallback : t ≡ true → SetRule (ruleReadAt s p) i n states counts replacing states counts replacing true
+    set-fallback f =
+        let g : isFallback ((ruleReadAt s p) .operator) ≡ true = sym stopped-same ∙ f in
+        record { stopped = sym g; states-set = sym (rw g); counts-set = sym (rw g); replacing-set = sym (rw g) }
+
+    pub set-rule : (u v w : ℕ) → t ≡ false → u ≡ stateNumber (stateOf (kindOf k) c) → v ≡ n → w ≡ cond (isNormal (operatorOf o) && not (isClosed (kindOf k))) 1 0
+        → SetRule (ruleReadAt s p) i n states counts replacing (set states i u) (set counts i v) (set replacing i w) false
+    unfolding stateNumber
+    set-rule u v w f hu hv hw =
+        let g : isFallback ((ruleReadAt s p) .operator) ≡ false = sym stopped-same ∙ f in
+        let same = title-same s p readable (operatorOf o) (kindOf k) c q e in
+        let state : u ≡ stateNumber ((ruleReadAt s p) .state) = hu ∙ ap₂ (λ x y. stateNumber (stateOf x y)) (same .1) (same .2) in
+        let replace : w ≡ replaceNumber (ruleReadAt s p) = hw ∙ ap₂ (λ x y. cond (isNormal x && not (isClosed y)) 1 0) (same .0) (same .1) in
+        record {
+          stopped = sym g;
+          states-set = ap (set states i) state ∙ sym (rw g);
+          counts-set = ap (set counts i) hv ∙ sym (rw g);
+          replacing-set = ap (set replacing i) replace ∙ sym (rw g);
+        }
+
+-- a comment that was read has sixteen bits
+pub comment-low : (sheet : List ℕ) → Bytes sheet → (p : ℕ) → Readable (sheetBits sheet) p → (a : Operator) (b : Kind) (c q : ℕ)
+    → (title form1 limits1) .read (sheetBits sheet) p ≡ got (a, (b, c)) q → c < 65536
+comment-low sheet b p readable x y c q e =
+    let low = state-numbered (ruleReadAt (sheetBits sheet) p) (carried (rule-faithful form1 limits1) sheet b p (ruleReadAt (sheetBits sheet) p) (readable .end) (readable .read)) in
+    omega (arith, low, title-same (sheetBits sheet) p readable x y c q e .2)
+
+-- ## The whole rule
+pub load-some : (p : Bool) (n m : ℕ) → some n ≡ cond p none (some m) → (p ≡ false) × (n ≡ m)
+load-some true n m e = some-other n (sym e)
+load-some false n m e = let z : n ≡ m = cc in (refl, z)
+
+pub load-none : (p : Bool) (m : ℕ) → none ≡ cond p none (some m) → p ≡ true
+load-none true m e = refl
+load-none false m e = some-other m e
+
+module _ (r : Rule) (i : ℕ) (states counts spans replacing spans′ : List ℕ) (written : spans′ ≡ sets spans (i * 16) (map spanNumber (loadedSpans r))) where
+  pub drain-stop : partsStop r ≡ true → (true ≡ stops r) × DrainedRule r i states counts spans replacing states counts spans′ replacing
+  drain-stop f =
+      let g : stops r ≡ true = stops-parts r ∙ rw f in
+      (sym g, record { states-drained = sym (rw g); counts-drained = sym (rw g); spans-drained = written; replacing-drained = sym (rw g) })
+
+  pub drain-go : (n : ℕ) (states′ counts′ replacing′ : List ℕ) (t : Bool) → partsStop r ≡ false → n ≡ length (r .spans) → SetRule r i n states counts replacing states′ counts′ replacing′ t
+      → (t ≡ stops r) × DrainedRule r i states counts spans replacing states′ counts′ spans′ replacing′
+  drain-go n states′ counts′ replacing′ t f e w =
+      let g : isFallback (r .operator) ≡ stops r = sym (stops-parts r ∙ rw f) in (
+        w .stopped ∙ g,
+        record {
+          states-drained = w .states-set ∙ ap (λ b. setUnless b states i (stateNumber (r .state))) g;
+          counts-drained = w .counts-set ∙ ap₂ (λ b m. setUnless b counts i m) g e;
+          spans-drained = written;
+          replacing-drained = w .replacing-set ∙ ap (λ b. setUnless b replacing i (replaceNumber r)) g;
+        },
+      )

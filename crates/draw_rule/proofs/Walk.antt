@@ -1,0 +1,147 @@
+-- One lemma for each return of the update, in plain terms: s before, s₁ after the first call, s₂ after the second. Rests on the columns' laws.
+use mathlib.Core.Path.{_≡_, refl, ap}
+use mathlib.Core.Bool.{Bool, true, false}
+use mathlib.Core.List.{List, [], _∷_, _++_, flatMap}
+use Prim.Native.Nat.{ℕ, zero, suc, _+_, _-_, _*_, _≤_, _<_, _/_}
+use native.Mathlib.Omega.{arith}
+use lib.Dec.{ltb}
+use lib.ListN.{length, getD, set}
+use borrow.Author.Count.{below-more}
+use borrow.Author.Tests.{lt-ltb, le-ltb, le-leb, lt-leb}
+use Rattle.paving.specs.Grid.{Node}
+use Rattle.paving.proofs.Room.{from-cons, from-end, node-in}
+use Rattle.draw_rule.specs.Update.{Lawful, covered, NextCovered, overColumns, overRanges, leaves, leavesOf, Drawn, drawn, drawOne, drawAll}
+use Rattle.tables.specs.Sizes.{rangePlaces, listPlaces, listLimit}
+use Rattle.tables.specs.Cuts.{cutOf}
+use Rattle.tables.specs.Ranges.{rangeOf, countOf}
+use Rattle.tables.specs.Search.{Rising}
+use Rattle.tables.proofs.Cuts.{row-rising}
+
+-- ## Tables
+pub count-none : (counts : List ℕ) (l : ℕ) → l ≡ 0 → 0 ≡ countOf counts l
+unfolding countOf
+count-none counts l e = rw e
+
+pub count-some : (counts : List ℕ) (l i : ℕ) → l ≡ suc i → countOf counts l ≡ getD counts i 0
+unfolding countOf
+count-some counts l i e = rw e
+
+module _ (rows cuts ranges : List ℕ) (i r x row : ℕ) (e : row ≡ getD rows i 0) where
+  pub covers-yes : getD ranges (i * rangePlaces + 2 * r) 0 ≤ getD cuts (row + x) 0
+      → ltb (getD cuts (row + x) 0) (getD ranges (i * rangePlaces + 2 * r + 1) 0) ≡ covered rows cuts ranges i r x
+  unfolding covered cutOf rangeOf
+  covers-yes h = rw (← e, le-leb _ _ h)
+
+  pub covers-no : getD cuts (row + x) 0 < getD ranges (i * rangePlaces + 2 * r) 0 → false ≡ covered rows cuts ranges i r x
+  unfolding covered cutOf rangeOf
+  covers-no h = rw (← e, lt-leb _ _ h)
+
+-- a dimension's columns and a range of it stand in the tables
+pub columns-in : (sizes counts rows cuts ranges : List ℕ) → Lawful sizes counts rows cuts ranges → (i width r x : ℕ) → i < length sizes → width ≡ getD sizes i 0 → r < getD counts i 0 → x ≤ width
+    → (i < length rows) × (getD rows i 0 + width < length cuts) × (i * rangePlaces + 2 * r + 1 < length ranges) × (x ≤ width)
+columns-in sizes counts rows cuts ranges h i width r x l e k o = (omega (arith, h .all-rows), omega (arith, h .row i l), omega (arith, h .all-ranges, h .count i l), o)
+
+-- the same for the last dimension
+pub last-in : (sizes counts rows cuts ranges : List ℕ) → Lawful sizes counts rows cuts ranges → (r : ℕ) → 0 < length sizes → r < getD counts 0 0
+    → (0 < length rows) × (getD rows 0 0 + getD sizes 0 0 < length cuts) × (2 * r + 1 < length ranges)
+last-in sizes counts rows cuts ranges h r l k =
+    let d = columns-in sizes counts rows cuts ranges h 0 (getD sizes 0 0) r 0 l refl k (omega arith) in
+    (d .0, d .1, omega (arith, d .2))
+
+-- the starts of the last dimension's intervals rise
+pub last-rising : (sizes counts rows cuts ranges : List ℕ) → Lawful sizes counts rows cuts ranges → 0 < length sizes → Rising cuts (getD rows 0 0) (getD rows 0 0 + getD sizes 0 0)
+last-rising sizes counts rows cuts ranges h l k a b = row-rising rows sizes cuts (length sizes) (h .rising) 0 l k a (omega arith)
+
+-- one column more that is passed
+pub passed-more : (f : ℕ → Bool) (x y : ℕ) → ((k : ℕ) → x ≤ k → k < y → f k ≡ false) → f y ≡ false → (k : ℕ) → x ≤ k → k < y + 1 → f k ≡ false
+passed-more f x y p h k l m = below-more (λ j. x ≤ j → f j ≡ false) y (λ j b a. p j a b) (λ _. h) k m l
+
+-- few ranges in each dimension
+pub count-few : (sizes counts rows cuts ranges : List ℕ) → Lawful sizes counts rows cuts ranges → (l : ℕ) → l ≤ length sizes → countOf counts l ≤ 32
+unfolding countOf
+count-few sizes counts rows cuts ranges h zero k = omega arith
+count-few sizes counts rows cuts ranges h (suc i) k = omega (arith, h .count i (omega arith))
+
+pub list-in : (len : ℕ) (sizes : List ℕ) (l node : ℕ) → Node (len / listPlaces) sizes l node → node * listPlaces + listPlaces ≤ len
+list-in len sizes l node r = omega (arith, node-in (len / listPlaces) sizes l node r)
+
+pub node-len : (len m : ℕ) (sizes : List ℕ) (l node : ℕ) → m ≡ len → Node (len / listPlaces) sizes l node → Node (m / listPlaces) sizes l node
+node-len len m sizes l node e r = rw e r
+
+pub node-at : (len : ℕ) (sizes : List ℕ) (l k node : ℕ) → l ≡ k → Node len sizes l node → Node len sizes k node
+node-at len sizes l k node e r = rw e at r
+
+-- ## A rule at a box
+module _ (rule : ℕ) (replaces : Bool) (lists : List ℕ) (over : Bool) (node : ℕ) where
+  pub draw-replaces : replaces ≡ true → drawn (set (set lists (node * listPlaces + 1) rule) (node * listPlaces) 1) over ≡ drawOne rule replaces (drawn lists over) node
+  unfolding drawOne
+  draw-replaces e = rw e
+
+  pub draw-appends : (w : ℕ) → replaces ≡ false → getD lists (node * listPlaces) 0 < listLimit → w ≡ getD lists (node * listPlaces) 0
+      → drawn (set (set lists (node * listPlaces + 1 + w) rule) (node * listPlaces) (getD lists (node * listPlaces) 0 + 1)) over ≡ drawOne rule replaces (drawn lists over) node
+  unfolding drawOne
+  draw-appends w e h q = rw (e, lt-ltb (getD lists (node * listPlaces) 0) listLimit h, q)
+
+  pub draw-full : replaces ≡ false → listLimit ≤ getD lists (node * listPlaces) 0 → drawn lists true ≡ drawOne rule replaces (drawn lists over) node
+  unfolding drawOne
+  draw-full e h = rw (e, le-ltb (getD lists (node * listPlaces) 0) listLimit h)
+
+-- ## The walks
+pub draw-append : (rule : ℕ) (replaces : Bool) (s : Drawn) (xs ys : List ℕ) → drawAll rule replaces s (xs ++ ys) ≡ drawAll rule replaces (drawAll rule replaces s xs) ys
+unfolding drawAll
+draw-append rule replaces s [] ys = refl
+draw-append rule replaces s (x ∷ xs) ys = draw-append rule replaces (drawOne rule replaces s x) xs ys
+
+module _ (sizes counts rows cuts ranges : List ℕ) where
+  pub all-ranges : (i node : ℕ) → leavesOf sizes counts rows cuts ranges i node (countOf counts i) ≡ leaves sizes counts rows cuts ranges i node
+  unfolding leavesOf leaves countOf
+  all-ranges zero node = refl
+  all-ranges (suc i) node = let e : getD counts i 0 - getD counts i 0 ≡ 0 = omega arith in ap (overRanges sizes counts rows cuts ranges i (leaves sizes counts rows cuts ranges i) node) e
+
+  module _ (rule : ℕ) (replaces : Bool) (left node : ℕ) (s : Drawn) where
+    pub out-leaf : (rest : ℕ) (s₁ : Drawn) → left ≡ 0 → s₁ ≡ drawOne rule replaces s node → s₁ ≡ drawAll rule replaces s (leavesOf sizes counts rows cuts ranges left node rest)
+    unfolding drawAll leavesOf
+    out-leaf rest s₁ e h = rw e h
+
+    pub out-none : (i rest : ℕ) → left ≡ suc i → rest ≡ 0 → s ≡ drawAll rule replaces s (leavesOf sizes counts rows cuts ranges left node rest)
+    unfolding drawAll leavesOf overRanges flatMap
+    out-none i rest e z = rw (e, z, from-end (getD counts i 0 - 0) (getD counts i 0) (omega arith))
+
+    pub out-last : (rest : ℕ) (s₁ : Drawn) → left ≡ 1 → s₁ ≡ drawAll rule replaces s (leavesOf sizes counts rows cuts ranges 1 node rest)
+        → s₁ ≡ drawAll rule replaces s (leavesOf sizes counts rows cuts ranges left node rest)
+    out-last rest s₁ e h = rw e h
+
+    pub out-ranges : (i rest count : ℕ) (s₁ s₂ : Drawn) → left ≡ suc i → (rest ≡ 0 → ⊥) → rest ≤ count → count ≡ getD counts i 0
+        → s₁ ≡ drawAll rule replaces s (overColumns sizes counts rows cuts ranges i (leaves sizes counts rows cuts ranges i) node (count - rest) 0)
+        → s₂ ≡ drawAll rule replaces s₁ (leavesOf sizes counts rows cuts ranges left node (rest - 1))
+        → s₂ ≡ drawAll rule replaces s (leavesOf sizes counts rows cuts ranges left node rest)
+    unfolding leavesOf overRanges flatMap
+    out-ranges i rest count s₁ s₂ e f l c h k =
+        let m : getD counts i 0 - (rest - 1) ≡ getD counts i 0 - rest + 1 = omega arith in
+        rw (e, from-cons (getD counts i 0 - rest) (getD counts i 0) (omega arith), draw-append, ← (rw c at h), ← m) (rw e at k)
+
+  -- the columns before the first that is covered add nothing
+  pub columns-skip : (i : ℕ) (below : ℕ → List ℕ) (node width r x y : ℕ) → width ≡ getD sizes i 0 → x ≤ y → y ≤ width → ((k : ℕ) → x ≤ k → k < y → covered rows cuts ranges i r k ≡ false)
+      → overColumns sizes counts rows cuts ranges i below node r x ≡ overColumns sizes counts rows cuts ranges i below node r y
+  unfolding overColumns flatMap
+  columns-skip i below node width r x y e a b passed = go (y - x) x (omega arith) (omega arith)
+    where
+      go : (n p : ℕ) → x ≤ p → p + n ≡ y → overColumns sizes counts rows cuts ranges i below node r p ≡ overColumns sizes counts rows cuts ranges i below node r y
+      go zero p l q = let z : p ≡ y = omega arith in rw z refl
+      go (suc n) p l q = rw (from-cons p (getD sizes i 0) (omega arith), passed p l (omega arith)) (go n (p + 1) (omega arith) (omega arith))
+
+  module _ (rule : ℕ) (replaces : Bool) (i node width r x y : ℕ) (e : width ≡ getD sizes i 0) (found : NextCovered rows cuts ranges i r width x y) (s : Drawn) where
+    skip : overColumns sizes counts rows cuts ranges i (leaves sizes counts rows cuts ranges i) node r x ≡ overColumns sizes counts rows cuts ranges i (leaves sizes counts rows cuts ranges i) node r y
+    skip = columns-skip i (leaves sizes counts rows cuts ranges i) node width r x y e (found .from-first) (found .to-end) (found .passed)
+
+    pub out-end : width ≤ y → s ≡ drawAll rule replaces s (overColumns sizes counts rows cuts ranges i (leaves sizes counts rows cuts ranges i) node r x)
+    unfolding drawAll overColumns flatMap
+    out-end h = rw (skip, from-end y (getD sizes i 0) (omega arith))
+
+    pub out-in : (rest : ℕ) (s₁ s₂ : Drawn) → y < width → rest ≡ countOf counts i
+        → s₁ ≡ drawAll rule replaces s (leavesOf sizes counts rows cuts ranges i (node * width + y) rest)
+        → s₂ ≡ drawAll rule replaces s₁ (overColumns sizes counts rows cuts ranges i (leaves sizes counts rows cuts ranges i) node r (y + 1))
+        → s₂ ≡ drawAll rule replaces s (overColumns sizes counts rows cuts ranges i (leaves sizes counts rows cuts ranges i) node r x)
+    unfolding overColumns flatMap
+    out-in rest s₁ s₂ h c a k =
+        rw (skip, from-cons y (getD sizes i 0) (omega arith), draw-append, found .reached h, ← all-ranges i (node * getD sizes i 0 + y), ← (rw (c, e) at a)) k

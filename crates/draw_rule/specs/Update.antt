@@ -1,0 +1,74 @@
+-- A rule drawn over the boxes of a grid: the boxes that its ranges cover, once for each combination, and what a box's list becomes.
+use mathlib.Core.Path.{_≡_}
+use mathlib.Core.Bool.{Bool, true, false, cond}
+use mathlib.Core.List.{List, [], _∷_, flatMap}
+use Prim.Native.Nat.{ℕ, zero, suc, _+_, _-_, _*_, _≤_, _<_}
+use lib.Dec.{ltb}
+use lib.ListN.{length, getD, set}
+use Rattle.laws.specs.Lists.{from}
+use Rattle.grid.specs.Cut.{holds}
+use Rattle.tables.specs.Sizes.{listLimit, listPlaces, rangePlaces}
+use Rattle.tables.specs.Cuts.{cutOf, RowsRise}
+use Rattle.tables.specs.Ranges.{rangeOf}
+
+-- Tables that have a row for each dimension, of its cuts, which rise, and of a rule's ranges.
+pub record Lawful (sizes counts rows cuts ranges : List ℕ) : Type 0 where
+  pub all-counts : length sizes ≤ length counts
+  pub all-rows : length sizes ≤ length rows
+  pub all-ranges : length sizes * rangePlaces ≤ length ranges
+  pub row : (i : ℕ) → i < length sizes → getD rows i 0 + getD sizes i 0 < length cuts
+  pub count : (i : ℕ) → i < length sizes → getD counts i 0 * 2 ≤ rangePlaces
+  pub rising : RowsRise rows sizes cuts (length sizes)
+
+-- does a range cover a column? It does where the column's start lies in it: a range's ends are cuts
+unfoldable pub covered : List ℕ → List ℕ → List ℕ → ℕ → ℕ → ℕ → Bool
+covered rows cuts ranges i r x = holds (cutOf rows cuts i x) (rangeOf ranges i r)
+
+-- y is the first column, from x up to the width, that a range covers
+pub record NextCovered (rows cuts ranges : List ℕ) (i r width x y : ℕ) : Type 0 where
+  pub from-first : x ≤ y
+  pub to-end : y ≤ width
+  pub passed : (k : ℕ) → x ≤ k → k < y → covered rows cuts ranges i r k ≡ false
+  pub reached : y < width → covered rows cuts ranges i r y ≡ true
+
+-- ## The covered boxes, with repeats
+module _ (sizes counts rows cuts ranges : List ℕ) where
+  -- below the columns of a node from x on that the range r of dimension i covers; `below` gives those of a column
+  unfoldable pub overColumns : ℕ → (ℕ → List ℕ) → ℕ → ℕ → ℕ → List ℕ
+  overColumns i below node r x =
+      flatMap (λ y. cond (covered rows cuts ranges i r y) (below (node * getD sizes i 0 + y)) []) (from x (getD sizes i 0 - x))
+
+  -- the same for the ranges from r on
+  unfoldable pub overRanges : ℕ → (ℕ → List ℕ) → ℕ → ℕ → List ℕ
+  overRanges i below node r = flatMap (λ q. overColumns i below node q 0) (from r (getD counts i 0 - r))
+
+  -- all that lie below a node with l dimensions left
+  unfoldable pub leaves : ℕ → ℕ → List ℕ
+  leaves zero node = node ∷ []
+  leaves (suc i) node = overRanges i (leaves i) node 0
+
+  -- those of the last `rest` ranges of the first dimension
+  unfoldable pub leavesOf : ℕ → ℕ → ℕ → List ℕ
+  leavesOf zero node rest = node ∷ []
+  leavesOf (suc i) node rest = overRanges i (leaves i) node (getD counts i 0 - rest)
+
+-- ## The lists
+-- all lists, and whether one was too long
+pub record Drawn : Type 0 where
+  pub lists : List ℕ
+  pub over : Bool
+
+abbrev pub drawn : List ℕ → Bool → Drawn
+drawn lists over = record { lists = lists; over = over }
+
+-- a rule at a box: it replaces the list, or it stands at its end, where there is room
+unfoldable pub drawOne : ℕ → Bool → Drawn → ℕ → Drawn
+drawOne rule replaces s node =
+    let count = getD (s .lists) (node * listPlaces) 0 in
+    cond replaces (drawn (set (set (s .lists) (node * listPlaces + 1) rule) (node * listPlaces) 1) (s .over))
+    (cond (ltb count listLimit) (drawn (set (set (s .lists) (node * listPlaces + 1 + count) rule) (node * listPlaces) (count + 1)) (s .over)) (drawn (s .lists) true))
+
+-- at some boxes, one after the other
+unfoldable pub drawAll : ℕ → Bool → Drawn → List ℕ → Drawn
+drawAll rule replaces s [] = s
+drawAll rule replaces s (node ∷ nodes) = drawAll rule replaces (drawOne rule replaces s node) nodes

@@ -1,0 +1,55 @@
+// From boxes with lists to pages of the folded rules: the boxes' days are numbered, groups of boxes that have one day popped as pages, and
+// the pages counted.
+ghost use mathlib.Core.List.{List};
+ghost use Prim.Native.Nat.{_*_, _≤_};
+ghost use lib.ListN.{length};
+ghost use Rattle.definition.specs.Rule.{Rule};
+ghost use Rattle.paving.specs.Grid.{sizeOf};
+ghost use Rattle.tables.specs.Rules.{RuleTimes};
+ghost use Rattle.tables.specs.Lists.{Boxed};
+ghost use Rattle.tables.specs.Pages.{Paged};
+
+// From boxes with lists to pages of the folded rules in a buffer; answers how many pages there are.
+pub fn fold_pages(
+    states: &[u32],
+    span_counts: &[u8],
+    spans: &[u64],
+    lists: &[u16],
+    row_starts: &[u16],
+    sizes: &[u16],
+    cuts: &[u16],
+    pages: &mut [u16],
+) -> usize
+    requires { ⌜ ((rs : List Rule) × RuleTimes (now states) (now «span_counts») (now spans) rs
+        × Boxed (now «row_starts») (now sizes) (now cuts) (now lists) rs) ⌝ }
+    requires { ⌜ 13 * sizeOf (now sizes) 4 ≤ length (now pages) ⌝ }
+    ensures { λ r. ⌜ ((rs : List Rule) → RuleTimes (now (states .entry)) (now («span_counts» .entry)) (now (spans .entry)) rs
+        → Boxed (now («row_starts» .entry)) (now (sizes .entry)) (now (cuts .entry)) (now (lists .entry)) rs
+        → Paged (now (states .entry)) (now («span_counts» .entry)) (now (spans .entry)) (now (lists .entry)) (now (pages .exit)) r rs) ⌝ }
+{
+    let boxes = paving::place::size_of(sizes, 4);
+    let mut cells = buffers::day_numbers();
+    let mut classes = buffers::day_classes();
+    let mut marks = buffers::marks();
+    let numbers = &mut cells[..boxes];
+    // While days are numbered the room for pages holds the memory of lists met.
+    number_boxes::number_boxes(
+        states,
+        span_counts,
+        spans,
+        lists,
+        pages,
+        numbers,
+        &mut classes,
+    );
+    let stop = paving_pages::pop_pages(
+        numbers,
+        &classes,
+        sizes,
+        &mut marks,
+        row_starts,
+        cuts,
+        pages,
+    );
+    page_count::count_pages(pages, stop)
+}

@@ -1,0 +1,95 @@
+-- THE ANSWER: what was measured is the length of the sheet that the definition writes, and both answers, refused and written, are the
+-- definition's. Rests on the records of pages and of the rules left.
+use mathlib.Core.Path.{_≡_, sym, ap, ap₂, _∙_}
+use mathlib.Core.List.{List, [], _∷_, _++_}
+use Prim.Native.Nat.{ℕ, _+_, _-_, _^_, _≤_, _<_}
+use native.Mathlib.Omega.{arith}
+use lib.ListN.{length, length-append}
+use borrow.Author.Tests.{lt-ltb, le-ltb}
+use Rattle.laws.proofs.Spread.{flatMap-append}
+use Rattle.definition.specs.Field.{bits, bytesFor, packed, noRoom}
+use Rattle.definition.specs.Rule.{Rule}
+use Rattle.definition.specs.Sheet.{form1, limits1, rule, encode}
+use Rattle.definition.specs.Stop.{drained, left}
+use Rattle.definition.specs.Group.{folded}
+use Rattle.definition.specs.Fold.{Folded, numbers, refusal, fitted, buffer}
+use Rattle.definition.proofs.Bits.{length-bytes}
+use Rattle.sheet_writer.specs.Frame.{between}
+use Rattle.sheet_writer.proofs.Frame.{rules-bits}
+use Rattle.sheet_writer.proofs.Left.{between-length}
+use Rattle.day_writer.specs.Rules.{rulesBits}
+use Rattle.tables.specs.Pages.{Paged, pagedRules}
+use Rattle.sheet.specs.Parts.{Leaving}
+use Rattle.fold_write.specs.Emission.{resultBits, emission}
+use Rattle.fold_write.proofs.Sheet.{row-length}
+
+packed-length : (ws : List ℕ) → length (packed ws) ≡ bytesFor (length ws)
+unfolding packed
+packed-length ws = length-bytes (bytesFor (length ws)) _
+
+-- ## The definition's two answers
+abbrev accepted : List Rule → List Rule → List ℕ → Folded
+accepted rs page result = record { code = 0; drained = length (drained rs); emitted = length page; left = length (left rs); bytes = length result; place = 0; result = result }
+
+module _ (room : ℕ) (rs page : List Rule) (result : List ℕ) where
+  over : room < length result → fitted form1 limits1 room rs page result ≡ refusal noRoom (length result)
+  unfolding fitted
+  over h = rw (lt-ltb room (length result) h, fitted)
+
+  within : length result ≤ room → fitted form1 limits1 room rs page result ≡ accepted rs page result
+  unfolding fitted
+  within h = rw (le-ltb room (length result) h, fitted)
+
+-- ## What was measured
+module _ {sheet states counts spans lists pages : List ℕ} {count start end drainedRules leftRules : ℕ} {rs : List Rule}
+    (paged : Paged states counts spans lists pages count (drained rs)) (leaving : Leaving sheet rs start end drainedRules leftRules) where
+  abbrev page : List Rule
+  page = pagedRules states counts spans lists pages count
+
+  abbrev result : List ℕ
+  result = encode form1 limits1 (folded (drained rs) ++ left rs)
+
+  -- so many rules of so many bits
+  module _ {many size : ℕ} (counted : length page ≡ many) (sized : length (rulesBits page) ≡ size) where
+    abbrev row : List ℕ
+    row = resultBits (many + leftRules) page (between sheet start end)
+
+    abbrev bytes : ℕ
+    bytes = bytesFor (16 + size + (end - start))
+
+    emitted-many : length (folded (drained rs)) ≡ many
+    emitted-many = ap length (sym (paged .rules)) ∙ counted
+
+    pub count-fits : many + leftRules < 2 ^ 16
+    count-fits = omega (arith, emitted-many, paged .brief, paged .few, leaving .left-few)
+
+    pub row-bits : length row ≡ 16 + size + (end - start)
+    row-bits = omega (arith, row-length (many + leftRules) page (between sheet start end), between-length sheet start end (leaving .ordered) (leaving .inside), sized)
+
+    -- the definition's sheet
+    encoded : result ≡ packed row
+    unfolding encode resultBits
+    encoded =
+        let all : length (folded (drained rs) ++ left rs) ≡ many + leftRules = omega (arith, length-append (folded (drained rs)) (left rs), emitted-many, leaving .left-many) in
+        let rest = flatMap-append (rule form1 limits1 .write) (folded (drained rs)) (left rs) ∙ ap₂ _++_ (ap rulesBits (sym (paged .rules))) (sym (leaving .stands)) in
+        ap packed (rules-bits (folded (drained rs) ++ left rs) ∙ ap₂ (λ n b. bits 16 n ++ b) all rest)
+
+    result-length : length result ≡ bytes
+    result-length = ap length encoded ∙ packed-length row ∙ ap bytesFor row-bits
+
+    -- 7, and nothing written
+    pub no-room : (out : List ℕ) → length out < bytes
+        → (7 ∷ 0 ∷ 0 ∷ 0 ∷ 0 ∷ bytes ∷ [] ≡ numbers (emission (length out) rs)) × (out ≡ buffer (emission (length out) rs .result) out)
+    no-room out h =
+        let answer = sym (over (length out) rs (folded (drained rs)) result (omega (arith, h, result-length))) in
+        (ap (λ n. numbers (refusal noRoom n)) (sym result-length) ∙ ap numbers answer, ap (λ f. buffer (f .result) out) answer)
+
+    -- written
+    pub with-room : (out new : List ℕ) → bytes ≤ length out → new ≡ buffer (packed row) out
+        → (0 ∷ drainedRules ∷ many ∷ leftRules ∷ bytes ∷ 0 ∷ [] ≡ numbers (emission (length out) rs)) × (new ≡ buffer (emission (length out) rs .result) out)
+    with-room out new h e =
+        let answer = sym (within (length out) rs (folded (drained rs)) result (omega (arith, h, result-length))) in (
+          ap₂ (λ d m. 0 ∷ d ∷ m ∷ leftRules ∷ bytes ∷ 0 ∷ []) (sym (leaving .drained-many)) (sym emitted-many)
+              ∙ ap₂ (λ l n. 0 ∷ length (drained rs) ∷ length (folded (drained rs)) ∷ l ∷ n ∷ 0 ∷ []) (sym (leaving .left-many)) (sym result-length) ∙ ap numbers answer,
+          e ∙ ap (λ w. buffer w out) (sym encoded) ∙ ap (λ f. buffer (f .result) out) answer,
+        )

@@ -1,0 +1,107 @@
+// The result written: all is measured, refused where the buffer has no room (7), and else written: the rule count, the rules of the pages,
+// the rules left as their bits stand in the sheet, zero bits to the byte's end.
+use answers::Folded;
+use answers::fold_refused;
+use field::width::RULE_COUNT;
+use page_writer::measure_pages;
+use page_writer::write_pages;
+ghost use mathlib.Core.Path.{_≡_};
+ghost use mathlib.Core.List.{List};
+ghost use Prim.Native.Nat.{_*_, _≤_, _<_, _^_};
+ghost use lib.ListN.{length};
+ghost use Rattle.definition.specs.Field.{packed};
+ghost use Rattle.definition.specs.Rule.{Rule};
+ghost use Rattle.definition.specs.Sheet.{form1};
+ghost use Rattle.definition.specs.Stop.{drained};
+ghost use Rattle.definition.specs.Fold.{numbers, buffer};
+ghost use Rattle.sheet_writer.specs.Frame.{between};
+ghost use Rattle.tables.specs.Pages.{Pages, Paged, pagedRules};
+ghost use Rattle.tables.specs.Sizes.{dayRoom};
+ghost use Rattle.sheet.specs.Parts.{Leaving};
+ghost use Rattle.fold_write.specs.Emission.{resultBits, emission};
+ghost use Rattle.answers.specs.Numbers.{foldNumbers};
+
+// The rules left, where they stand in the sheet: from a bit up to another, and how many they are.
+pub struct Left {
+    pub start: usize,
+    pub end: usize,
+    pub rules: usize,
+}
+
+// A whole sheet at the front of a buffer that has room for it.
+fn write_sheet(
+    sheet: &[u8],
+    start: usize,
+    end: usize,
+    out: &mut [u8],
+    states: &[u32],
+    span_counts: &[u8],
+    spans: &[u64],
+    lists: &[u16],
+    pages: &[u16],
+    count: usize,
+    rules: usize,
+)
+    requires { ⌜ Pages (now states) (now «span_counts») (now spans) (now lists) (now pages) dayRoom count 0 ⌝ }
+    requires { ⌜ (start ≤ end) × (end ≤ 8 * length (now sheet)) × (end < 2 ^ 32) ⌝ }
+    requires { ⌜ rules < 2 ^ form1 .ruleCount ⌝ }
+    requires { ⌜ (length (resultBits rules (pagedRules (now states) (now «span_counts») (now spans) (now lists) (now pages) count) (between (now sheet) start end)) ≤ 8 * length (now out))
+        × (length (resultBits rules (pagedRules (now states) (now «span_counts») (now spans) (now lists) (now pages) count) (between (now sheet) start end)) < 2 ^ 60) ⌝ }
+    ensures { λ _. ⌜ now (out .exit)
+        ≡ buffer (packed (resultBits rules
+        (pagedRules (now (states .entry)) (now («span_counts» .entry)) (now (spans .entry)) (now (lists .entry)) (now (pages .entry)) count)
+        (between (now (sheet .entry)) start end))) (now (out .entry)) ⌝ }
+{
+    let first = sheet_writer::put_count(out, rules as u64);
+    let place = write_pages(out, first, states, span_counts, spans, lists, pages, count);
+    sheet_writer::put_left(sheet, start, end, out, place);
+}
+
+// The result of a fold whose drained rules stand folded on so many pages: written to the front of the buffer, or refused with nothing written.
+pub fn emit(
+    sheet: &[u8],
+    left: Left,
+    out: &mut [u8],
+    states: &[u32],
+    span_counts: &[u8],
+    spans: &[u64],
+    lists: &[u16],
+    pages: &[u16],
+    count: usize,
+) -> Folded
+    requires { ⌜ ((rs : List Rule) × Paged (now states) (now «span_counts») (now spans) (now lists) (now pages) count (drained rs)
+        × Leaving (now sheet) rs (left .start) (left .end) (length (now states)) (left .rules)) ⌝ }
+    ensures { λ r. ⌜ ((rs : List Rule)
+        → Paged (now (states .entry)) (now («span_counts» .entry)) (now (spans .entry)) (now (lists .entry)) (now (pages .entry)) count (drained rs)
+        → Leaving (now (sheet .entry)) rs (left .start) (left .end) (length (now (states .entry))) (left .rules)
+        → (foldNumbers r ≡ numbers (emission (length (now (out .entry))) rs)) × (now (out .exit) ≡ buffer (emission (length (now (out .entry))) rs .result) (now (out .entry)))) ⌝ }
+{
+    let measured = measure_pages(states, span_counts, spans, lists, pages, count);
+    let start = left.start;
+    let end = left.end;
+    let bytes = (RULE_COUNT + measured.bits + (end - start) + 7) / 8;
+    if out.len() < bytes {
+        return fold_refused(7, bytes as u64);
+    }
+    write_sheet(
+        sheet,
+        start,
+        end,
+        out,
+        states,
+        span_counts,
+        spans,
+        lists,
+        pages,
+        count,
+        measured.rules + left.rules,
+    );
+    Folded {
+        code: 0,
+        drained: states.len() as u64,
+        emitted: measured.rules as u64,
+        left: left.rules as u64,
+        bytes: bytes as u64,
+        place: 0,
+    }
+}

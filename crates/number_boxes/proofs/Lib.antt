@@ -1,0 +1,4 @@
+pub mod Numbering
+pub mod OneMore
+pub mod Steps
+pub mod InUse

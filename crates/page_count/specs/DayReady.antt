@@ -1,0 +1,11 @@
+-- What the writer of pages asks of a group's value.
+use mathlib.Core.List.{List}
+use Prim.Native.Nat.{ℕ, _-_, _≤_}
+use Rattle.laws.specs.Lists.{All}
+use Rattle.day_flat.specs.Day.{unflat}
+use Rattle.tables.specs.Days.{Carried, boxWords, Ready}
+
+-- it numbers a day, whose box can be folded and whose entries a sheet can carry
+abbrev pub DayReady : List ℕ → List ℕ → List ℕ → List ℕ → ℕ → ℕ → Type 0
+DayReady states counts spans lists room v =
+    (1 ≤ v) × Ready states counts spans lists room (v - 1) × All Carried (unflat (boxWords states counts spans lists (v - 1)))
