@@ -31,18 +31,18 @@ module _ (s : List ℕ) (at a c x : ℕ) where
   run-none h = rw (le-ltb a c h) (refl, refl, omega arith)
 
 -- the runs of a state, written from interval j on up to interval i: laid over what is written, the rest gives the whole
-module _ (cs vs : List ℕ) (S n : ℕ) (s₀ : List ℕ) (at a j : ℕ) where
+module _ (cs vs : List ℕ) (S n : ℕ) (s₀ : List ℕ) (a j : ℕ) where
   pub record Going (s : List ℕ) (w b i : ℕ) : Type 0 where
-    pub laid : sets s (at + w) (runsFrom cs vs S b i (n - i)) ≡ sets s₀ at (runsFrom cs vs S a j (n - j))
+    pub laid : sets s w (runsFrom cs vs S b i (n - i)) ≡ sets s₀ 0 (runsFrom cs vs S a j (n - j))
     pub counted : w + length (runsFrom cs vs S b i (n - i)) ≡ length (runsFrom cs vs S a j (n - j))
 
   pub going-start : Going s₀ 0 a j
-  going-start = let e : at + 0 ≡ at = omega arith in record { laid = ap (λ k. sets s₀ k (runsFrom cs vs S a j (n - j))) e; counted = omega arith }
+  going-start = record { laid = refl; counted = omega arith }
 
   module _ (s : List ℕ) (w b i : ℕ) where
     same-going : (words : List ℕ) → runsFrom cs vs S b i (n - i) ≡ words → Going s w b i
-        → (sets s (at + w) words ≡ sets s₀ at (runsFrom cs vs S a j (n - j))) × (w + length words ≡ length (runsFrom cs vs S a j (n - j)))
-    same-going words e g = (ap (sets s (at + w)) (sym e) ∙ g .laid, ap (λ v. w + length v) (sym e) ∙ g .counted)
+        → (sets s w words ≡ sets s₀ 0 (runsFrom cs vs S a j (n - j))) × (w + length words ≡ length (runsFrom cs vs S a j (n - j)))
+    same-going words e g = (ap (sets s w) (sym e) ∙ g .laid, ap (λ v. w + length v) (sym e) ∙ g .counted)
 
     pub going-on : i < n → getD vs i 0 ≡ S → Going s w b i → Going s w b (i + 1)
     unfolding runsFrom
@@ -50,7 +50,7 @@ module _ (cs vs : List ℕ) (S n : ℕ) (s₀ : List ℕ) (at a j : ℕ) where
         let l = same-going (runsFrom cs vs S b (i + 1) (n - (i + 1))) (ap (runsFrom cs vs S b i) (left-in i n h) ∙ rw (eq-eqb (getD vs i 0) S e, runsFrom)) g in
         record { laid = l .0; counted = l .1 }
 
-    pub going-break : i < n → (getD vs i 0 ≡ S → ⊥) → (t : List ℕ) (m : ℕ) → t ≡ sets s (at + w) (runUpTo b (getD cs i 0))
+    pub going-break : i < n → (getD vs i 0 ≡ S → ⊥) → (t : List ℕ) (m : ℕ) → t ≡ sets s w (runUpTo b (getD cs i 0))
         → m ≡ length (runUpTo b (getD cs i 0))
         → Going s w b i → Going t (w + m) (getD cs (i + 1) 0) (i + 1)
     unfolding runsFrom
@@ -58,12 +58,12 @@ module _ (cs vs : List ℕ) (S n : ℕ) (s₀ : List ℕ) (at a j : ℕ) where
         let first : List ℕ = runUpTo b (getD cs i 0) in
         let rest : List ℕ = runsFrom cs vs S (getD cs (i + 1) 0) (i + 1) (n - (i + 1)) in
         let l = same-going (first ++ rest) (ap (runsFrom cs vs S b i) (left-in i n h) ∙ rw (ne-eqb (getD vs i 0) S d, runsFrom)) g in
-        let k : at + (w + m) ≡ at + w + length first = omega (arith, f) in
+        let k : w + m ≡ w + length first = omega (arith, f) in
         let q : w + m + length rest ≡ w + length (first ++ rest) = omega (arith, f, length-append first rest) in
-        record { laid = ap₂ (λ v c. sets v c rest) e k ∙ sym (sets-append s (at + w) first rest) ∙ l .0; counted = q ∙ l .1 }
+        record { laid = ap₂ (λ v c. sets v c rest) e k ∙ sym (sets-append s w first rest) ∙ l .0; counted = q ∙ l .1 }
 
-    pub going-end : n ≤ i → (t : List ℕ) (m : ℕ) → t ≡ sets s (at + w) (runUpTo b (getD cs i 0)) → m ≡ length (runUpTo b (getD cs i 0))
-        → Going s w b i → Counted s₀ t at (w + m) (runsFrom cs vs S a j (n - j))
+    pub going-end : n ≤ i → (t : List ℕ) (m : ℕ) → t ≡ sets s w (runUpTo b (getD cs i 0)) → m ≡ length (runUpTo b (getD cs i 0))
+        → Going s w b i → Counted s₀ t 0 (w + m) (runsFrom cs vs S a j (n - j))
     unfolding runsFrom
     going-end h t m e f g = let l = same-going _ (ap (runsFrom cs vs S b i) (left-none i n h)) g in (e ∙ l .0, ap (w +_) f ∙ l .1)
 
@@ -87,17 +87,23 @@ abbrev pub Swept : List ℕ → List ℕ → ℕ → ℕ → List ℕ → List �
 Swept s t at r words vs left = (t ≡ sets s at words) × (r ≡ at + length words) × (vs ≡ left)
 
 -- a class, swept from interval j on up to interval i: laid over what is written, the rest gives the whole
-module _ (cs : List ℕ) (class n : ℕ) (s₀ : List ℕ) (at : ℕ) (vs₀ : List ℕ) (j : ℕ) where
+module _ (cs : List ℕ) (class n : ℕ) (s₀ : List ℕ) (at : ℕ) (vs₀ : List ℕ) where
   pub record Sweeping (s : List ℕ) (place : ℕ) (vs : List ℕ) (i : ℕ) : Type 0 where
-    pub laid : sets s place (classWords cs class vs i (n - i)) ≡ sets s₀ at (classWords cs class vs₀ j (n - j))
-    pub placed : place + length (classWords cs class vs i (n - i)) ≡ at + length (classWords cs class vs₀ j (n - j))
-    pub left : classLeft class vs i (n - i) ≡ classLeft class vs₀ j (n - j)
+    pub laid : sets s place (classWords cs class vs i (n - i)) ≡ sets s₀ at (classWords cs class vs₀ 0 n)
+    pub placed : place + length (classWords cs class vs i (n - i)) ≡ at + length (classWords cs class vs₀ 0 n)
+    pub left : classLeft class vs i (n - i) ≡ classLeft class vs₀ 0 n
 
-  pub sweeping-start : Sweeping s₀ at vs₀ j
-  sweeping-start = record { laid = refl; placed = refl; left = refl }
+  pub sweeping-start : Sweeping s₀ at vs₀ 0
+  sweeping-start =
+      let z : n - 0 ≡ n = omega arith in
+      record {
+        laid = ap (λ k. sets s₀ at (classWords cs class vs₀ 0 k)) z;
+        placed = ap (λ k. at + length (classWords cs class vs₀ 0 k)) z;
+        left = ap (classLeft class vs₀ 0) z;
+      }
 
   module _ (s : List ℕ) (place : ℕ) (vs : List ℕ) (i : ℕ) (g : Sweeping s place vs i) where
-    pub sweeping-ends : n ≤ i → Swept s₀ s at place (classWords cs class vs₀ j (n - j)) vs (classLeft class vs₀ j (n - j))
+    pub sweeping-ends : n ≤ i → Swept s₀ s at place (classWords cs class vs₀ 0 n) vs (classLeft class vs₀ 0 n)
     unfolding classWords classLeft
     sweeping-ends h =
         let w : classWords cs class vs i (n - i) ≡ [] = ap (classWords cs class vs i) (left-none i n h) in
@@ -148,22 +154,18 @@ module _ (cs : List ℕ) (class n : ℕ) (s₀ : List ℕ) (at : ℕ) (vs₀ : L
 
 -- ## Class after class
 module _ (cs vs : List ℕ) (n class : ℕ) (s : List ℕ) (at : ℕ) where
-  classes-more : class ≤ 5 → (s₁ us : List ℕ) (next : ℕ) → Swept s s₁ at next (classWords cs class vs 0 (n - 0)) us (classLeft class vs 0 (n - 0))
+  classes-more : class ≤ 5 → (s₁ us : List ℕ) (next : ℕ) → Swept s s₁ at next (classWords cs class vs 0 n) us (classLeft class vs 0 n)
       → (t : List ℕ) (r : ℕ)
       → Laid s₁ t next r (classesWords cs n (class + 1) us (6 - (class + 1))) → Laid s t at r (classesWords cs n class vs (6 - class))
   unfolding classesWords
   classes-more h s₁ us next l t r k =
       let e : 6 - class ≡ suc (6 - (class + 1)) = omega arith in
-      let z : n - 0 ≡ n = omega arith in
       let first : List ℕ = classWords cs class vs 0 n in
       let rest : List ℕ = classesWords cs n (class + 1) us (6 - (class + 1)) in
-      let u : us ≡ classLeft class vs 0 n = l .2 ∙ ap (classLeft class vs 0) z in
       let w : classesWords cs n class vs (6 - class) ≡ first ++ rest =
-      ap (classesWords cs n class vs) e ∙ ap (λ v. first ++ classesWords cs n (class + 1) v (6 - (class + 1))) (sym u) in
-      let a : s₁ ≡ sets s at first = l .0 ∙ ap (λ i. sets s at (classWords cs class vs 0 i)) z in
-      let b : next ≡ at + length first = l .1 ∙ ap (λ i. at + length (classWords cs class vs 0 i)) z in (
-        k .0 ∙ ap₂ (λ v i. sets v i rest) a b ∙ sym (sets-append s at first rest) ∙ ap (sets s at) (sym w),
-        k .1 ∙ omega (arith, b, length-append first rest, ap length w),
+      ap (classesWords cs n class vs) e ∙ ap (λ v. first ++ classesWords cs n (class + 1) v (6 - (class + 1))) (sym (l .2)) in (
+        k .0 ∙ ap₂ (λ v i. sets v i rest) (l .0) (l .1) ∙ sym (sets-append s at first rest) ∙ ap (sets s at) (sym w),
+        k .1 ∙ omega (arith, l .1, length-append first rest, ap length w),
       )
 
 -- up to a class: there is room for this one and the later ones, and whatever lays them lays the whole
@@ -204,7 +206,7 @@ module _ (cs vs₀ : List ℕ) (n : ℕ) (s₀ b₀ : List ℕ) (class place : �
   classes-closed h = done (no-classes h (6 - class) class (on .between .0))
 
   pub classes-on : class < 6 → n ≤ 65536 → (s₁ b₁ us : List ℕ) (next : ℕ)
-      → Swept s s₁ place next (classWords cs class vs 0 (n - 0)) us (classLeft class vs 0 (n - 0)) → next ≤ place + (n - 0) * entryLimit
+      → Swept s s₁ place next (classWords cs class vs 0 n) us (classLeft class vs 0 n) → next ≤ place + n * entryLimit
       → (length s₁ ≡ length s) × (length b₁ ≡ length b) × (length us ≡ length vs) → ClassesOn cs vs₀ n s₀ b₀ (class + 1) next s₁ b₁ us
   classes-on h few s₁ b₁ us next l less same = record {
     between = (omega arith, omega arith);

@@ -21,10 +21,9 @@ fn write_run(buf: &mut [u64], at: usize, a: u64, c: u64) -> usize
     0
 }
 
-// Writes the runs of a state from interval j on, where a run goes on from a; answers how many.
+// Writes the runs of a state from interval j on, where a run goes on from a, at the front of a buffer; answers how many.
 fn write_runs(
     buf: &mut [u64],
-    at: usize,
     minute_cuts: &[u64],
     interval_states: &[u64],
     s: u64,
@@ -32,9 +31,9 @@ fn write_runs(
     j: usize,
     n: usize,
 ) -> usize
-    requires { ⌜ (j ≤ n) × (at + (n - j) < length (now buf)) × (n < length (now «minute_cuts»)) × (n ≤ length (now «interval_states»)) × (a < timeLimit) ⌝ }
+    requires { ⌜ (j ≤ n) × (n - j < length (now buf)) × (n < length (now «minute_cuts»)) × (n ≤ length (now «interval_states»)) × (a < timeLimit) ⌝ }
     requires { ⌜ ((k : ℕ) → k ≤ n → getD (now «minute_cuts») k 0 < timeLimit) ⌝ }
-    ensures { λ r. ⌜ (now (buf .exit) ≡ sets (now (buf .entry)) at (runsFrom (now («minute_cuts» .entry)) (now («interval_states» .entry)) s a j (n - j)))
+    ensures { λ r. ⌜ (now (buf .exit) ≡ sets (now (buf .entry)) 0 (runsFrom (now («minute_cuts» .entry)) (now («interval_states» .entry)) s a j (n - j)))
         × (r ≡ length (runsFrom (now («minute_cuts» .entry)) (now («interval_states» .entry)) s a j (n - j))) × (r ≤ n - j + 1) ⌝ }
 {
     let mut i = j;
@@ -45,11 +44,11 @@ fn write_runs(
             i += 1;
             continue;
         }
-        written += write_run(buf, at + written, from, minute_cuts[i]);
+        written += write_run(buf, written, from, minute_cuts[i]);
         i += 1;
         from = minute_cuts[i];
     }
-    written + write_run(buf, at + written, from, minute_cuts[i])
+    written + write_run(buf, written, from, minute_cuts[i])
 }
 
 // Empties the intervals of a state from j on.
@@ -68,7 +67,7 @@ fn clear(interval_states: &mut [u64], s: u64, j: usize, n: usize)
     }
 }
 
-// Writes the entries of a class from interval j on and empties their intervals; answers the place after them.
+// Writes the entries of a class and empties their intervals; answers the place after them.
 fn sweep_class(
     out: &mut [u64],
     at: usize,
@@ -76,17 +75,16 @@ fn sweep_class(
     minute_cuts: &[u64],
     interval_states: &mut [u64],
     class: u8,
-    j: usize,
     n: usize,
 ) -> usize
-    requires { ⌜ (j ≤ n) × (n ≤ intervalLimit) × (at + (n - j) * entryLimit < wordLimit) ⌝ }
+    requires { ⌜ (n ≤ intervalLimit) × (at + n * entryLimit < wordLimit) ⌝ }
     requires { ⌜ (n < length (now buf)) × (n < length (now «minute_cuts»)) × (n ≤ length (now «interval_states»)) ⌝ }
     requires { ⌜ ((k : ℕ) → k ≤ n → getD (now «minute_cuts») k 0 < timeLimit) ⌝ }
-    ensures { λ r. ⌜ (now (out .exit) ≡ sets (now (out .entry)) at (classWords (now («minute_cuts» .entry)) class (now («interval_states» .entry)) j (n - j)))
-        × (r ≡ at + length (classWords (now («minute_cuts» .entry)) class (now («interval_states» .entry)) j (n - j)))
-        × (now («interval_states» .exit) ≡ classLeft class (now («interval_states» .entry)) j (n - j)) × (r ≤ at + (n - j) * entryLimit) ⌝ }
+    ensures { λ r. ⌜ (now (out .exit) ≡ sets (now (out .entry)) at (classWords (now («minute_cuts» .entry)) class (now («interval_states» .entry)) 0 n))
+        × (r ≡ at + length (classWords (now («minute_cuts» .entry)) class (now («interval_states» .entry)) 0 n))
+        × (now («interval_states» .exit) ≡ classLeft class (now («interval_states» .entry)) 0 n) × (r ≤ at + n * entryLimit) ⌝ }
 {
-    let mut i = j;
+    let mut i: usize = 0;
     let mut place = at;
     while i < n {
         let s = interval_states[i];
@@ -95,7 +93,7 @@ fn sweep_class(
             continue;
         }
         let c = minute_cuts[i];
-        let r = write_runs(buf, 0, minute_cuts, interval_states, s, c, i, n);
+        let r = write_runs(buf, minute_cuts, interval_states, s, c, i, n);
         place = write_entry(out, place, s, buf, r);
         clear(interval_states, s, i, n);
         i += 1;
@@ -137,7 +135,7 @@ pub fn sweep_classes(
         if all_closed(interval_states, n) {
             return place;
         }
-        place = sweep_class(out, place, buf, minute_cuts, interval_states, class, 0, n);
+        place = sweep_class(out, place, buf, minute_cuts, interval_states, class, n);
         class += 1;
     }
     place

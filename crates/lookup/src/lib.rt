@@ -25,22 +25,23 @@ fn look_boxes(
     replacing: &[u8],
     range_counts: &[u16],
     ranges: &[u16],
-    rows: &[u16],
+    row_starts: &[u16],
     sizes: &[u16],
     cuts: &[u16],
     rules_left: usize,
     moment: Moment,
 ) -> Answer
-    requires { ⌜ ((rs : List Rule) × Lookable (now states) (now «span_counts») (now spans) (now replacing) (now «range_counts») (now ranges) (now rows) (now sizes) (now cuts) «rules_left» rs) ⌝ }
+    requires { ⌜ ((rs : List Rule) × Lookable (now states) (now «span_counts») (now spans) (now replacing)
+        (now «range_counts») (now ranges) (now «row_starts») (now sizes) (now cuts) «rules_left» rs) ⌝ }
     requires { ⌜ InBounds allBounds (momentPoint moment) ⌝ }
     ensures { λ r. ⌜ ((rs : List Rule) → Lookable (now (states .entry)) (now («span_counts» .entry)) (now (spans .entry)) (now (replacing .entry)) (now («range_counts» .entry)) (now (ranges .entry))
-        (now (rows .entry)) (now (sizes .entry)) (now (cuts .entry)) «rules_left» rs → lookedUp r ≡ lookAt rs (momentPoint moment) (moment .minute)) ⌝ }
+        (now («row_starts» .entry)) (now (sizes .entry)) (now (cuts .entry)) «rules_left» rs → lookedUp r ≡ lookAt rs (momentPoint moment) (moment .minute)) ⌝ }
 {
     let mut lists = [0u16; 33792];
     let rules = states.len();
     let listed = draw_rules(
         &mut lists,
-        rows,
+        row_starts,
         sizes,
         cuts,
         replacing,
@@ -59,7 +60,7 @@ fn look_boxes(
         span_counts,
         spans,
         &lists,
-        rows,
+        row_starts,
         sizes,
         cuts,
         moment,
@@ -78,7 +79,7 @@ fn look_moment(sheet: &[u8], begins: &[usize], count: usize, moment: Moment) -> 
     let mut replacing = [0u8; 64];
     let mut range_counts = [0u16; 256];
     let mut ranges = [0u16; 16384];
-    let mut rows = [0u16; 4];
+    let mut row_starts = [0u16; 4];
     let mut sizes = [0u16; 4];
     let mut cuts = [0u16; 16392];
     let drained = prepare(
@@ -91,7 +92,7 @@ fn look_moment(sheet: &[u8], begins: &[usize], count: usize, moment: Moment) -> 
         &mut replacing,
         &mut range_counts,
         &mut ranges,
-        &mut rows,
+        &mut row_starts,
         &mut sizes,
         &mut cuts,
     );
@@ -107,7 +108,7 @@ fn look_moment(sheet: &[u8], begins: &[usize], count: usize, moment: Moment) -> 
         &replacing,
         &range_counts,
         &ranges,
-        &rows,
+        &row_starts,
         &sizes,
         &cuts,
         count - rules,

@@ -26,20 +26,21 @@ fn fold_boxes_in(
     replacing: &[u8],
     range_counts: &[u16],
     ranges: &[u16],
-    rows: &[u16],
+    row_starts: &[u16],
     sizes: &[u16],
     cuts: &[u16],
     lists: &mut [u16],
     pages: &mut [u16],
 ) -> Folded
-    requires { ⌜ ((rs : List Rule) × Foldable (now sheet) left (now states) (now «span_counts») (now spans) (now replacing) (now «range_counts») (now ranges) (now rows) (now sizes) (now cuts) rs) ⌝ }
+    requires { ⌜ ((rs : List Rule) × Foldable (now sheet) left (now states) (now «span_counts») (now spans) (now replacing)
+        (now «range_counts») (now ranges) (now «row_starts») (now sizes) (now cuts) rs) ⌝ }
     requires { ⌜ Empty (now lists) (sizeOf (now sizes) 4) × (13 * sizeOf (now sizes) 4 ≤ length (now pages)) ⌝ }
     ensures { λ r. ⌜ Folds (now (sheet .entry)) (now (out .entry)) r (now (out .exit)) ⌝ }
 {
     let rules = states.len();
     let listed = draw_rules(
         lists,
-        rows,
+        row_starts,
         sizes,
         cuts,
         replacing,
@@ -50,7 +51,16 @@ fn fold_boxes_in(
     if listed < rules {
         return fold_refused(6, listed as u64);
     }
-    let count = fold_pages(states, span_counts, spans, lists, rows, sizes, cuts, pages);
+    let count = fold_pages(
+        states,
+        span_counts,
+        spans,
+        lists,
+        row_starts,
+        sizes,
+        cuts,
+        pages,
+    );
     emit(
         sheet,
         left,
@@ -75,11 +85,12 @@ fn fold_few_boxes(
     replacing: &[u8],
     range_counts: &[u16],
     ranges: &[u16],
-    rows: &[u16],
+    row_starts: &[u16],
     sizes: &[u16],
     cuts: &[u16],
 ) -> Folded
-    requires { ⌜ ((rs : List Rule) × Foldable (now sheet) left (now states) (now «span_counts») (now spans) (now replacing) (now «range_counts») (now ranges) (now rows) (now sizes) (now cuts) rs) ⌝ }
+    requires { ⌜ ((rs : List Rule) × Foldable (now sheet) left (now states) (now «span_counts») (now spans) (now replacing)
+        (now «range_counts») (now ranges) (now «row_starts») (now sizes) (now cuts) rs) ⌝ }
     requires { ⌜ sizeOf (now sizes) 4 ≤ 16 ⌝ }
     ensures { λ r. ⌜ Folds (now (sheet .entry)) (now (out .entry)) r (now (out .exit)) ⌝ }
 {
@@ -95,7 +106,7 @@ fn fold_few_boxes(
         replacing,
         range_counts,
         ranges,
-        rows,
+        row_starts,
         sizes,
         cuts,
         &mut lists,
@@ -114,11 +125,12 @@ fn fold_many_boxes(
     replacing: &[u8],
     range_counts: &[u16],
     ranges: &[u16],
-    rows: &[u16],
+    row_starts: &[u16],
     sizes: &[u16],
     cuts: &[u16],
 ) -> Folded
-    requires { ⌜ ((rs : List Rule) × Foldable (now sheet) left (now states) (now «span_counts») (now spans) (now replacing) (now «range_counts») (now ranges) (now rows) (now sizes) (now cuts) rs) ⌝ }
+    requires { ⌜ ((rs : List Rule) × Foldable (now sheet) left (now states) (now «span_counts») (now spans) (now replacing)
+        (now «range_counts») (now ranges) (now «row_starts») (now sizes) (now cuts) rs) ⌝ }
     ensures { λ r. ⌜ Folds (now (sheet .entry)) (now (out .entry)) r (now (out .exit)) ⌝ }
 {
     let mut lists = [0u16; 33792];
@@ -133,7 +145,7 @@ fn fold_many_boxes(
         replacing,
         range_counts,
         ranges,
-        rows,
+        row_starts,
         sizes,
         cuts,
         &mut lists,
@@ -152,11 +164,12 @@ pub fn fold_boxes(
     replacing: &[u8],
     range_counts: &[u16],
     ranges: &[u16],
-    rows: &[u16],
+    row_starts: &[u16],
     sizes: &[u16],
     cuts: &[u16],
 ) -> Folded
-    requires { ⌜ ((rs : List Rule) × Foldable (now sheet) left (now states) (now «span_counts») (now spans) (now replacing) (now «range_counts») (now ranges) (now rows) (now sizes) (now cuts) rs) ⌝ }
+    requires { ⌜ ((rs : List Rule) × Foldable (now sheet) left (now states) (now «span_counts») (now spans) (now replacing)
+        (now «range_counts») (now ranges) (now «row_starts») (now sizes) (now cuts) rs) ⌝ }
     ensures { λ r. ⌜ Folds (now (sheet .entry)) (now (out .entry)) r (now (out .exit)) ⌝ }
 {
     if paving::place::size_of(sizes, 4) <= 16 {
@@ -170,7 +183,7 @@ pub fn fold_boxes(
             replacing,
             range_counts,
             ranges,
-            rows,
+            row_starts,
             sizes,
             cuts,
         )
@@ -185,7 +198,7 @@ pub fn fold_boxes(
             replacing,
             range_counts,
             ranges,
-            rows,
+            row_starts,
             sizes,
             cuts,
         )

@@ -54,7 +54,7 @@ fn fold_rules_in(
     requires { ⌜ (count * 4 ≤ length (now «range_counts»)) × (count * 256 ≤ length (now ranges)) × (4 * rowPlaces count ≤ length (now cuts)) ⌝ }
     ensures { λ r. ⌜ Folds (now (sheet .entry)) (now (out .entry)) r (now (out .exit)) ⌝ }
 {
-    let mut rows = [0u16; 4];
+    let mut row_starts = [0u16; 4];
     let mut sizes = [0u16; 4];
     let drained = prepare(
         sheet,
@@ -66,7 +66,7 @@ fn fold_rules_in(
         replacing,
         range_counts,
         ranges,
-        &mut rows,
+        &mut row_starts,
         &mut sizes,
         cuts,
     );
@@ -86,7 +86,7 @@ fn fold_rules_in(
         replacing,
         range_counts,
         ranges,
-        &rows,
+        &row_starts,
         &sizes,
         cuts,
     )

@@ -24,17 +24,17 @@ pub fn prepare(
     replacing: &mut [u8],
     range_counts: &mut [u16],
     ranges: &mut [u16],
-    rows: &mut [u16],
+    row_starts: &mut [u16],
     sizes: &mut [u16],
     cuts: &mut [u16],
 ) -> Drained
     requires { ⌜ RulesRead (now sheet) (now begins) count ⌝ }
     requires { ⌜ (count ≤ length (now states)) × (count ≤ length (now «span_counts»)) × (count * 16 ≤ length (now spans)) × (count ≤ length (now replacing)) ⌝ }
     requires { ⌜ (count * 4 ≤ length (now «range_counts»)) × (count * 256 ≤ length (now ranges)) ⌝ }
-    requires { ⌜ (length (now rows) ≡ 4) × (length (now sizes) ≡ 4) × (4 * rowPlaces count ≤ length (now cuts)) ⌝ }
+    requires { ⌜ (length (now «row_starts») ≡ 4) × (length (now sizes) ≡ 4) × (4 * rowPlaces count ≤ length (now cuts)) ⌝ }
     ensures { λ r. ⌜ EachReading (now (sheet .entry)) (now (begins .entry)) count
         (λ rs. Prepared (now (states .exit)) (now («span_counts» .exit)) (now (spans .exit)) (now (replacing .exit)) (now («range_counts» .exit)) (now (ranges .exit))
-        (now (rows .exit)) (now (sizes .exit)) (now (cuts .exit)) (drained rs) r) ⌝ }
+        (now («row_starts» .exit)) (now (sizes .exit)) (now (cuts .exit)) (drained rs) r) ⌝ }
 {
     let rules = draining::drain(
         sheet,
@@ -47,6 +47,6 @@ pub fn prepare(
         range_counts,
         ranges,
     );
-    let boxes = cutting::cut_all(cuts, sizes, rows, range_counts, ranges, rules);
+    let boxes = cutting::cut_all(cuts, sizes, row_starts, range_counts, ranges, rules);
     Drained { rules, boxes }
 }

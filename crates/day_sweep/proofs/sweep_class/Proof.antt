@@ -10,14 +10,14 @@ use Rattle.day_sweep.proofs.sweep_class.Statement.{statement}
 use Rattle.day_sweep.proofs.sweep_class.Tie as tie
 
 abbrev Inv-loop : tie.InvT-loop
-Inv-loop out₀ at buf₀ cuts cells₀ class j n i₀ place₀ out buf cells i place = ((i ≤ n) × (place + (n - i) * entryLimit ≤ at + (n - j) * entryLimit)) ×
-    ((length out ≡ length out₀) × (length buf ≡ length buf₀) × (length cells ≡ length cells₀)) × Sweeping cuts class n out₀ at cells₀ j out place cells i
+Inv-loop out₀ at buf₀ cuts cells₀ class n i₀ place₀ out buf cells i place = ((i ≤ n) × (place + (n - i) * entryLimit ≤ at + n * entryLimit)) ×
+    ((length out ≡ length out₀) × (length buf ≡ length buf₀) × (length cells ≡ length cells₀)) × Sweeping cuts class n out₀ at cells₀ out place cells i
 
 abbrev μ-loop : tie.MeasureT-loop
-μ-loop out₀ at buf₀ cuts cells₀ class j n i₀ place₀ out buf cells i place = n - i
+μ-loop out₀ at buf₀ cuts cells₀ class n i₀ place₀ out buf cells i place = n - i
 
 loop-holds : tie.Need-loop-holds Inv-loop μ-loop
-loop-holds c = ((omega arith, omega arith), (refl, refl, refl), sweeping-start _ _ _ _ _ _ _)
+loop-holds c = ((omega arith, omega arith), (refl, refl, refl), sweeping-start _ _ _ _ _ _)
 
 mul-s : tie.Need-mul-s Inv-loop μ-loop
 mul-s c = search needs
@@ -43,7 +43,7 @@ loop-again c =
     let loop = turn .before in (
       (omega (arith, turn .loop-test .taken), omega (arith, loop .loop .inv .0, turn .loop-test .taken)),
       loop .loop .inv .1,
-      sweeping-skips _ _ _ _ _ _ _ _ _ _ _ (loop .loop .inv .2) (turn .loop-test .taken) _ (c .before .state-class .ensures) (c .if1 .taken),
+      sweeping-skips _ _ _ _ _ _ _ _ _ _ (loop .loop .inv .2) (turn .loop-test .taken) _ (c .before .state-class .ensures) (c .if1 .taken),
     )
 
 mul-c : tie.Need-mul-c Inv-loop μ-loop
@@ -114,7 +114,7 @@ loop-again-2 c =
         write-runs .write-runs .kept .0 ∙ loop .loop .inv .1 .1,
         clear .clear .kept .0 ∙ loop .loop .inv .1 .2,
       ),
-      sweeping-takes _ _ _ _ _ _ _ _ _ _ _ (loop .loop .inv .2) (turn .loop-test .taken) _ (state-class .state-class .ensures) (if1 .if1 .left) _ _ _
+      sweeping-takes _ _ _ _ _ _ _ _ _ _ (loop .loop .inv .2) (turn .loop-test .taken) _ (state-class .state-class .ensures) (if1 .if1 .left) _ _ _
           (w .0, w .1) (omega (arith, w .2, loop .loop .inv .1, pre .1 .0)) _ _ (write-entry .write-entry .ensures) _ (clear .clear .ensures),
     )
 
@@ -129,7 +129,7 @@ same-length-3 c = c .before .loop .inv .1 .2
 
 returns : tie.Need-returns Inv-loop μ-loop
 returns c =
-    let h = sweeping-ends _ _ _ _ _ _ _ _ _ _ _ (c .before .loop .inv .2) (omega (arith, c .loop-test .left)) in
+    let h = sweeping-ends _ _ _ _ _ _ _ _ _ _ (c .before .loop .inv .2) (omega (arith, c .loop-test .left)) in
     (h .0, h .1, h .2, omega (arith, c .before .loop .inv .0))
 
 pub sweep-class-spec : {M : Type 1} → statement M

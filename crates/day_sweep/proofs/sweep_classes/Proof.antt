@@ -42,7 +42,7 @@ sweep-class-requires c κs =
     let pre = entry .pre in
     let on = loop .loop .inv in
     let more = turn .loop-test .taken in (
-      (omega arith, omega (arith, pre .0), omega (arith, pre .0, on .room, on .between, more)),
+      (omega (arith, pre .0), omega (arith, pre .0, on .room, on .between, more)),
       ((omega (arith, pre .0, on .lengths), omega (arith, pre .0), omega (arith, pre .0, on .lengths)), pre .1),
     )
 

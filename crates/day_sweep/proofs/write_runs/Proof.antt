@@ -10,14 +10,14 @@ use Rattle.day_sweep.proofs.write_runs.Statement.{statement}
 use Rattle.day_sweep.proofs.write_runs.Tie as tie
 
 abbrev Inv-loop : tie.InvT-loop
-Inv-loop buf₀ at cuts cells s a j n i₀ from₀ written₀ buf i from written =
-    (i ≤ n) × (written + j ≤ i) × (from < timeLimit) × (length buf ≡ length buf₀) × Going cuts cells s n buf₀ at a j buf written from i
+Inv-loop buf₀ cuts cells s a j n i₀ from₀ written₀ buf i from written =
+    (i ≤ n) × (written + j ≤ i) × (from < timeLimit) × (length buf ≡ length buf₀) × Going cuts cells s n buf₀ a j buf written from i
 
 abbrev μ-loop : tie.MeasureT-loop
-μ-loop buf₀ at cuts cells s a j n i₀ from₀ written₀ buf i from written = n - i
+μ-loop buf₀ cuts cells s a j n i₀ from₀ written₀ buf i from written = n - i
 
 loop-holds : tie.Need-loop-holds Inv-loop μ-loop
-loop-holds c = (omega arith, omega arith, omega arith, refl, going-start _ _ _ _ _ _ _ _)
+loop-holds c = (omega arith, omega arith, omega arith, refl, going-start _ _ _ _ _ _ _)
 
 mul-if1 : tie.Need-mul-if1 Inv-loop μ-loop
 mul-if1 c = search needs
@@ -38,11 +38,8 @@ loop-again c =
       omega arith,
       loop .loop .inv .2,
       loop .loop .inv .3,
-      going-on _ _ _ _ _ _ _ _ _ _ _ _ (omega arith) (omega arith) (loop .loop .inv .4),
+      going-on _ _ _ _ _ _ _ _ _ _ _ (omega arith) (omega arith) (loop .loop .inv .4),
     )
-
-add-write-run : tie.Need-add-write-run Inv-loop μ-loop
-add-write-run c = search needs
 
 mul-write-run : tie.Need-mul-write-run Inv-loop μ-loop
 mul-write-run c = search needs
@@ -81,12 +78,9 @@ loop-again-2 c =
       omega (arith, write-run .write-run .ensures .2),
       entry .pre .1 (loop .loop .i + 1) (omega arith),
       write-run .write-run .kept .0 ∙ loop .loop .inv .3,
-      going-break _ _ _ _ _ _ _ _ _ _ _ _ (omega arith) (if1 .if1 .left) _ _ (write-run .write-run .ensures .0) (write-run .write-run .ensures .1)
+      going-break _ _ _ _ _ _ _ _ _ _ _ (omega arith) (if1 .if1 .left) _ _ (write-run .write-run .ensures .0) (write-run .write-run .ensures .1)
           (loop .loop .inv .4),
     )
-
-add-write-run-2 : tie.Need-add-write-run-2 Inv-loop μ-loop
-add-write-run-2 c = search needs
 
 mul-write-run-2 : tie.Need-mul-write-run-2 Inv-loop μ-loop
 mul-write-run-2 c = search needs
@@ -110,7 +104,7 @@ returns : tie.Need-returns Inv-loop μ-loop
 returns c =
     let write-run2 = c .before .before in
     let loop = write-run2 .before .before .before .before in
-    let h = going-end _ _ _ _ _ _ _ _ _ _ _ _ (omega arith) _ _ (write-run2 .write-run2 .ensures .0) (write-run2 .write-run2 .ensures .1)
+    let h = going-end _ _ _ _ _ _ _ _ _ _ _ (omega arith) _ _ (write-run2 .write-run2 .ensures .0) (write-run2 .write-run2 .ensures .1)
     (loop .loop .inv .4) in
     (h .0, h .1, omega (arith, write-run2 .write-run2 .ensures .2))
 
@@ -118,6 +112,6 @@ pub write-runs-spec : {M : Type 1} → statement M
 write-runs-spec =
     tie.close
     (tie.spec
-    Inv-loop μ-loop loop-holds mul-if1 shared-slice-read-if1 add-i loop-less loop-again add-write-run mul-write-run shared-slice-read-write-run
-    write-run-requires add-written add-i-2 mul-from shared-slice-read-from loop-less-2 loop-again-2 add-write-run-2 mul-write-run-2
+    Inv-loop μ-loop loop-holds mul-if1 shared-slice-read-if1 add-i loop-less loop-again mul-write-run shared-slice-read-write-run
+    write-run-requires add-written add-i-2 mul-from shared-slice-read-from loop-less-2 loop-again-2 mul-write-run-2
     shared-slice-read-write-run-2 write-run-requires-2 add-result same-length returns)
