@@ -1,4 +1,4 @@
-// Do the days of a table's lists have the digest that the record says?
+// Do the days of a table's lists have the digest that the record says? `agrees_in` has thirteen parameters for the same reason as `with_days`.
 use super::digest::few;
 use super::digest::with_days;
 use super::rule_tables::load;

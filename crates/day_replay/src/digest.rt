@@ -1,4 +1,5 @@
-// A digest of the days of lists: of each day one of its words, how many words it has, and its class.
+// A digest of the days of lists: of each day one of its words, how many words it has, and its class. `with_days` has thirteen parameters, since
+// the language lends no struct of slices: the scratch of a day is six of them, the rules' times are three.
 use canonical_time::normalize_time_rules;
 use casts::u8_to_u64;
 use casts::usize_to_u64;

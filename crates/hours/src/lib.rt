@@ -1,5 +1,5 @@
 // What users touch: the fold of a sheet, the state at a date and minute, writing back, and the line of a sheet. None has a `requires`: every
-// byte string, date and buffer gets an answer. Rests on the check of sheets, on the phases of the fold and on the line of rules.
+// byte string, date and buffer gets an answer. Rests on the check of sheets, on the stages of the fold and of the lookup, and on the line of rules.
 pub mod export;
 
 use answers::Answer;
