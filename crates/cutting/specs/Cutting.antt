@@ -1,4 +1,4 @@
--- Rows of cuts at equal distances: what the rows of cuts must be.
+-- What the rows of cuts must be: four of them, at equal distances, all there.
 use mathlib.Core.Path.{_≡_}
 use mathlib.Core.List.{List}
 use Prim.Native.Nat.{ℕ, _*_, _≤_, _<_}

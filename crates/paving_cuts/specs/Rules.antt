@@ -1,4 +1,4 @@
--- Rows that hold the cuts of some rules: what the rows of cuts must be.
+-- Rows that hold the cuts of some rules, and the room that these need.
 use mathlib.Core.List.{List, [], _∷_}
 use Prim.Native.Nat.{ℕ, _+_, _*_, _≤_}
 use lib.ListN.{length}

@@ -1,6 +1,6 @@
 -- `lookup::look_moment` meets its contract: too many boxes refuse, and else the tables of the drained rules alone are lent.
 use mathlib.Core.Path.{sym}
-use Prim.Native.Nat.{_*_}
+use Prim.Native.Nat.{_*_, _≤_}
 use native.Mathlib.Omega.{arith}
 use lib.Seq.{length-take-le}
 use borrow.Author.Needs.{needs}
@@ -11,6 +11,15 @@ use Rattle.lookup.proofs.Lookable.{prepared-lookable}
 use Rattle.lookup.proofs.Answers.{boxes-refused}
 use Rattle.lookup.proofs.look_moment.Statement.{statement}
 use Rattle.lookup.proofs.look_moment.Tie as tie
+
+-- where the rules are prepared; and what is prepared has few rules
+abbrev preparing : tie.After-struct-known → tie.After-prepare
+preparing c = c .before .before .before .before .before .before .before .before .before .before
+
+few : (c : tie.After-prepare) → c .prepare .result .rules ≤ 64
+few c =
+    let read = c .before .before .before .before .before .before .before .before .before .before .before .before .pre .0 .1 .1 in
+    c .prepare .ensures _ _ (read .0) (read .1) .drawable .0 .few-rules
 
 prepare-requires : tie.Need-prepare-requires
 prepare-requires c κs =
@@ -29,91 +38,68 @@ prepare-requires c κs =
 
 returns : tie.Need-returns
 returns c =
-    let branch = c .before in λ rs end reading many.
-    let prepared = branch .before .before .before .before .before .before .before .before .before .before .before .prepare .ensures rs end reading many in
-    boxes-refused rs _ _ _ _ (prepared .boxes-many) (branch .if1 .taken) (c .lookup-refused .ensures)
+    let p = preparing (c .before .before) in λ rs end reading many.
+    boxes-refused rs _ _ _ _ (p .prepare .ensures rs end reading many .boxes-many) (c .before .if1 .taken) (c .lookup-refused .ensures)
 
 mul-places : tie.Need-mul-places
-mul-places c =
-    let branch = c in
-    let preparing = branch .before .before .before .before .before .before .before .before .before .before .before in
-    let read = preparing .before .before .before .before .before .before .before .before .before .before .before .before .pre .0 .1 in
-    let prepared = preparing .prepare .ensures _ _ (read .1 .0) (read .1 .1) in
-    search (needs, prepared .drawable .0 .few-rules)
+mul-places c = search (needs, few (preparing (c .before)))
 
 array-share-prefix-states : tie.Need-array-share-prefix-states
 array-share-prefix-states c =
-    let branch = c in
-    let preparing = branch .before .before .before .before .before .before .before .before .before .before .before in
-    let read = preparing .before .before .before .before .before .before .before .before .before .before .before .before .pre .0 .1 in
-    let prepared = preparing .prepare .ensures _ _ (read .1 .0) (read .1 .1) in
-    omega (arith, prepared .drawable .0 .few-rules, preparing .prepare .kept .1 .1 .1 .0)
+    let p = preparing (c .before) in
+    omega (arith, few p, p .prepare .kept .1 .1 .1 .0)
 
 slice-aggregate-look-boxes : tie.Need-slice-aggregate-look-boxes
 slice-aggregate-look-boxes c =
-    let branch = c .before in
-    let preparing = branch .before .before .before .before .before .before .before .before .before .before .before in
-    let read = preparing .before .before .before .before .before .before .before .before .before .before .before .before .pre .0 .1 in
-    let prepared = preparing .prepare .ensures _ _ (read .1 .0) (read .1 .1) in
-    sym (length-take-le (preparing .prepare .result .rules) _ (omega (arith, prepared .drawable .0 .few-rules, preparing .prepare .kept .1 .1 .1 .0)))
+    let p = preparing (c .before .before) in
+    sym (length-take-le (p .prepare .result .rules) _ (omega (arith, few p, p .prepare .kept .1 .1 .1 .0)))
 
 array-share-prefix-span-counts : tie.Need-array-share-prefix-span-counts
 array-share-prefix-span-counts c =
-    let branch = c .before in
-    let preparing = branch .before .before .before .before .before .before .before .before .before .before .before in
-    let read = preparing .before .before .before .before .before .before .before .before .before .before .before .before .pre .0 .1 in
-    let prepared = preparing .prepare .ensures _ _ (read .1 .0) (read .1 .1) in
-    omega (arith, prepared .drawable .0 .few-rules, preparing .prepare .kept .1 .1 .1 .1 .0)
+    let p = preparing (c .before .before) in
+    omega (arith, few p, p .prepare .kept .1 .1 .1 .1 .0)
 
 slice-aggregate-look-boxes-2 : tie.Need-slice-aggregate-look-boxes-2
 slice-aggregate-look-boxes-2 c =
-    let branch = c .before .before in
-    let preparing = branch .before .before .before .before .before .before .before .before .before .before .before in
-    let read = preparing .before .before .before .before .before .before .before .before .before .before .before .before .pre .0 .1 in
-    let prepared = preparing .prepare .ensures _ _ (read .1 .0) (read .1 .1) in
-    sym (length-take-le (preparing .prepare .result .rules) _ (omega (arith, prepared .drawable .0 .few-rules, preparing .prepare .kept .1 .1 .1 .1 .0)))
+    let p = preparing (c .before .before .before) in
+    sym (length-take-le (p .prepare .result .rules) _ (omega (arith, few p, p .prepare .kept .1 .1 .1 .1 .0)))
 
 array-share-prefix-spans : tie.Need-array-share-prefix-spans
 array-share-prefix-spans c =
-    let branch = c .before .before in
-    let preparing = branch .before .before .before .before .before .before .before .before .before .before .before in
-    let read = preparing .before .before .before .before .before .before .before .before .before .before .before .before .pre .0 .1 in
-    let prepared = preparing .prepare .ensures _ _ (read .1 .0) (read .1 .1) in
-    omega (arith, prepared .drawable .0 .few-rules, preparing .prepare .kept .1 .1 .1 .1 .1 .0)
+    let p = preparing (c .before .before .before) in
+    omega (arith, few p, p .prepare .kept .1 .1 .1 .1 .1 .0)
 
 slice-aggregate-look-boxes-3 : tie.Need-slice-aggregate-look-boxes-3
 slice-aggregate-look-boxes-3 c =
-    let branch = c .before .before .before in
-    let preparing = branch .before .before .before .before .before .before .before .before .before .before .before in
-    let read = preparing .before .before .before .before .before .before .before .before .before .before .before .before .pre .0 .1 in
-    let prepared = preparing .prepare .ensures _ _ (read .1 .0) (read .1 .1) in
-    sym (length-take-le (preparing .prepare .result .rules * 16) _ (omega (arith, prepared .drawable .0 .few-rules, preparing .prepare .kept .1 .1 .1 .1 .1 .0)))
+    let p = preparing (c .before .before .before .before) in
+    sym (length-take-le (p .prepare .result .rules * 16) _ (omega (arith, few p, p .prepare .kept .1 .1 .1 .1 .1 .0)))
 
 sub-look-boxes : tie.Need-sub-look-boxes
 sub-look-boxes c =
-    let branch = c .before .before .before .before .before .before .before .before .before in
-    let preparing = branch .before .before .before .before .before .before .before .before .before .before .before in
-    let read = preparing .before .before .before .before .before .before .before .before .before .before .before .before .pre .0 .1 in
-    let prepared = preparing .prepare .ensures _ _ (read .1 .0) (read .1 .1) in
-    drained-within _ _ _ _ _ _ _ _ _ _ _ prepared _ (read .1 .1)
+    let p = preparing (c .before .before .before .before .before .before .before .before .before .before) in
+    let read = p .before .before .before .before .before .before .before .before .before .before .before .before .pre .0 .1 .1 in
+    drained-within _ _ _ _ _ _ _ _ _ _ _ (p .prepare .ensures _ _ (read .0) (read .1)) _ (read .1)
 
 look-boxes-requires : tie.Need-look-boxes-requires
 look-boxes-requires c κs =
     let branch = c .before .before .before .before .before .before .before .before .before in
-    let preparing = branch .before .before .before .before .before .before .before .before .before .before .before in
-    let read = preparing .before .before .before .before .before .before .before .before .before .before .before .before .pre .0 .1 in
-    let prepared = preparing .prepare .ensures _ _ (read .1 .0) (read .1 .1) in (
-      (_, prepared-lookable _ _ _ _ _ _ _ _ _ _ _ prepared _ (read .1 .1) (branch .if1 .left) (omega (arith, prepared .drawable .0 .few-rules, preparing .prepare .kept .1 .1 .1 .0))),
-      preparing .before .before .before .before .before .before .before .before .before .before .before .before .pre .1,
+    let p = preparing (branch .before) in
+    let pre = p .before .before .before .before .before .before .before .before .before .before .before .before .pre in
+    let read = pre .0 .1 .1 in (
+      (
+        _,
+        prepared-lookable _ _ _ _ _ _ _ _ _ _ _ (p .prepare .ensures _ _ (read .0) (read .1)) _ (read .1) (branch .if1 .left)
+            (omega (arith, few p, p .prepare .kept .1 .1 .1 .0)),
+      ),
+      pre .1,
     )
 
 returns-2 : tie.Need-returns-2
 returns-2 c =
     let branch = c .before .before .before .before .before .before .before .before .before .before in
-    let preparing = branch .before .before .before .before .before .before .before .before .before .before .before in λ rs end reading many.
-    let prepared = preparing .prepare .ensures rs end reading many in
+    let p = preparing (branch .before) in λ rs end reading many.
     c .look-boxes .ensures rs
-    (prepared-lookable _ _ _ _ _ _ _ _ _ _ _ prepared _ many (branch .if1 .left) (omega (arith, prepared .drawable .0 .few-rules, preparing .prepare .kept .1 .1 .1 .0)))
+    (prepared-lookable _ _ _ _ _ _ _ _ _ _ _ (p .prepare .ensures rs end reading many) _ many (branch .if1 .left) (omega (arith, few p, p .prepare .kept .1 .1 .1 .0)))
 
 pub look-moment-spec : {M : Type 1} → statement M
 look-moment-spec =

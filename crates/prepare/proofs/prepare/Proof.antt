@@ -5,6 +5,13 @@ use Rattle.prepare.proofs.Reading.{rules-begin, begins-there, drained-f
 use Rattle.prepare.proofs.prepare.Statement.{statement}
 use Rattle.prepare.proofs.prepare.Tie as tie
 
+-- where the rules are drained, and the sheet that they are drained from
+abbrev draining : tie.After-cut-all → tie.After-drain
+draining c = c .before .before .before .before .before .before .before .before .before .before .before .before .before .before .before .before .before .before
+
+abbrev known : tie.After-drain → tie.After-shared-slice-known
+known c = c .before .before .before .before .before .before .before .before .before .before .before .before .before .before .before .before .before
+
 drain-requires : tie.Need-drain-requires
 drain-requires c κs =
     let shared-slice-known = c .before .before .before .before .before .before .before .before .before .before .before .before .before .before .before .before in
@@ -21,13 +28,12 @@ drain-requires c κs =
 cut-all-requires : tie.Need-cut-all-requires
 cut-all-requires c κs =
     let drain-step = c .before .before .before .before .before .before .before .before .before .before .before .before .before .before .before .before .before in
-    let shared-slice-known = drain-step .before .before .before .before .before .before .before .before .before .before .before .before .before .before .before .before .before in
-    let entry = shared-slice-known .before in
+    let entry = known drain-step .before in
     let sheet = entry .args .sheet .now in
     let pre = entry .pre in
     let read = pre .0 .1 .1 in
     let drain = drain-step .drain in
-    let bytes = known-bytes sheet (λ j. omega (arith, shared-slice-known .shared-slice-known .given j)) in
+    let bytes = known-bytes sheet (λ j. omega (arith, known drain-step .shared-slice-known .given j)) in
     let few = drained-few sheet bytes _ _ _ _ (read .0) (read .1) _ _ _ _ _ _ _ (drain .ensures .0) (drain .ensures .1) in
     let kept = drain .kept .1 .1 .1 .1 .1 .1 .1 in
     let days = drained-days sheet bytes _ _ _ _ (read .0) (read .1) _ _ _ _ _ _ _ (drain .ensures .0) (drain .ensures .1)
@@ -37,14 +43,13 @@ cut-all-requires c κs =
 returns : tie.Need-returns
 returns c =
     let cut-all = c .before .before .before .before .before .before in
-    let drain-step = cut-all .before .before .before .before .before .before .before .before .before .before .before .before .before .before .before .before .before .before in
-    let shared-slice-known = drain-step .before .before .before .before .before .before .before .before .before .before .before .before .before .before .before .before .before in
-    let entry = shared-slice-known .before in
+    let drain-step = draining cut-all in
+    let entry = known drain-step .before in
     let sheet = entry .args .sheet .now in
     let pre = entry .pre in
     let drain = drain-step .drain in
     let kept = drain .kept .1 .1 .1 in
-    let bytes = known-bytes sheet (λ j. omega (arith, shared-slice-known .shared-slice-known .given j)) in
+    let bytes = known-bytes sheet (λ j. omega (arith, known drain-step .shared-slice-known .given j)) in
     λ rs end reading many. let days = drained-days sheet bytes _ rs end _ reading many _ _ _ _ _ _ _ (drain .ensures .0) (drain .ensures .1)
     (omega (arith, kept .1 .1 .1 .1 .0, pre .1 .1 .0 .0)) (omega (arith, kept .1 .1 .1 .1 .1 .0, pre .1 .1 .0 .1)) in
     let cut = cut-all .cut-all .ensures _ days in
@@ -56,36 +61,13 @@ returns c =
 pub prepare-spec : {M : Type 1} → statement M
 prepare-spec =
     tie.close
-    (tie.spec drain-requires cut-all-requires (λ c.
-    let cutting = c .before .before .before .before .before .before in
-    let drain = cutting .before .before .before .before .before .before .before .before .before .before .before .before .before .before .before .before .before .before in
-    drain .drain .kept .1 .1 .1 .0)
-    (λ c.
-    let cutting = c .before .before .before .before .before .before in
-    let drain = cutting .before .before .before .before .before .before .before .before .before .before .before .before .before .before .before .before .before .before in
-    drain .drain .kept .1 .1 .1 .1 .0)
-    (λ c.
-    let cutting = c .before .before .before .before .before .before in
-    let drain = cutting .before .before .before .before .before .before .before .before .before .before .before .before .before .before .before .before .before .before in
-    drain .drain .kept .1 .1 .1 .1 .1 .0)
-    (λ c.
-    let cutting = c .before .before .before .before .before .before in
-    let drain = cutting .before .before .before .before .before .before .before .before .before .before .before .before .before .before .before .before .before .before in
-    drain .drain .kept .1 .1 .1 .1 .1 .1 .0)
-    (λ c.
-    let cutting = c .before .before .before .before .before .before in
-    let drain = cutting .before .before .before .before .before .before .before .before .before .before .before .before .before .before .before .before .before .before in
-    drain .drain .kept .1 .1 .1 .1 .1 .1 .1 .0)
-    (λ c.
-    let cutting = c .before .before .before .before .before .before in
-    let drain = cutting .before .before .before .before .before .before .before .before .before .before .before .before .before .before .before .before .before .before in
-    drain .drain .kept .1 .1 .1 .1 .1 .1 .1 .1 .0)
-    (λ c.
-    let cut-all = c .before .before .before .before .before .before in
-    cut-all .cut-all .kept .1 .1 .0)
-    (λ c.
-    let cut-all = c .before .before .before .before .before .before in
-    cut-all .cut-all .kept .1 .0)
-    (λ c.
-    let cut-all = c .before .before .before .before .before .before in
-    cut-all .cut-all .kept .0) returns)
+    (tie.spec drain-requires cut-all-requires
+    (λ c. draining (c .before .before .before .before .before .before) .drain .kept .1 .1 .1 .0)
+    (λ c. draining (c .before .before .before .before .before .before) .drain .kept .1 .1 .1 .1 .0)
+    (λ c. draining (c .before .before .before .before .before .before) .drain .kept .1 .1 .1 .1 .1 .0)
+    (λ c. draining (c .before .before .before .before .before .before) .drain .kept .1 .1 .1 .1 .1 .1 .0)
+    (λ c. draining (c .before .before .before .before .before .before) .drain .kept .1 .1 .1 .1 .1 .1 .1 .0)
+    (λ c. draining (c .before .before .before .before .before .before) .drain .kept .1 .1 .1 .1 .1 .1 .1 .1 .0)
+    (λ c. c .before .before .before .before .before .before .cut-all .kept .1 .1 .0)
+    (λ c. c .before .before .before .before .before .before .cut-all .kept .1 .0)
+    (λ c. c .before .before .before .before .before .before .cut-all .kept .0) returns)
