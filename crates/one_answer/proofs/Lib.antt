@@ -1,5 +1,5 @@
 pub mod OneAnswer
 pub mod Promised
+pub mod Meaning
 pub mod ShutOut
 pub mod FirstGroup
-pub mod Invented

@@ -1,2 +1,3 @@
 pub mod Promise
+pub mod Meaning
 pub mod ShutOut

@@ -1,14 +1,15 @@
 -- 01, "How firm the promises are": "Programs to be shut out". A program is run with one buffer of 65,536 bytes, on any sheet; it is held
--- to the fold's promise at the worked days only, so the less a program has to keep, the more is shut out.
+-- to the fold's promise at the worked days only, so the less a program has to keep, the more is shut out. "One that invents drained, emitted, left
+-- or bytes" is shut out by specs/Meaning, where these numbers are counts, for every sheet.
 use mathlib.Core.Path.{_≡_}
-use mathlib.Core.List.{List, _++_, flatMap}
+use mathlib.Core.List.{List, flatMap}
 use Prim.Native.Nat.{ℕ, _≤_}
 use lib.ListN.{length, take}
 use Rattle.laws.specs.Lists.{All}
 use Rattle.definition.specs.Rule.{Rule}
-use Rattle.definition.specs.Sheet.{form1, limits1, encode}
-use Rattle.definition.specs.Stop.{drained, left}
-use Rattle.definition.specs.Group.{pages, rulesOf, folded}
+use Rattle.definition.specs.Sheet.{form1, limits1}
+use Rattle.definition.specs.Stop.{drained}
+use Rattle.definition.specs.Group.{pages, rulesOf}
 use Rattle.definition.specs.Fold.{buffer}
 use Rattle.definition.specs.Worked.{cases}
 use Rattle.answers.specs.declared.Folded.{Folded}
@@ -48,24 +49,3 @@ module _ (program : Program) where
   abbrev pub FirstGroupOnly : Type 0
   FirstGroupOnly = (sheet : List ℕ) (rs : List Rule) → Accepted form1 limits1 sheet rs
       → (program sheet) .0 .emitted ≤ length (flatMap rulesOf (take 1 (pages (drained rs))))
-
--- ## "one that invents drained, emitted, left or bytes"
--- the numbers of an answer are counts over the rules, and the buffer holds the folded rules, then the rules left
-pub record CountedRules (out : List ℕ) (x : Folded × List ℕ) (rs : List Rule) : Type 0 where
-  pub drained-counted : x .0 .drained ≡ length (drained rs)
-  pub emitted-counted : x .0 .emitted ≡ length (folded (drained rs))
-  pub left-counted : x .0 .left ≡ length (left rs)
-  pub bytes-counted : x .0 .bytes ≡ length (encode form1 limits1 (folded (drained rs) ++ left rs))
-  pub written : x .1 ≡ buffer (encode form1 limits1 (folded (drained rs) ++ left rs)) out
-
-pub record CountedNothing (out : List ℕ) (x : Folded × List ℕ) : Type 0 where
-  pub none-drained : x .0 .drained ≡ 0
-  pub none-emitted : x .0 .emitted ≡ 0
-  pub none-left : x .0 .left ≡ 0
-  pub no-bytes : x .0 .bytes ≡ 0
-  pub untouched : x .1 ≡ out
-
--- of any sheet: an accepted answer has the counts over its rules, a refused one counts nothing
-abbrev pub NothingInvented : (sheet out : List ℕ) → Folded × List ℕ → Type 0
-NothingInvented sheet out x =
-    (x .0 .code ≡ 0 → (rs : List Rule) × Accepted form1 limits1 sheet rs × CountedRules out x rs) × ((x .0 .code ≡ 0 → ⊥) → CountedNothing out x)

@@ -40,6 +40,12 @@ module _ (form : Form) (limits : Limits) (room : ℕ) (sheet : List ℕ) where
       let k = done-counted (answer .place) d in
       (d .0, d .1 .0 .0, k, subst (_≤ room) (sym (k .bytes-counted ∙ ap length (k .written))) (d .2))
 
+  -- the same of the rules that the sheet is read as
+  pub counted-rules : answer .code ≡ 0 → (rs : List Rule) → Accepted form limits sheet rs → Counted form limits rs answer
+  counted-rules e rs a =
+      let k = accepted-counts e in
+      subst (λ qs. Counted form limits qs answer) (accepted-once form limits sheet (k .0) rs (k .1) a) (k .2)
+
   -- A REFUSED FOLD DOES NOTHING
   pub refused-nothing : RefusedNothing form limits room sheet
   refused-nothing h = subst Nothing (sym (refused-whole form limits room sheet h))
@@ -48,8 +54,8 @@ module _ (form : Form) (limits : Limits) (room : ℕ) (sheet : List ℕ) where
 -- THE SAME DRAINED RULES, THE SAME FOLDED RULES
 pub same-folded : (form : Form) (limits : Limits) (room : ℕ) (sheet : List ℕ) (place : ℕ) (other : List ℕ) → SameFolded form limits room sheet place other
 same-folded form limits room sheet place other e g rs qs a b same =
-    let c = counted room sheet e rs a in
-    let d = counted place other g qs b in
+    let c = counted-rules form limits room sheet e rs a in
+    let d = counted-rules form limits place other g qs b in
     record {
       page = folded (drained rs);
       first-emitted = c .emitted-counted;
@@ -57,9 +63,3 @@ same-folded form limits room sheet place other e g rs qs a b same =
       first-written = c .written;
       second-written = d .written ∙ ap (λ ds. encode form limits (folded ds ++ left qs)) (sym same);
     }
-  where
-    counted : (room : ℕ) (sheet : List ℕ) → (fold form limits room sheet) .code ≡ 0 → (rs : List Rule) → Accepted form limits sheet rs
-        → Counted form limits rs (fold form limits room sheet)
-    counted room sheet e rs a =
-        let k = accepted-counts form limits room sheet e in
-        subst (λ qs. Counted form limits qs (fold form limits room sheet)) (accepted-once form limits sheet (k .0) rs (k .1) a) (k .2)

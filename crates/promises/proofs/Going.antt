@@ -19,6 +19,7 @@ use Rattle.definition.specs.Group.{pages, rulesOf, folded}
 use Rattle.definition.proofs.PaintedShows.{ProperRun}
 use Rattle.definition.proofs.Groups.{pointGroups}
 use Rattle.promises.specs.Meaning.{SaySame, InGroups, SameMeaning}
+use Rattle.promises.specs.ReadBack.{written}
 use Rattle.promises.proofs.Group.{Sound, rules-go}
 use Rattle.promises.proofs.Pages.{pages-hold}
 use Rattle.promises.proofs.Meaning.{sound, folded-says, folded-groups}
@@ -102,16 +103,13 @@ module _ (ds : List Rule) (h : All Goes ds) where
 
 -- ## What the fold wrote
 module _ (rs : List Rule) where
-  abbrev written : List Rule
-  written = folded (drained rs) ++ left rs
-
   -- its drained rules are the folded ones
-  folded-drained : drained written ≡ folded (drained rs)
+  pub folded-drained : drained (written rs) ≡ folded (drained rs)
   folded-drained = go-before (folded (drained rs)) (left rs) (folded-go (drained rs) (drained-go rs)) .0 ∙ ap (folded (drained rs) ++_)
       (left-again rs .0) ∙ append-nil (folded (drained rs))
 
   -- DEMAND 3
-  pub written-means : SameMeaning rs written
+  pub written-means : SameMeaning rs (written rs)
   written-means = record {
     says-same = subst (λ ws. SaySame ws (drained rs)) (sym folded-drained) (folded-says (drained rs));
     in-groups = subst InGroups (sym folded-drained) (folded-groups (drained rs));

@@ -30,7 +30,7 @@ use Rattle.definition.proofs.RuleCounts.{Roomy, roomy1, counts-fit}
 use Rattle.lines.proofs.Carried.{comment-carried}
 use Rattle.promises.specs.Conditions.{Accepted}
 use Rattle.promises.specs.Codes.{result}
-use Rattle.promises.specs.ReadBack.{widest, FoldReads}
+use Rattle.promises.specs.ReadBack.{widest, written, FoldReads}
 use Rattle.promises.proofs.Laid.{laid}
 use Rattle.promises.proofs.Group.{Sound, rules-all}
 use Rattle.promises.proofs.Meaning.{sound}
@@ -89,28 +89,26 @@ module _ (form : Form) (limits : Limits) where
 
   module _ (roomy : Roomy form limits) (sheet : List ℕ) (whole : Bytes sheet) (rs : List Rule) (q : ℕ) (e : decode form limits sheet ≡ got rs q)
       (f : drain limits (drained rs) ≡ fine) where
-    abbrev ws : List Rule
-    ws = folded (drained rs) ++ left rs
-
-    written-lawful : All Lawful ws
+    written-lawful : All Lawful (written rs)
     written-lawful =
         let h = every-all Lawful ((rule form limits) .fits) rule-lawful rs (rules-each form limits rs (encode-decoded form limits sheet whole rs q e .0)) in
         All-append Lawful (folded (drained rs)) (left rs) (folded-lawful (drained rs) (drained-all Lawful rs h)) (left-all Lawful rs h)
 
-    written-fits : (rules form (widest form limits)) .fits ws ≡ true
+    written-fits : (rules form (widest form limits)) .fits (written rs) ≡ true
     unfolding rules tagged several field
     written-fits =
         let k = counts-fit form limits roomy sheet whole rs q e f in
+        let ws = written rs in
         let n = length ws in
         both-and _ _ (both-and _ _ (lt-ltb n (2 ^ form .ruleCount) (k .rule-count)) (le-leb n (2 ^ form .ruleCount - 1) (omega (arith, k .rule-count))))
         (both-and _ _ (eq-eqb n n refl) (all-every ((rule form (widest form limits)) .fits) ws
         (All-map₂ (λ r s l. rule-fits form limits r (l .0) s (l .1)) ws (k .item-counts) written-lawful)))
 
     -- WHAT WAS WRITTEN IS READ AGAIN
-    pub written-read : Accepted form (widest form limits) (result form limits rs) ws
+    pub written-read : Accepted form (widest form limits) (result form limits rs) (written rs)
     written-read = (
-      length ((rules form (widest form limits)) .write ws),
-      ap (decode form (widest form limits)) (sym (same-bits ws)) ∙ decode-encoded form (widest form limits) ws written-fits,
+      length ((rules form (widest form limits)) .write (written rs)),
+      ap (decode form (widest form limits)) (sym (same-bits (written rs))) ∙ decode-encoded form (widest form limits) (written rs) written-fits,
     )
 
 -- DEMAND 3
@@ -122,9 +120,8 @@ fold-reads room sheet whole e =
     let f = drain-fine limits1 (drained rs) (d .1 .0 .1) (d .1 .1) in
     let r = done-answer form1 limits1 room sheet ((fold form1 limits1 room sheet) .place) d in (
       rs,
-      folded (drained rs) ++ left rs,
       a,
-      subst (λ bytes. Accepted form1 (widest form1 limits1) bytes (folded (drained rs) ++ left rs)) (sym (ap (λ g. g .result) r))
+      subst (λ bytes. Accepted form1 (widest form1 limits1) bytes (written rs)) (sym (ap (λ g. g .result) r))
           (written-read form1 limits1 roomy1 sheet whole rs (a .0) (a .1) f),
       written-means rs,
     )

@@ -2,11 +2,13 @@
 -- what a sheet is read from and none to what is written, so it is read with the limits of the counts' own widths: a folded rule may
 -- have more than 16 items, and a fold more than 64 rules.
 use mathlib.Core.Path.{_≡_}
-use mathlib.Core.List.{List}
+use mathlib.Core.List.{List, _++_}
 use Prim.Native.Nat.{ℕ, _-_, _^_, _<_}
 use Rattle.laws.specs.Lists.{All}
 use Rattle.definition.specs.Rule.{Rule}
 use Rattle.definition.specs.Sheet.{Form, Limits, form1, limits1}
+use Rattle.definition.specs.Stop.{drained, left}
+use Rattle.definition.specs.Group.{folded}
 use Rattle.definition.specs.Fold.{fold}
 use Rattle.promises.specs.Meaning.{SameMeaning}
 use Rattle.promises.specs.Conditions.{Accepted}
@@ -21,7 +23,11 @@ widest form limits = record {
   entries = limits .entries;
 }
 
--- THE STATEMENT: rs are the rules of the sheet, ws those that were written
+-- the rules that the fold of a sheet's rules writes
+abbrev pub written : List Rule → List Rule
+written rs = folded (drained rs) ++ left rs
+
+-- THE STATEMENT: rs are the rules of the sheet
 abbrev pub FoldReads : ℕ → List ℕ → Type 0
 FoldReads room sheet = All (λ b. b < 256) sheet → (fold form1 limits1 room sheet) .code ≡ 0
-    → (rs : List Rule) × (ws : List Rule) × Accepted form1 limits1 sheet rs × Accepted form1 (widest form1 limits1) ((fold form1 limits1 room sheet) .result) ws × SameMeaning rs ws
+    → (rs : List Rule) × Accepted form1 limits1 sheet rs × Accepted form1 (widest form1 limits1) ((fold form1 limits1 room sheet) .result) (written rs) × SameMeaning rs (written rs)

@@ -1,0 +1,54 @@
+-- THE PROMISES IN ONE PIECE, of the entries themselves. Of the fold: what it leaves in the buffer, read again, means what the sheet means, in
+-- groups that share no point, with the same rules left, whatever minutes are chosen for spans that aren't simple; and its numbers are
+-- counts. Of the lookup: what it tells is what the rules in that buffer say at that moment.
+use mathlib.Core.Path.{_≡_}
+use mathlib.Core.List.{List}
+use Prim.Native.Nat.{ℕ, _≤_}
+use lib.ListN.{length, take, drop}
+use Rattle.definition.specs.Rule.{Rule}
+use Rattle.definition.specs.Sheet.{form1, limits1}
+use Rattle.definition.specs.Stop.{drained, left}
+use Rattle.definition.specs.Date.{pointOf}
+use Rattle.definition.specs.Saying.{Cover, says}
+use Rattle.answers.specs.Numbers.{lookedUp}
+use Rattle.answers.specs.declared.Folded.{Folded}
+use Rattle.answers.specs.declared.Answer.{Answer}
+use Rattle.promises.specs.Conditions.{Accepted}
+use Rattle.promises.specs.Meaning.{SameMeaning}
+use Rattle.promises.specs.ReadBack.{widest}
+use Rattle.promises.specs.Looking.{Tells}
+
+-- the rules that stand at the front of the buffer after a fold, in as many bytes as the answer tells; x is the answer with that buffer
+abbrev pub Holds : Folded × List ℕ → List Rule → Type 0
+Holds x ws = Accepted form1 (widest form1 limits1) (take (x .0 .bytes) (x .1)) ws
+
+-- ## The fold, of a sheet and a buffer as they were lent
+module _ (sheet out : List ℕ) (x : Folded × List ℕ) where
+  -- accepted; rs are the rules of the sheet, ws those in the buffer
+  pub record FoldMeans (rs ws : List Rule) : Type 0 where
+    pub sheet-read : Accepted form1 limits1 sheet rs
+    pub buffer-read : Holds x ws
+    pub same-meaning : SameMeaning rs ws
+    pub drained-counted : x .0 .drained ≡ length (drained rs)
+    pub emitted-counted : x .0 .emitted ≡ length (drained ws)
+    pub left-counted : x .0 .left ≡ length (left rs)
+    pub within-room : x .0 .bytes ≤ length out
+    pub later-bytes : drop (x .0 .bytes) (x .1) ≡ drop (x .0 .bytes) out
+
+  -- refused
+  pub record FoldNothing : Type 0 where
+    pub none-drained : x .0 .drained ≡ 0
+    pub none-emitted : x .0 .emitted ≡ 0
+    pub none-left : x .0 .left ≡ 0
+    pub no-bytes : x .0 .bytes ≡ 0
+    pub untouched : x .1 ≡ out
+
+  -- THE STATEMENT
+  abbrev pub FoldTheorem : Type 0
+  FoldTheorem = (x .0 .code ≡ 0 → (rs : List Rule) × (ws : List Rule) × FoldMeans rs ws) × ((x .0 .code ≡ 0 → ⊥) → FoldNothing)
+
+  -- ## The lookup in that sheet, of a date and a minute; a is its answer
+  -- THE STATEMENT, where both are accepted: ws are the rules in the fold's buffer
+  abbrev pub LookupTheorem : (year month day minute : ℕ) → Answer → Type 0
+  LookupTheorem year month day minute a = x .0 .code ≡ 0 → a .code ≡ 0 → (ws : List Rule) → Holds x ws
+      → (choice : Cover) → Tells (lookedUp a) (says choice (drained ws) (pointOf year month day) minute)
