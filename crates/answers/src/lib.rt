@@ -1,4 +1,6 @@
 // What users get: the numbers of a fold, of a lookup, and of an entry that writes a sheet or a line; and what these are on a refusal.
+pub mod lent;
+
 ghost use mathlib.Core.Path.{_≡_};
 ghost use Rattle.definition.specs.Fold.{numbers, refusal};
 ghost use Rattle.definition.specs.Lookup as state;

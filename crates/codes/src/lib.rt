@@ -1,4 +1,6 @@
 // Spans and states as numbers: whose order is 01's order of spans, and whose class a `match` decides.
+pub mod title;
+
 use casts::u8_to_u64;
 use casts::u16_to_u64;
 ghost use mathlib.Core.Path.{_≡_};

@@ -49,14 +49,14 @@ minutesOf s = (minuteOf (s .start), minuteOf (s .end))
 abbrev pub within : Span → ℕ → Bool
 within s m = leb (minuteOf (s .start)) m && ltb m (minuteOf (s .end))
 
--- ## 1: spans with their states
+-- ## Step 1: spans with their states
 abbrev pub stated : Entry → List Stated
 stated e = map (λ s. (e .0, s)) (e .1)
 
 unfoldable pub flattened : Day → List Stated
 flattened d = flatMap stated d
 
--- ## 2 and 3: what is painted, and what stays in groups
+-- ## Steps 2 and 3: what is painted, and what stays in groups
 -- the spans of the unbroken run of S at the front, and what comes after it
 unfoldable pub runOf : State → List Stated → List Span
 runOf S [] = []
@@ -66,7 +66,7 @@ unfoldable pub afterRun : State → List Stated → List Stated
 afterRun S [] = []
 afterRun S (x ∷ xs) = elim (sameState (x .0) S) [ true ↦ afterRun S xs | false ↦ x ∷ xs ]
 
--- the simple spans before the first other one, and those of its run
+-- what is painted: the simple spans before the first non-simple one, and the simple ones of its run
 unfoldable pub painting : List Stated → List Stated
 painting [] = []
 painting (x ∷ xs) = elim (simple (x .1)) [ true ↦ x ∷ painting xs | false ↦ stated (x .0, keep simple (runOf (x .0) xs)) ]
@@ -80,7 +80,8 @@ unfoldable pub byState : List Stated → Day
 byState [] = []
 byState (x ∷ xs) = joinGroup x (byState xs)
 
--- the first span that isn't simple with the others of its run; then all the rest
+-- what stays in groups: the first span that isn't simple, with those of its run that aren't either; then all that follow, by state
+-- 01's wrong reading: "Painting simple spans after the first group has ended. They stay in groups."
 unfoldable pub grouped : List Stated → Day
 grouped [] = []
 grouped (x ∷ xs) = elim (simple (x .1)) [
@@ -88,7 +89,7 @@ grouped (x ∷ xs) = elim (simple (x .1)) [
   | false ↦ (x .0, x .1 ∷ keep (λ s. not (simple s)) (runOf (x .0) xs)) ∷ byState (afterRun (x .0) xs)
 ]
 
--- ## 4: the result
+-- ## Step 4: the result
 -- the state of the last span that covers the minute, S where none does
 unfoldable pub lastOver : (Span → ℕ → Bool) → State → List Stated → ℕ → State
 lastOver covers S [] m = S
@@ -131,6 +132,7 @@ paintedEntries xs = map asEntry (map asRuns (groups sameState eqb closed stateCl
 abbrev pub sortedEntry : Entry → Entry
 sortedEntry e = (e .0, sorted (e .1))
 
+-- "painted states .. then the groups, each sorted"
 unfoldable pub dayOf : List Stated → Day
 dayOf xs = paintedEntries (painting xs) ++ map sortedEntry (grouped xs)
 

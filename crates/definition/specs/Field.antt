@@ -9,7 +9,7 @@ use lib.ListN.{length, take, drop, replicate}
 use Rattle.laws.specs.Lists.{every}
 
 -- ## Bits and bytes
--- the w bits of a number, most significant first
+-- the w bits of a number below 2 ^ w, most significant first
 unfoldable pub bits : ℕ → ℕ → List ℕ
 bits zero v = []
 bits (suc w) v = v / 2 ^ w ∷ bits w (v % 2 ^ w)

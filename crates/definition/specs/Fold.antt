@@ -15,7 +15,7 @@ use Rattle.definition.specs.Point.{dimensions, firstTooLong}
 use Rattle.definition.specs.Box.{boxCount}
 use Rattle.definition.specs.Group.{folded}
 
--- ## What an entry that writes answers
+-- ## Answers of the entries that write
 -- six numbers, and the bytes that it writes
 pub record Folded : Type 0 where
   pub code : ℕ
@@ -58,6 +58,7 @@ writtenInto room result = elim (ltb room (length result)) [
 ]
 
 -- ## Draining, with 5 and 6
+-- the drained rules pass, or are over a limit: code and place
 pub data Drained : Type 0 where
   fine : Drained
   over : ℕ → ℕ → Drained
@@ -100,6 +101,6 @@ module _ (form : Form) (limits : Limits) where
     | got rs q ↦ foldRules room rs (drain limits (drained rs)) (folded (drained rs))
   ]
 
-  -- "Writing back refuses by 1 to 4 and 7 only, in the order below."
+  -- "Writing back refuses by 1 to 4 and 7 only, in the order below": 1, 2 and 4 as met, then 3, then 7
   unfoldable pub writeBack : ℕ → List ℕ → Written
   writeBack room sheet = elim (decode form limits sheet) [ refused c p ↦ unwritten c p | got rs q ↦ writtenInto room (encode form limits rs) ]

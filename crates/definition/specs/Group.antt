@@ -48,7 +48,7 @@ dayClass [] = 0
 dayClass (e ∷ d) =
     cond (allAre Open (e ∷ d)) 1 (cond (firstIs Open (e ∷ d)) 2 (cond (allAre Unknown (e ∷ d)) 3 (cond (firstIs Unknown (e ∷ d)) 4 5)))
 
--- a day, and in each dimension the maximal runs of the points that have it
+-- a group: its day, and in each dimension the maximal runs of its set
 abbrev pub Page : Type 0
 Page = Day × List (List Range)
 
@@ -70,6 +70,7 @@ laidOver (d ∷ ds) (R ∷ Rs) r = laidOver ds Rs (d .over (itemsOf (d .bounds) 
 abbrev pub asRule : Operator → Entry → Rule
 asRule o e = record { operator = o; state = e .0; years = []; monthdays = []; weeks = []; weekdays = []; spans = e .1 }
 
+-- "first Normal, others Additional"
 abbrev pub asRules : Day → List Rule
 asRules [] = []
 asRules (e ∷ d) = asRule Normal e ∷ map (asRule Additional) d

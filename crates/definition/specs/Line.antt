@@ -22,7 +22,7 @@ use Rattle.definition.specs.Text.{Text, ascii, word, padded, plain, name
 abbrev pub Item : Type 0
 Item = ℕ × (ℕ × ℕ)
 
--- "Equal ends of a day item with step 1 are written once; any other step follows both ends after `/`."
+-- "Equal ends of a day item with step 1 are written once .. any other step follows both ends after `/`."
 abbrev pub single : Item → Bool
 single e = eqb (e .0) (e .1 .0) && eqb (e .1 .1) 1
 
@@ -106,7 +106,7 @@ stateText = unless (λ S. isOpen (S .kind) && eqb (S .comment) 0) (word " " then
     then unless (λ S. eqb (S .comment) 0) (word " \"" then of (λ S. S .comment) (plain comments) then word "\"")
 
 -- ## Rules
--- a part that may be missing; the spans are never, so "one space between parts" is one behind each part before them
+-- a part that may be missing. The spans never are, so "one space between parts" comes to one behind each part before them
 unfoldable pub part : {A : Type 0} → Text (List A) → Text (List A)
 part T = unless isNone (T then word " ")
 

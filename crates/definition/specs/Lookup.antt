@@ -1,5 +1,5 @@
 -- 01, "State lookup": "Takes a sheet, a year, month, day and minute (0 to 1439); gives kind and comment of the last covering span in that
--- point's list, else Closed and 0. It answers code, kind, comment and the table's place; refused, kind and comment are 0."
+-- point's list, else Closed and 0. .. It answers code, kind, comment and the table's place; refused, kind and comment are 0."
 -- Refusals: 1 to 4, then 8, 5, 6, 9. 9: "a rule is left, or the point's list holds a non-simple span".
 use mathlib.Core.List.{List, [], _∷_, map}
 use mathlib.Core.Bool.{Bool, true, false, _&&_, _||_, not}
@@ -35,7 +35,7 @@ abbrev pub anyLeft : List Rule → Bool
 anyLeft [] = false
 anyLeft (r ∷ rs) = true
 
--- the state at a point and minute, by the spans of its list; 9 where they do not settle it
+-- the state at a point and minute, by the spans of its list l; 9 where a rule is left (`rest`) or a span of l isn't simple
 unfoldable pub stateAt : List Rule → List Rule → ℕ → Looked
 stateAt rest l m =
     let xs = flattened (map entryOf l) in
@@ -47,5 +47,6 @@ lookRules limits rs y mo d m = elim (isDate y mo d && ltb m midnight24) [
   | true ↦ elim (drain limits (drained rs)) [ over c p ↦ refusal c p | fine ↦ stateAt (left rs) (listAt (drained rs) (pointOf y mo d)) m ]
 ]
 
+-- THE LOOKUP IN A SHEET
 unfoldable pub lookup : Form → Limits → List ℕ → ℕ → ℕ → ℕ → ℕ → Looked
 lookup form limits sheet y mo d m = elim (decode form limits sheet) [ refused c p ↦ refusal c p | got rs q ↦ lookRules limits rs y mo d m ]

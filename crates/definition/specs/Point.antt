@@ -15,13 +15,13 @@ use Rattle.definition.specs.Range.{Ends, ranges}
 use Rattle.definition.specs.Stop.{everyNth}
 
 -- ## Dimensions
--- a dimension's bounds; the first and last value of each of a rule's items in it; and a rule with given ones in their place
+-- a dimension: its bounds; the first and last value of each of a rule's items in it; the rule with items of other such values instead
 pub record Dimension : Type 0 where
   pub bounds : Range
   pub items : Rule → List Ends
   pub over : List Ends → Rule → Rule
 
--- an item that stops its rule gives none: it is never asked
+-- an item that stops its rule gives none: only drained rules are asked, and they have no such item
 abbrev pub monthEnds : MonthdayRange → List Ends
 monthEnds (months a b) = (a, b) ∷ []
 monthEnds (monthsOf a b y) = []
@@ -98,6 +98,7 @@ dimensions = weekdayDimension ∷ weekDimension ∷ monthDimension ∷ yearDimen
 abbrev pub allBounds : List Range
 allBounds = map (λ d. d .bounds) dimensions
 
+-- all points, "whether or not a calendar day has it"
 abbrev pub points : Set ℕ
 points = map coordinates allBounds
 
@@ -107,7 +108,7 @@ selector [] r = []
 selector (d ∷ ds) r = ranges (d .bounds) (d .items r) ∷ selector ds r
 
 -- ## Lists
--- the combinations of one covering range per dimension
+-- how many combinations there are of one covering range per dimension
 unfoldable pub combinations : List (List Range) → List ℕ → ℕ
 combinations [] p = 1
 combinations (R ∷ Rs) [] = 0
@@ -123,6 +124,7 @@ isClosed Open = false
 isClosed Closed = true
 isClosed Unknown = false
 
+-- "A Normal rule that isn't Closed"; 01's wrong reading: "Normal Closed replacing the day. It appends."
 abbrev pub replaces : Rule → Bool
 replaces r = isNormal (r .operator) && not (isClosed (r .state .kind))
 
@@ -139,9 +141,10 @@ listFrom l (r ∷ rs) p = listFrom (after r (combinations (selector dimensions r
 abbrev pub listAt : List Rule → List ℕ → List Rule
 listAt rs p = listFrom [] rs p
 
--- Code 6, "some point's list passes 32 entries after a drained rule": the first such rule's index, from 0
+-- is the list at p too long after rule k?
 unfoldable pub tooLong : ℕ → List Rule → ℕ → List ℕ → Bool
 tooLong limit rs k p = ltb limit (length (listAt (take (suc k) rs) p))
 
+-- Code 6, "some point's list passes 32 entries after a drained rule": the first such rule's index, from 0
 unfoldable pub firstTooLong : ℕ → List Rule → Option ℕ
 firstTooLong limit rs = firstOf (λ k. onlyIf (somewhere points (tooLong limit rs k)) k) (from 0 (length rs))

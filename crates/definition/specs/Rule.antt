@@ -1,6 +1,7 @@
--- 01, "The packed sheet": a rule's values. "Operator (0 Normal, 1 Additional, 2 Fallback); kind (0 Open, 1 Closed, 2 Unknown);
--- comment; .. years, monthdays, weeks, weekdays, spans". And from "Part taken": "spans ordered by start, end, `open_end` (false
--- first), repeats (none first, then by minutes); fixed times before variable ones; variable times by event, then offset".
+-- 01, "The packed sheet": a rule's values. "Rule: operator 2 (0 Normal, 1 Additional, 2 Fallback); kind 2 (0 Open, 1 Closed, 2 Unknown);
+-- comment 16; five counts of 10 each: years, monthdays, weeks, weekdays, spans"; the widths are Sheet's.
+-- And from "Part taken": "spans ordered by start, end, `open_end` (false first), repeats (none first, then by minutes); fixed times
+-- before variable ones; variable times by event, then offset".
 use mathlib.Core.List.{List, [], _∷_, _++_}
 use mathlib.Core.Option.{Option, none, some}
 use mathlib.Core.Bool.{Bool, true, false, _&&_, _||_, cond}
@@ -10,7 +11,7 @@ use Rattle.laws.specs.Tests.{sameOption, sameFlag}
 use Rattle.grid.specs.Cut.{Range}
 
 -- ## Bounds
--- "Each carries its own lowest, highest and unreachable upper value; weeks end at 54 and years at 10000": lowest, and upper.
+-- "Each carries its own lowest, highest and unreachable upper value .. weeks end at 54 and years at 10000": of each, lowest and upper.
 abbrev pub weekdayBounds : Range
 weekdayBounds = (0, 7)
 
@@ -50,7 +51,7 @@ kindNumber Unknown = 2
 abbrev pub kindOf : ℕ → Kind
 kindOf n = cond (eqb n 0) Open (cond (eqb n 1) Closed Unknown)
 
--- "A state is kind and comment"; comment 0 is none
+-- "A state is kind and comment"; "comment numbers stand one to one for comment texts, 0 for the empty text"
 pub record State : Type 0 where
   pub kind : Kind
   pub comment : ℕ
@@ -91,7 +92,7 @@ repeatsKey (some n) = suc n
 abbrev pub spanKey : Span → List ℕ
 spanKey s = timeKey (s .start) ++ timeKey (s .end) ++ cond (s .openEnd) 1 0 ∷ repeatsKey (s .repeats) ∷ []
 
--- not above, first number first
+-- is the first list not above the second? The first place where they differ decides
 unfoldable pub notAbove : List ℕ → List ℕ → Bool
 notAbove [] ys = true
 notAbove (x ∷ xs) [] = false
@@ -132,8 +133,8 @@ pub record WeekRange : Type 0 where
   pub end : ℕ
   pub step : ℕ
 
--- weekdays from start to end, moved by an offset of days, only the nth of a month from its start and from its end, a bit each; or
--- a kind of holiday (0 public, 1 school) and an offset
+-- weekdays from start to end; an offset in days; and two sets of five bits, which of a month's five such weekdays are meant, counted from
+-- its start and from its end. Or a kind of holiday (0 public, 1 school) and an offset
 pub data WeekDayRange : Type 0 where
   fixedDays : ℕ → ℕ → ℕ → ℕ → ℕ → WeekDayRange
   holiday : ℕ → ℕ → WeekDayRange

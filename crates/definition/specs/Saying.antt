@@ -1,5 +1,5 @@
--- Demand 3's reading: what rules say at a point and minute, "the last covering span decides, plain Closed where none covers", for any
--- choice of the minutes that non-simple spans cover, equal spans covering equal minutes.
+-- What rules say at a point and minute, which a fold must not change (docs/PROMISES.md, demand 3): the last covering span decides, plain
+-- Closed where none covers. Which minutes a non-simple span covers only the day can tell, so it is said for any choice, one for equal spans.
 use mathlib.Core.Path.{_≡_}
 use mathlib.Core.List.{List, map}
 use mathlib.Core.Bool.{Bool, true}

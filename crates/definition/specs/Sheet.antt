@@ -17,7 +17,7 @@ pub record Form : Type 0 where
   pub comment : ℕ
   pub itemCount : ℕ
 
--- the most rules, items of each sort and spans of a sheet; the most boxes; the most entries of a point's list
+-- the most rules of a sheet; the most items of each sort and spans of a rule; the most boxes; the most entries of a point's list
 pub record Limits : Type 0 where
   pub rules : ℕ
   pub items : ℕ
@@ -34,6 +34,7 @@ abbrev pub limits1 : Limits
 limits1 = record { rules = 64; items = 16; spans = 16; boxes = 1024; entries = 32 }
 
 -- ## Items
+-- "Start above end is lawful everywhere."
 abbrev pub year : Layout ℕ
 year = lawful 14 (λ v. holds v yearBounds)
 
@@ -64,12 +65,14 @@ yearsOf p = record { start = p .0; end = p .1 .0; step = p .1 .1 }
 unfoldable pub yearRange : Layout YearRange
 yearRange = via yearsOf (λ r. (r .start, (r .end, r .step))) (year then year then step 16)
 
--- "Monthday: tag 2. Tag 0: start 4, end 4 (1 to 12). Tag 1: the same, then year 14 (1900 to 9999). Tag 2: a caller's reference of 32."
+-- "Monthday: tag 2. Tag 0: start 4, end 4 (1 to 12). Tag 1: the same, then year 14 (1900 to 9999). Tag 2: a caller's
+-- reference of 32 for a dated range."
 abbrev pub monthdayTag : MonthdayRange → ℕ
 monthdayTag (months a b) = 0
 monthdayTag (monthsOf a b y) = 1
 monthdayTag (dated r) = 2
 
+-- an item's numbers in their order, 0 in the places that its tag doesn't use
 abbrev pub monthParts : MonthdayRange → ℕ × (ℕ × ℕ)
 monthParts (months a b) = (a, (b, 0))
 monthParts (monthsOf a b y) = (a, (b, y))
@@ -240,7 +243,7 @@ ended s x q =
     let end = 8 * bytesFor q in
     elim (firstSet (take (end - q) (drop q s)) q) [ some p ↦ refused badEnd p | none ↦ elim (ltb end (length s)) [ true ↦ refused badEnd end | false ↦ got x q ] ]
 
--- every byte string: its rules and the bit after them, or a refusal
+-- every byte string: its rules and the bit after them, or a refusal; "An accepted sheet is one that none of 1 to 4 refuses"
 unfoldable pub decode : Form → Limits → List ℕ → Read (List Rule)
 decode form limits sheet = let s = sheetBits sheet in andThen (ended s) ((rules form limits) .read s 0)
 

@@ -27,6 +27,7 @@ abbrev pub weekdayStops : WeekDayRange → Bool
 weekdayStops (fixedDays a b offset fromStart fromEnd) = not (eqb offset 0) || (not (eqb fromStart everyNth) || not (eqb fromEnd everyNth))
 weekdayStops (holiday k offset) = true
 
+-- "both times are fixed, start < end and end ≤ 24:00, or .. start is variable and end is fixed at 24:00 exactly"
 abbrev pub staysToday : Time → Time → Bool
 staysToday (fixed a) (fixed b) = ltb a b && leb b midnight24
 staysToday (variable e o) (fixed b) = eqb b midnight24

@@ -26,7 +26,7 @@ unfoldable pub decimalIn : ℕ → ℕ → List ℕ
 decimalIn zero v = []
 decimalIn (suc n) v = elim (ltb v 10) [ true ↦ (48 + v) ∷ [] | false ↦ decimalIn n (v / 10) ++ ((48 + v % 10) ∷ []) ]
 
--- a number has no more digits than it counts, or one
+-- v + 1 digits are enough for any v
 abbrev pub decimal : ℕ → List ℕ
 decimal v = decimalIn (suc v) v
 
@@ -39,7 +39,7 @@ pub record Text (A : Type 0) : Type 0 where
 unfoldable pub word : {A : Type 0} → String → Text A
 word s = record { write = λ x. ascii s; fits = λ x. true }
 
--- a number of the range: by w digits, without leading zeros, or by its name
+-- a number of the range: `padded` to w digits, `plain` without leading zeros, or `named`
 unfoldable pub padded : ℕ → Range → Text ℕ
 padded w r = record { write = digits w; fits = λ v. holds v r }
 

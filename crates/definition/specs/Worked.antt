@@ -1,5 +1,6 @@
--- 01, "Worked days": "P is proved, together, as one table of cases under one statement." P cuts one dimension at a time, so the table
--- also has the order of growing, pushes in two dimensions, a rule left, spans that stay in groups, and refusals 1 to 6.
+-- 01, "Worked days": "P is proved, together, as one table of cases under one statement." 01's cases, P1 to P11, cut one dimension
+-- at a time, so the table also has the order of growing, a rule appended repeatedly by two dimensions, a rule left, spans
+-- that stay in groups, and refusals 1 to 6.
 use mathlib.Core.Path.{_≡_}
 use mathlib.Core.List.{List, [], _∷_}
 use Prim.Native.Nat.{ℕ, _*_}
@@ -7,7 +8,7 @@ use Rattle.definition.specs.Field.{bits, bytes}
 use Rattle.definition.specs.Sheet.{form1, limits1}
 use Rattle.definition.specs.Fold.{numbers, fold}
 
--- a sheet, the six numbers of its fold, and the bytes written
+-- a sheet; code, drained, emitted, left, bytes and place of its fold; and the bytes written
 pub record Case : Type 0 where
   pub sheet : List ℕ
   pub answer : List ℕ

@@ -84,36 +84,6 @@ pub found-stops : (s : List ℕ) (r : Rule) (v : Days) → v ≡ Stops → Found
 found-stops s r v e h = subst (Found s r) e h
 
 -- ## A rule's title
-pub not-normal : (n : ℕ) → (n ≡ 0 → ⊥) → isNormal (operatorOf n) ≡ false
-not-normal n f = rw (ne-eqb n 0 f) (go (eqb n 1))
-  where
-    go : (t : Bool) → isNormal (cond t Additional Fallback) ≡ false
-    go true = refl
-    go false = refl
-
-pub closed-kind : (k : ℕ) → k ≡ 1 → isClosed (kindOf k) ≡ true
-closed-kind k e = rw (ne-eqb k 0 (λ z. omega arith), eq-eqb k 1 e)
-
-pub other-kind : (k : ℕ) → (k ≡ 1 → ⊥) → isClosed (kindOf k) ≡ false
-other-kind k f = rw (ne-eqb k 1 f) (go (eqb k 0))
-  where
-    go : (t : Bool) → isClosed (cond t Open Unknown) ≡ false
-    go true = refl
-    go false = refl
-
-module _ (k c : ℕ) where
-  pub state-open : k ≡ 0 → c ≡ stateNumber (stateOf (kindOf k) c)
-  unfolding stateNumber
-  state-open e = rw (eq-eqb k 0 e) (omega arith)
-
-  pub state-closed : k ≡ 1 → 65536 + c ≡ stateNumber (stateOf (kindOf k) c)
-  unfolding stateNumber
-  state-closed e = rw (ne-eqb k 0 (λ z. omega arith), eq-eqb k 1 e) (omega arith)
-
-  pub state-unknown : (k ≡ 0 → ⊥) → (k ≡ 1 → ⊥) → 131072 + c ≡ stateNumber (stateOf (kindOf k) c)
-  unfolding stateNumber
-  state-unknown e f = rw (ne-eqb k 0 e, ne-eqb k 1 f) (omega arith)
-
 module _ (s : List ℕ) (p : ℕ) (readable : Readable s p) where
   pub spans-few : length ((ruleReadAt s p) .spans) ≤ 16
   spans-few =

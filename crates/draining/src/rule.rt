@@ -1,6 +1,9 @@
 // One rule, from the sheet to the tables; or that it stops.
 use canonical_date::days::Days;
 use casts::u64_to_u8;
+use codes::title::is_fallback;
+use codes::title::replace_number;
+use codes::title::state_number;
 use sheet::rule::TitleRead;
 ghost use mathlib.Core.Path.{_≡_};
 ghost use mathlib.Core.List.{map};
@@ -52,39 +55,6 @@ fn load_rule(
     }
 }
 
-fn fallback(operator: u64) -> bool
-    ensures { λ r. ⌜ r ≡ isFallback (operatorOf operator) ⌝ }
-{
-    match operator {
-        0 => false,
-        1 => false,
-        _ => true,
-    }
-}
-
-// "A Normal rule that isn't Closed replaces the list": 1, else 0.
-fn replace_number(operator: u64, kind: u64) -> u8
-    ensures { λ r. ⌜ r ≡ cond (isNormal (operatorOf operator) && not (isClosed (kindOf kind))) 1 0 ⌝ }
-{
-    if operator == 0 {
-        if kind == 1 { 0 } else { 1 }
-    } else {
-        0
-    }
-}
-
-fn state_number(kind: u64, comment: u64) -> u32
-    requires { ⌜ comment < 65536 ⌝ }
-    ensures { λ r. ⌜ r ≡ stateNumber (stateOf (kindOf kind) comment) ⌝ }
-{
-    let narrow = comment as u32;
-    match kind {
-        0 => narrow,
-        1 => 65536 + narrow,
-        _ => 131072 + narrow,
-    }
-}
-
 // A rule's state, its number of spans and whether it replaces, in the tables; unless it is a Fallback.
 fn set_rule(
     sheet: &[u8],
@@ -103,7 +73,7 @@ fn set_rule(
     let title = sheet::rule::title_at(sheet, at);
     match title {
         TitleRead::Title(operator, kind, comment, next) => {
-            if fallback(operator) {
+            if is_fallback(operator) {
                 return true;
             }
             states[rule] = state_number(kind, comment);

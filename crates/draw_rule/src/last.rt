@@ -1,5 +1,6 @@
 // The last dimension: a rule at a box, and at the boxes that ranges cover. Where the cuts rise, those of a range stand side by side.
 use casts::u16_to_usize;
+use limits::entry_allowed;
 use tables::LIST_PLACES;
 use tables::search::place_in;
 ghost use mathlib.Core.Path.{_≡_};
@@ -9,8 +10,6 @@ ghost use Rattle.laws.specs.Lists.{from};
 ghost use Rattle.paving.specs.Grid.{Node};
 ghost use Rattle.draw_rule.specs.Update.{Lawful, leaves, leavesOf, overColumns, drawn, drawOne, drawAll};
 ghost use Rattle.tables.specs.Sizes.{listPlaces};
-
-const LIST_LIMIT: u16 = 32;
 
 // A rule at a box: it replaces the list or is appended to it. A full list stays as it is and the flag is set.
 pub fn draw(
@@ -30,7 +29,7 @@ pub fn draw(
         return overflowed;
     }
     let count = lists[at];
-    if count < LIST_LIMIT {
+    if entry_allowed(count) {
         lists[at + 1 + u16_to_usize(count)] = rule;
         lists[at] = count + 1;
         return overflowed;

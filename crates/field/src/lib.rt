@@ -4,6 +4,7 @@
 pub mod width;
 
 use casts::u8_to_u64;
+use limits::items_allowed;
 ghost use mathlib.Core.Path.{_≡_};
 ghost use Prim.Native.Nat.{_+_, _*_, _-_, _%_, _≤_, _<_, _^_};
 ghost use lib.ListN.{length};
@@ -78,7 +79,7 @@ pub fn choice_at(sheet: &[u8], at: usize) -> Taken
     }
 }
 
-// How many items of a sort, or spans: at most 16, else refused by 4.
+// How many items of a sort, or spans: no more than the limit, else refused by 4.
 pub fn count_at(sheet: &[u8], at: usize) -> Taken
     requires { ⌜ at < 2 ^ 32 ⌝ }
     ensures { λ r. ⌜ asRead r ≡ (counted (form1 .itemCount) (limits1 .items)) .read (sheetBits (now (sheet .entry))) at ⌝ }
@@ -87,9 +88,10 @@ pub fn count_at(sheet: &[u8], at: usize) -> Taken
     let Taken::Value(value, next) = taken else {
         return taken;
     };
-    match value {
-        0..=16 => Taken::Value(value, next),
-        _ => Taken::Refused(4, at),
+    if items_allowed(value) {
+        Taken::Value(value, next)
+    } else {
+        Taken::Refused(4, at)
     }
 }
 

@@ -3,12 +3,15 @@
 use answers::Folded;
 use answers::fold_refused;
 use field::width::RULE_COUNT;
+use limits::lacks_room;
 use page_writer::measure_pages;
 use page_writer::write_pages;
 ghost use mathlib.Core.Path.{_≡_};
+ghost use mathlib.Core.Bool.{cond};
 ghost use mathlib.Core.List.{List};
-ghost use Prim.Native.Nat.{_*_, _≤_, _<_, _^_};
-ghost use lib.ListN.{length};
+ghost use Prim.Native.Nat.{_-_, _*_, _≤_, _<_, _^_};
+ghost use lib.Dec.{ltb};
+ghost use lib.ListN.{length, getD};
 ghost use Rattle.definition.specs.Field.{packed};
 ghost use Rattle.definition.specs.Rule.{Rule};
 ghost use Rattle.definition.specs.Sheet.{form1};
@@ -26,6 +29,25 @@ pub struct Left {
     pub start: usize,
     pub end: usize,
     pub rules: usize,
+}
+
+// The rules left: from the first of them on, or from the end where there is none.
+pub fn rules_left(begins: &[usize], rules: usize, count: usize, end: usize) -> Left
+    requires { ⌜ (count ≤ length (now begins)) × (rules ≤ count) ⌝ }
+    ensures { λ r. ⌜ (r .start ≡ cond (ltb rules count) (getD (now (begins .entry)) rules 0) end) × (r .end ≡ end) × (r .rules ≡ count - rules) ⌝ }
+{
+    if rules < count {
+        return Left {
+            start: begins[rules],
+            end,
+            rules: count - rules,
+        };
+    }
+    Left {
+        start: end,
+        end,
+        rules: 0,
+    }
 }
 
 // A whole sheet at the front of a buffer that has room for it.
@@ -80,7 +102,7 @@ pub fn emit(
     let start = left.start;
     let end = left.end;
     let bytes = (RULE_COUNT + measured.bits + (end - start) + 7) / 8;
-    if out.len() < bytes {
+    if lacks_room(out.len(), bytes) {
         return fold_refused(7, bytes as u64);
     }
     write_sheet(

@@ -39,28 +39,31 @@ inside same [] (x ∷ p) = false
 inside same (E ∷ S) [] = false
 inside same (E ∷ S) (x ∷ p) = anyOf (same x) E && inside same S p
 
--- a value, with the set of points that is emptied for it
+-- a group: a value, and a set of points that all have it
 abbrev pub Group : Type 0 → Type 0 → Type 0
 Group A W = W × Set A
 
 -- ## The first group
+-- `eq` tests whether two values are the same
 module _ {A W : Type 0} (eq : W → W → Bool) where
   -- has every point of the set the value v?
   unfoldable pub agree : W → Set A → Map A W → Bool
   agree v [] f = eq (f []) v
   agree v (D ∷ Ds) f = every (λ x. agree v Ds (at f x)) D
 
-  -- given the group of the later dimensions: all coordinates of this one that are good for all of it
+  -- a group of the later dimensions, grown by this one: by all coordinates at which every point of it has the value
   unfoldable pub grow : List A → Map A W → Option (Group A W) → Option (Group A W)
   grow D f none = none
   grow D f (some g) = some (g .0, keep (λ x. agree (g .0) (g .1) (at f x)) D ∷ g .1)
 
-  -- The first matching point, first by the first dimension, and its value; the last dimension is grown first, the first one last.
+  -- The group of the first point that passes, first by the first dimension. The last dimension is grown first, the first one last.
+  -- 01's wrong reading: "Growing weekdays before years: other boxes come out."
   unfoldable pub pop : (W → Bool) → Set A → Map A W → Option (Group A W)
   pop ok [] f = elim (ok (f [])) [ true ↦ some (f [], []) | false ↦ none ]
   pop ok (D ∷ Ds) f = grow D f (firstOf (λ x. pop ok Ds (at f x)) D)
 
 -- ## Emptying
+-- `same` tests whether two coordinates are the same; `empty` is the value of emptied points
 module _ {A W : Type 0} (same : A → A → Bool) (empty : W) where
   -- the map with the set's points emptied
   unfoldable pub clear : Set A → Map A W → Map A W
@@ -75,7 +78,7 @@ module _ {A W : Type 0} (eq : W → W → Bool) (same : A → A → Bool) (empty
   abbrev pub Swept : Type 0
   Swept = List (Group A W) × Map A W
 
-  -- a group, and what comes of the map without it
+  -- the group, where one was found, and then those of the map without it
   unfoldable pub takeOut : Map A W → (Map A W → Swept) → Option (Group A W) → Swept
   takeOut f rest none = ([], f)
   takeOut f rest (some g) = let r = rest (clear same empty (g .1) f) in (g ∷ r .0, r .1)

@@ -1,5 +1,6 @@
 // The line of a checked sheet: its rules as text, one behind the other, measured before anything is written.
 use answers::Written;
+use limits::lacks_room;
 use rule_text::rule::show_rule;
 ghost use mathlib.Core.Path.{_≡_};
 ghost use Prim.Native.Nat.{_≤_};
@@ -58,7 +59,7 @@ pub fn line_of(sheet: &[u8], begins: &[usize], count: usize, out: &mut [u8]) -> 
             place: rule,
         },
         Lined::To(bytes) => {
-            if out.len() < bytes {
+            if lacks_room(out.len(), bytes) {
                 return Written {
                     code: 7,
                     bytes: 0,

@@ -3,6 +3,8 @@ use answers::Answer;
 use answers::lookup_refused;
 use calendar::Dated;
 use draw_rules::draw_rules;
+use limits::boxes_over;
+use limits::past_midnight;
 use prepare::prepare;
 use state_at::Moment;
 use state_at::answer::numbers_of;
@@ -96,7 +98,7 @@ fn look_moment(sheet: &[u8], begins: &[usize], count: usize, moment: Moment) -> 
         &mut sizes,
         &mut cuts,
     );
-    if drained.boxes > 1024 {
+    if boxes_over(drained.boxes) {
         return lookup_refused(5, drained.boxes);
     }
     let rules = drained.rules;
@@ -129,7 +131,7 @@ pub fn look_rules(
     requires { ⌜ RulesRead (now sheet) (now begins) count ⌝ }
     ensures { λ r. ⌜ lookedUp r ≡ lookup form1 limits1 (now (sheet .entry)) year month day minute ⌝ }
 {
-    if minute >= 1440 {
+    if past_midnight(minute) {
         return lookup_refused(8, 0);
     }
     let dated = calendar::point_of(year, month, day);

@@ -5,34 +5,13 @@ pub mod boxes;
 use answers::Folded;
 use answers::fold_refused;
 use boxes::fold_boxes;
-use fold_write::Left;
+use fold_write::rules_left;
+use limits::boxes_over;
 use prepare::prepare;
-ghost use mathlib.Core.Path.{_≡_};
-ghost use mathlib.Core.Bool.{cond};
-ghost use Prim.Native.Nat.{_-_, _*_, _≤_};
-ghost use lib.Dec.{ltb};
-ghost use lib.ListN.{length, getD};
+ghost use Prim.Native.Nat.{_*_, _≤_};
+ghost use lib.ListN.{length};
 ghost use Rattle.tables.specs.Sizes.{rowPlaces};
 ghost use Rattle.normalize.specs.Folds.{Readings, Folds};
-
-// The rules left: from the first of them on, or from the end where there is none.
-fn rules_left(begins: &[usize], rules: usize, count: usize, end: usize) -> Left
-    requires { ⌜ (count ≤ length (now begins)) × (rules ≤ count) ⌝ }
-    ensures { λ r. ⌜ (r .start ≡ cond (ltb rules count) (getD (now (begins .entry)) rules 0) end) × (r .end ≡ end) × (r .rules ≡ count - rules) ⌝ }
-{
-    if rules < count {
-        return Left {
-            start: begins[rules],
-            end,
-            rules: count - rules,
-        };
-    }
-    Left {
-        start: end,
-        end,
-        rules: 0,
-    }
-}
 
 // The rules drained and cut, in the tables that are lent: 5, or the fold of the boxes.
 fn fold_rules_in(
@@ -70,7 +49,7 @@ fn fold_rules_in(
         &mut sizes,
         cuts,
     );
-    if drained.boxes > 1024 {
+    if boxes_over(drained.boxes) {
         return fold_refused(5, drained.boxes);
     }
     let rules = drained.rules;

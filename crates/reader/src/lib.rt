@@ -3,6 +3,7 @@
 // `rule_count` opens the sheet and takes its first field.
 use field::Taken;
 use field::width;
+use limits::rules_allowed;
 ghost use mathlib.Core.Path.{_≡_};
 ghost use Rattle.definition.specs.Field.{Layout, sheetBits, counted};
 ghost use Rattle.definition.specs.Sheet.{form1, limits1};
@@ -89,8 +90,9 @@ pub fn rule_count(sheet: &[u8]) -> Taken
     let Taken::Value(value, next) = taken else {
         return taken;
     };
-    match value {
-        0..=64 => Taken::Value(value, next),
-        _ => Taken::Refused(4, 0),
+    if rules_allowed(value) {
+        Taken::Value(value, next)
+    } else {
+        Taken::Refused(4, 0)
     }
 }

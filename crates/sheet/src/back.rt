@@ -2,6 +2,7 @@
 // copied, and no rule is taken apart.
 use crate::check::Checked;
 use answers::Written;
+use limits::lacks_room;
 ghost use mathlib.Core.Path.{_≡_};
 ghost use lib.ListN.{length};
 ghost use Rattle.definition.specs.Sheet.{form1, limits1};
@@ -13,7 +14,7 @@ fn copy_back(sheet: &[u8], out: &mut [u8]) -> Written
     ensures { λ r. ⌜ (writeNumbers r ≡ writtenNumbers (writtenInto (length (now (out .entry))) (now (sheet .entry))))
         × (now (out .exit) ≡ buffer ((writtenInto (length (now (out .entry))) (now (sheet .entry))) .result) (now (out .entry))) ⌝ }
 {
-    if out.len() < sheet.len() {
+    if lacks_room(out.len(), sheet.len()) {
         return Written {
             code: 7,
             bytes: 0,

@@ -1,7 +1,10 @@
 -- `fold_write::emit` meets its contract: what was measured decides, and both answers are the definition's.
-use mathlib.Core.Path.{_∙_}
+use mathlib.Core.Path.{sym, _∙_}
+use Prim.Native.Nat.{_+_, _-_, _/_, _≤_}
 use native.Mathlib.Omega.{arith}
+use lib.ListN.{length}
 use borrow.Author.Needs.{needs}
+use borrow.Author.Tests.{ltb-true, ltb-false}
 use Rattle.fold_write.proofs.Answer.{count-fits, row-bits, no-room, with-room}
 use Rattle.fold_write.proofs.emit.Statement.{statement}
 use Rattle.fold_write.proofs.emit.Tie as tie
@@ -9,47 +12,58 @@ use Rattle.fold_write.proofs.emit.Tie as tie
 measure-pages-requires : tie.Need-measure-pages-requires
 measure-pages-requires c κs = let entry = c .before .before .before .before .before .before .before in let paged = entry .pre .1 in (paged .ready, omega (arith, paged .few))
 
+-- from the test of the room back to what was measured, and to where the function begins
+abbrev measuring : tie.After-lacks-room → tie.After-measure-pages
+measuring c = c .before .before
+
+abbrev start : tie.After-measure-pages → tie.Start
+start c = c .before .before .before .before .before .before .before .before
+
+-- behind the test the result has room
+enough : (c : tie.Else1)
+    → let measured = measuring (c .before) in
+    let args = start measured .args in
+    (16 + measured .measure-pages .result .bits + (args .left .end - args .left .start) + 7) / 8 ≤ length (args .out .now)
+enough c = ltb-false _ _ (sym (c .before .lacks-room .ensures) ∙ c .if1 .left)
+
 returns : tie.Need-returns
 returns c =
-    let entry = c .before .before .before .before .before .before .before .before .before .before .before in
-    λ rs paged leaving. let m = c .before .before .before .measure-pages .ensures in
-    let full = no-room paged leaving (m .0) (m .1) (entry .args .out .now) (c .before .if1 .taken) in
+    let room = c .before .before in
+    λ rs paged leaving. let m = measuring room .measure-pages .ensures in
+    let lacking = ltb-true _ _ (sym (room .lacks-room .ensures) ∙ c .before .if1 .taken) in
+    let full = no-room paged leaving (m .0) (m .1) (start (measuring room) .args .out .now) lacking in
     (c .fold-refused .ensures ∙ full .0, full .1)
 
 add-write-sheet : tie.Need-add-write-sheet
 add-write-sheet c =
-    let measured = c .before .before .before .before .before in
-    let entry = measured .before .before .before .before .before .before .before .before in
-    let m = measured .measure-pages .ensures in omega (arith, count-fits (entry .pre .1) (entry .pre .2) (m .0) (m .1))
+    let measured = measuring (c .before .before .before .before) in
+    let pre = start measured .pre in
+    let m = measured .measure-pages .ensures in omega (arith, count-fits (pre .1) (pre .2) (m .0) (m .1))
 
 write-sheet-requires : tie.Need-write-sheet-requires
 write-sheet-requires c κs =
-    let measured = c .before .before .before .before .before in
-    let entry = measured .before .before .before .before .before .before .before .before in
-    let paged = entry .pre .1 in
-    let leaving = entry .pre .2 in
+    let branch = c .before .before .before in
+    let measured = measuring (branch .before) in
+    let paged = start measured .pre .1 in
+    let leaving = start measured .pre .2 in
     let m = measured .measure-pages .ensures in
     let long = row-bits paged leaving (m .0) (m .1) in (
       paged .ready,
       (
         (leaving .ordered, leaving .inside, omega (arith, leaving .low)),
-        (
-          count-fits paged leaving (m .0) (m .1),
-          (omega (arith, long, c .before .before .before .if1 .left), omega (arith, long, m .3, paged .few, leaving .low)),
-        ),
+        (count-fits paged leaving (m .0) (m .1), (omega (arith, long, enough branch), omega (arith, long, m .3, paged .few, leaving .low))),
       ),
     )
 
 returns-2 : tie.Need-returns-2
 returns-2 c =
-    let if1 = c .before .before .before .before .before .before in
-    let measured = if1 .before .before in
-    let entry = measured .before .before .before .before .before .before .before .before in
+    let branch = c .before .before .before .before .before .before in
+    let measured = measuring (branch .before) in
     λ rs paged leaving. let m = measured .measure-pages .ensures in
-    with-room paged leaving (m .0) (m .1) (entry .args .out .now) _ (if1 .if1 .left) (c .before .before .write-sheet .ensures)
+    with-room paged leaving (m .0) (m .1) (start measured .args .out .now) _ (enough branch) (c .before .before .write-sheet .ensures)
 
 pub emit-spec : {M : Type 1} → statement M
 emit-spec =
     tie.close
-    (tie.spec measure-pages-requires (λ c. search needs) (λ c. search needs) (λ c. search needs) (λ c. search needs) (λ c κs. search needs) returns
-    add-write-sheet write-sheet-requires (λ c. search needs) returns-2)
+    (tie.spec measure-pages-requires (λ c. search needs) (λ c. search needs) (λ c. search needs) (λ c. search needs) (λ c κs. search needs)
+    (λ c κs. search needs) returns add-write-sheet write-sheet-requires (λ c. search needs) returns-2)

@@ -3,6 +3,7 @@ use mathlib.Core.Path.{sym, ap, _∙_}
 use native.Mathlib.Omega.{arith}
 use lib.ListN.{length}
 use borrow.Author.Needs.{needs}
+use borrow.Author.Tests.{ltb-true, ltb-false}
 use Rattle.definition.specs.Field.{sheetBits}
 use Rattle.definition.specs.Fold.{buffer, writtenNumbers}
 use Rattle.sheet.specs.Rules.{rulesAt}
@@ -12,12 +13,13 @@ use Rattle.line.proofs.line_of.Tie as tie
 
 returns : tie.Need-returns
 returns c =
-    let measured2 = c .before .before in
+    let room = c .before in
+    let measured2 = room .before .before in
     let measure = measured2 .before .before in
     let entry = measure .before .before .before .before in
     let args = entry .args in
     let same = shown-long (rulesAt (sheetBits (args .sheet .now)) (args .begins .now) (args .count)) _ (measure .measure .ensures)
-    (length (args .out .now)) _ (measured2 .measured2 .given .1) (omega arith) in
+    (length (args .out .now)) _ (measured2 .measured2 .given .1) (ltb-true _ _ (sym (room .lacks-room .ensures) ∙ c .if1 .taken)) in
     (sym (ap writtenNumbers same), sym (ap (λ w. buffer (w .result) (args .out .now)) same))
 
 returns-2 : tie.Need-returns-2
@@ -32,18 +34,21 @@ returns-2 c =
 returns-3 : tie.Need-returns-3
 returns-3 c =
     let show-rules = c .before .before in
-    let measured2 = show-rules .before .before .before .before in
+    let branch = show-rules .before .before in
+    let room = branch .before in
+    let measured2 = room .before .before in
     let measure = measured2 .before .before in
     let entry = measure .before .before .before .before in
     let args = entry .args in
     let rs = rulesAt (sheetBits (args .sheet .now)) (args .begins .now) (args .count) in
     let words = shown-to rs _ (measure .measure .ensures) (length (args .out .now)) _ (measured2 .measured2 .given .1) in
-    let same = shown-fine rs _ (measure .measure .ensures) (length (args .out .now)) _ (measured2 .measured2 .given .1) (omega arith) in (
+    let enough = ltb-false _ _ (sym (room .lacks-room .ensures) ∙ branch .if1 .left) in
+    let same = shown-fine rs _ (measure .measure .ensures) (length (args .out .now)) _ (measured2 .measured2 .given .1) enough in (
       sym (ap writtenNumbers same),
-      lines-written _ _ _ _ _ (show-rules .show-rules .result) (show-rules .show-rules .ensures) (words .0) (omega (arith, words .1))
+      lines-written _ _ _ _ _ (show-rules .show-rules .result) (show-rules .show-rules .ensures) (words .0) (omega (arith, words .1, enough))
           ∙ sym (ap (λ w. buffer (w .result) (args .out .now)) same),
     )
 
 pub line-of-spec : {M : Type 1} → statement M
 line-of-spec = tie.close
-    (tie.spec (λ c κs. search needs) (λ c. search needs) (λ c. search needs) returns (λ c κs. search needs) returns-2 (λ c. search needs) returns-3)
+    (tie.spec (λ c κs. search needs) (λ c. search needs) (λ c. search needs) (λ c κs. search needs) returns (λ c κs. search needs) returns-2 (λ c. search needs) returns-3)

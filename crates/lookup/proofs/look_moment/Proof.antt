@@ -1,9 +1,10 @@
 -- `lookup::look_moment` meets its contract: too many boxes refuse, and else the tables of the drained rules alone are lent.
-use mathlib.Core.Path.{sym}
+use mathlib.Core.Path.{sym, _∙_}
 use Prim.Native.Nat.{_*_, _≤_}
 use native.Mathlib.Omega.{arith}
 use lib.Seq.{length-take-le}
 use borrow.Author.Needs.{needs}
+use borrow.Author.Tests.{ltb-true, ltb-false}
 use Rattle.field.proofs.Bytes.{known-bytes}
 use Rattle.sheet.proofs.Begins.{rules-few}
 use Rattle.prepare.proofs.ToDraw.{drained-within}
@@ -13,13 +14,17 @@ use Rattle.lookup.proofs.look_moment.Statement.{statement}
 use Rattle.lookup.proofs.look_moment.Tie as tie
 
 -- where the rules are prepared; and what is prepared has few rules
-abbrev preparing : tie.After-struct-known → tie.After-prepare
+abbrev preparing : tie.After-boxes-over → tie.After-prepare
 preparing c = c .before .before .before .before .before .before .before .before .before .before
 
 few : (c : tie.After-prepare) → c .prepare .result .rules ≤ 64
 few c =
     let read = c .before .before .before .before .before .before .before .before .before .before .before .before .pre .0 .1 .1 in
     c .prepare .ensures _ _ (read .0) (read .1) .drawable .0 .few-rules
+
+-- and, where they are looked at, few boxes
+few-boxes : (c : tie.Else1) → preparing (c .before) .prepare .result .boxes ≤ 1024
+few-boxes c = ltb-false _ _ (sym (c .before .boxes-over .ensures) ∙ c .if1 .left)
 
 prepare-requires : tie.Need-prepare-requires
 prepare-requires c κs =
@@ -39,7 +44,8 @@ prepare-requires c κs =
 returns : tie.Need-returns
 returns c =
     let p = preparing (c .before .before) in λ rs end reading many.
-    boxes-refused rs _ _ _ _ (p .prepare .ensures rs end reading many .boxes-many) (c .before .if1 .taken) (c .lookup-refused .ensures)
+    boxes-refused rs _ _ _ _ (p .prepare .ensures rs end reading many .boxes-many)
+    (ltb-true _ _ (sym (c .before .before .boxes-over .ensures) ∙ c .before .if1 .taken)) (c .lookup-refused .ensures)
 
 mul-places : tie.Need-mul-places
 mul-places c = search (needs, few (preparing (c .before)))
@@ -88,7 +94,7 @@ look-boxes-requires c κs =
     let read = pre .0 .1 .1 in (
       (
         _,
-        prepared-lookable _ _ _ _ _ _ _ _ _ _ _ (p .prepare .ensures _ _ (read .0) (read .1)) _ (read .1) (branch .if1 .left)
+        prepared-lookable _ _ _ _ _ _ _ _ _ _ _ (p .prepare .ensures _ _ (read .0) (read .1)) _ (read .1) (few-boxes branch)
             (omega (arith, few p, p .prepare .kept .1 .1 .1 .0)),
       ),
       pre .1,
@@ -99,14 +105,14 @@ returns-2 c =
     let branch = c .before .before .before .before .before .before .before .before .before .before in
     let p = preparing (branch .before) in λ rs end reading many.
     c .look-boxes .ensures rs
-    (prepared-lookable _ _ _ _ _ _ _ _ _ _ _ (p .prepare .ensures rs end reading many) _ many (branch .if1 .left) (omega (arith, few p, p .prepare .kept .1 .1 .1 .0)))
+    (prepared-lookable _ _ _ _ _ _ _ _ _ _ _ (p .prepare .ensures rs end reading many) _ many (few-boxes branch) (omega (arith, few p, p .prepare .kept .1 .1 .1 .0)))
 
 pub look-moment-spec : {M : Type 1} → statement M
 look-moment-spec =
     tie.close
     (tie.spec
     (λ c. search needs) (λ c. search needs) (λ c. search needs) (λ c. search needs) (λ c. search needs) (λ c. search needs) (λ c. search needs)
-    (λ c. search needs) (λ c. search needs) prepare-requires (λ c κs. search needs) returns mul-places array-share-prefix-states
+    (λ c. search needs) (λ c. search needs) prepare-requires (λ c κs. search needs) (λ c κs. search needs) returns mul-places array-share-prefix-states
     slice-aggregate-look-boxes array-share-prefix-span-counts slice-aggregate-look-boxes-2 array-share-prefix-spans slice-aggregate-look-boxes-3
     (λ c. search needs) (λ c. search needs) (λ c. search needs) (λ c. search needs) (λ c. search needs) (λ c. search needs) sub-look-boxes
     look-boxes-requires returns-2)

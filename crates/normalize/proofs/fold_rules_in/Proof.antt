@@ -1,9 +1,10 @@
 -- `normalize::fold_rules_in` meets its contract: too many boxes refuse, and else the tables of the drained rules alone are lent.
-use mathlib.Core.Path.{sym}
+use mathlib.Core.Path.{sym, _∙_}
 use Prim.Native.Nat.{_*_, _≤_}
 use native.Mathlib.Omega.{arith}
 use lib.Seq.{length-take-le}
 use borrow.Author.Needs.{needs}
+use borrow.Author.Tests.{ltb-true, ltb-false}
 use Rattle.field.proofs.Bytes.{known-bytes}
 use Rattle.prepare.proofs.Reading.{begins-there}
 use Rattle.prepare.proofs.ToDraw.{drained-within, prepared-to-draw}
@@ -13,7 +14,7 @@ use Rattle.normalize.proofs.fold_rules_in.Statement.{statement}
 use Rattle.normalize.proofs.fold_rules_in.Tie as tie
 
 -- where the rules are prepared, and where the function begins
-abbrev preparing : tie.After-struct-known → tie.After-prepare
+abbrev preparing : tie.After-boxes-over → tie.After-prepare
 preparing c = c .before .before .before .before .before .before .before .before .before .before .before .before .before .before .before .before .before
 
 abbrev start : tie.After-prepare → tie.Start
@@ -36,7 +37,8 @@ returns c =
     let args = start p .args in
     let read = start p .pre .0 .1 in
     let prepared = p .prepare .ensures _ _ (read .0) (read .1) in
-    boxes-refused (args .sheet .now) (args .out .now) _ _ _ (read .0 .read) _ (prepared .boxes-many) (c .before .if1 .taken) (c .fold-refused .ensures)
+    boxes-refused (args .sheet .now) (args .out .now) _ _ _ (read .0 .read) _ (prepared .boxes-many)
+    (ltb-true _ _ (sym (c .before .before .boxes-over .ensures) ∙ c .before .if1 .taken)) (c .fold-refused .ensures)
 
 mul-places : tie.Need-mul-places
 mul-places c =
@@ -99,7 +101,7 @@ fold-boxes-requires c κs =
         read = read .0 .read;
         leaving = rules-leaving sheet bytes _ _ _ (read .0) _ _ (prepared .rules-many) (read .1) _ _ _ _ (left .0) (left .1) (left .2)
             (length-take-le _ _ (omega (arith, within p, start p .pre .1 .0 .0, p .prepare .kept .1 .1 .1 .0)));
-        to-draw = prepared-to-draw _ _ _ _ _ _ _ _ _ _ _ prepared (branch .if1 .left)
+        to-draw = prepared-to-draw _ _ _ _ _ _ _ _ _ _ _ prepared (ltb-false _ _ (sym (branch .before .boxes-over .ensures) ∙ branch .if1 .left))
             (omega (arith, within p, start p .pre .1 .0 .0, p .prepare .kept .1 .1 .1 .0));
       },
     )
@@ -108,8 +110,8 @@ pub fold-rules-in-spec : {M : Type 1} → statement M
 fold-rules-in-spec =
     tie.close
     (tie.spec
-    (λ c. search needs) (λ c. search needs) prepare-requires (λ c κs. search needs) (λ c. search needs) (λ c. search needs) (λ c. search needs)
-    (λ c. search needs) (λ c. search needs) (λ c. search needs) (λ c. search needs) returns mul-places rules-left-requires
+    (λ c. search needs) (λ c. search needs) prepare-requires (λ c κs. search needs) (λ c κs. search needs) (λ c. search needs) (λ c. search needs)
+    (λ c. search needs) (λ c. search needs) (λ c. search needs) (λ c. search needs) (λ c. search needs) returns mul-places rules-left-requires
     slice-reshare-prefix-fold-boxes slice-aggregate-fold-boxes slice-reshare-prefix-fold-boxes-2 slice-aggregate-fold-boxes-2
     slice-reshare-prefix-fold-boxes-3 slice-aggregate-fold-boxes-3 (λ c. search needs) (λ c. search needs) fold-boxes-requires (λ c. search needs)
     (λ c. preparing (c .before .before .before .before .before .before .before .before .before .before .before .before .before .before .before) .prepare .kept .1 .1 .1 .0)

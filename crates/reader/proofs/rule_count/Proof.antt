@@ -1,12 +1,11 @@
 -- `reader::rule_count` meets its contract: the sheet's first field, tested. It is never too large to be said.
-use mathlib.Core.Path.{_≡_, subst}
+use mathlib.Core.Path.{_≡_, sym, _∙_, subst}
 use mathlib.Core.Logic.{_⊎_, inl, inr}
 use mathlib.Core.List.{List}
 use Prim.Native.Nat.{ℕ, _+_, _*_, _^_, _≤_, _<_}
 use native.Mathlib.Omega.{arith}
 use lib.ListN.{length}
 use borrow.Author.Needs.{needs}
-use borrow.Author.Tests.{le-leb, lt-leb}
 use Rattle.definition.specs.Field.{sheetBits, plain}
 use Rattle.field.specs.Answer.{asRead}
 use Rattle.field.specs.declared.Taken.{Taken}
@@ -39,16 +38,20 @@ refused c =
 
 few : tie.Need-returns-3
 few c =
-    let known = c .before .before .before .before .before in
-    test-passed _ _ _ _ _ _ (said _ _ (known .before .before .first .ensures) _ (known .reading .given .1)) _ _ (c .before .before .taken .given .1)
-    (le-leb (c .before .before .taken .given .0 .0) 64 (omega arith))
+    let taken = c .before .before .before in
+    let known = taken .before .before .before in
+    test-passed _ _ _ _ _ _ (said _ _ (known .before .before .first .ensures) _ (known .reading .given .1)) _ _ (taken .taken .given .1)
+    (sym (c .before .rules-allowed .ensures) ∙ c .if1 .taken)
 
 many : tie.Need-returns-4
 many c =
-    let known = c .before .before .before .before .before in
-    test-failed _ _ _ _ _ _ (said _ _ (known .before .before .first .ensures) _ (known .reading .given .1)) _ _ (c .before .before .taken .given .1)
-    (lt-leb (c .before .before .taken .given .0 .0) 64 (omega arith))
+    let taken = c .before .before .before in
+    let known = taken .before .before .before in
+    test-failed _ _ _ _ _ _ (said _ _ (known .before .before .first .ensures) _ (known .reading .given .1)) _ _ (taken .taken .given .1)
+    (sym (c .before .rules-allowed .ensures) ∙ c .if1 .left)
 
 pub rule-count-spec : {M : Type 1} → statement M
-rule-count-spec = tie.close
-    (tie.spec (λ c κs. search needs) (λ c. search needs) (λ c. search needs) too-large (λ c. search needs) (λ c. search needs) refused few many)
+rule-count-spec =
+    tie.close
+    (tie.spec (λ c κs. search needs) (λ c. search needs) (λ c. search needs) too-large (λ c. search needs) (λ c. search needs) refused
+    (λ c κs. search needs) few many)

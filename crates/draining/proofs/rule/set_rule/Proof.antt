@@ -16,7 +16,7 @@ returns c =
     let entry = after-title-at .before .before .before .before .before in
     let v = after-title .title .given .0 in
     set-fallback _ _ (entry .pre .0) (v .0) (v .1 .0) (v .1 .1 .0) _ _ _ (sym (after-title-at .title-at .ensures) ∙ ap asTitle (after-title .title .given .1)) _ _ _ _
-    (c .before .fallback .ensures) (c .if1 .taken)
+    (c .before .is-fallback .ensures) (c .if1 .taken)
 
 state-number-requires : tie.Need-state-number-requires
 state-number-requires c κs =
@@ -35,7 +35,7 @@ returns-2 c =
     let entry = after-title-at .before .before .before .before .before in
     let v = after-title .title .given .0 in
     set-rule _ _ (entry .pre .0) (v .0) (v .1 .0) (v .1 .1 .0) _ _ _ (sym (after-title-at .title-at .ensures) ∙ ap asTitle (after-title .title .given .1)) _ _ _ _
-    (after-fallback .fallback .ensures) _ _ _ (c .before .before .before .if1 .left)
+    (after-fallback .is-fallback .ensures) _ _ _ (c .before .before .before .if1 .left)
     (c .before .before .state-number .ensures) (c .before .u64-to-u8 .ensures) (c .replace-number .ensures)
 
 pub set-rule-spec : {M : Type 1} → statement M

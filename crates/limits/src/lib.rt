@@ -1,0 +1,48 @@
+// The tests of 01's limits, each in one place: how many rules, items and boxes a sheet may have, how many entries a list, which minutes a day
+// has, and whether a buffer has room.
+ghost use mathlib.Core.Path.{_≡_};
+ghost use lib.Dec.{ltb, leb};
+ghost use Rattle.definition.specs.Rule.{midnight24};
+ghost use Rattle.definition.specs.Sheet.{limits1};
+
+// "Limits: 64 rules"
+pub fn rules_allowed(count: u64) -> bool
+    ensures { λ r. ⌜ r ≡ leb count (limits1 .rules) ⌝ }
+{
+    count <= 64
+}
+
+// "16 items of each sort"
+pub fn items_allowed(count: u64) -> bool
+    ensures { λ r. ⌜ r ≡ leb count (limits1 .items) ⌝ }
+{
+    count <= 16
+}
+
+// "boxes over 1,024"
+pub fn boxes_over(count: u64) -> bool
+    ensures { λ r. ⌜ r ≡ ltb (limits1 .boxes) count ⌝ }
+{
+    count > 1024
+}
+
+// A list passes "32 entries" where one is appended to as many.
+pub fn entry_allowed(count: u16) -> bool
+    ensures { λ r. ⌜ r ≡ ltb count (limits1 .entries) ⌝ }
+{
+    count < 32
+}
+
+// "a .. minute (0 to 1439)"
+pub fn past_midnight(minute: u64) -> bool
+    ensures { λ r. ⌜ r ≡ leb midnight24 minute ⌝ }
+{
+    minute >= 1440
+}
+
+// "the output buffer is shorter than the result": one that the result fills is not.
+pub fn lacks_room(room: usize, size: usize) -> bool
+    ensures { λ r. ⌜ r ≡ ltb room size ⌝ }
+{
+    room < size
+}
