@@ -1,8 +1,8 @@
-"""The stored answers: `python3 oracle/answers.py --seed N` writes crates/replay/data/{fold,lookup,back,line,read,day}.txt.
+"""The stored answers: `python3 oracle/answers.py --seed N` writes crates/replay/data/{fold,lookup,back,line,read}.txt.
 
-All answers are the reference's. Folds and days inside the Rust's domain are held against the built oracle while the
-lists are made. A case is a line, its fields separated by a space, bytes in upper-case hex and `-` for none; lines that
-start with `#` are remarks. Rests on `reference`, on `cases` and `line_cases` for the sheets and on `compare` for the oracle.
+All answers are the reference's. Folds inside the Rust's domain are held against the built oracle while the lists are
+made. A case is a line, its fields separated by a space, bytes in upper-case hex and `-` for none; lines that start with
+`#` are remarks. Rests on `reference`, on `cases` and `line_cases` for the sheets and on `compare` for the oracle.
 """
 
 from __future__ import annotations
@@ -17,14 +17,13 @@ from typing import Callable, Iterable
 
 from cases import (
     EVERY_SORT, REFUSED_SORTS, damaged, each_refused_sort, generated, largest, named_dates, named_sheets, new_year_dates,
-    refused_sort, sample_date, twice_refused,
+    refused_sort, sample_date, sheets_of_lists, twice_refused,
 )
-from compare import day_line, fold_line, oracle_lines, verdict
+from compare import fold_line, oracle_lines, verdict
 from line_cases import each_reason, flipped_lines, long_line, named_lines, with_a_line, without_a_line
 from reference.fold import Folded, Written, fold, write_back
 from reference.line import NO_LINE, line, reasons_against
 from reference.lookup import lookup
-from reference.points import LIST_LIMIT
 from reference.sheet import read_sheet, write_sheet
 from reference.worked import EXAMPLE, FOLDS, NUMBERED_WEEKS, ROOM, check_worked
 
@@ -69,13 +68,17 @@ def some_room(random: Random, needed: int) -> int:
     return random.choices((ROOM, needed, max(needed - 1, 0), needed + 1, 0), (80, 6, 8, 3, 3))[0]
 
 
+def fold_in_some_room(sheet: bytes, random: Random) -> str:
+    return fold_case(sheet, some_room(random, fold(sheet, ROOM)[0].bytes))
+
+
 def telling_dates(sheet: bytes, random: Random) -> Iterable[tuple[int, int, int, int]]:
     """Of some dates one for each different answer."""
     dates = [sample_date(random) for _ in range(30)]
     return {lookup(sheet, *date): date for date in dates}.values()
 
 
-# The six lists, each made of remarks and cases
+# The five lists, each made of remarks and cases
 
 
 def fold_lines(seed: int) -> list[str]:
@@ -91,8 +94,10 @@ def fold_lines(seed: int) -> list[str]:
     lines += [fold_case(sheet, ROOM) for sheet in each_refused_sort(seed, 1)]
     lines += ["# generated, inside the Rust's domain and then anywhere"]
     for inside, wanted in ((True, 1200), (False, 600)):
-        for sheet in islice(generated(f"{seed}/folds", inside), wanted):
-            lines.append(fold_case(sheet, some_room(random, fold(sheet, ROOM)[0].bytes)))
+        lines += [fold_in_some_room(sheet, random) for sheet in islice(generated(f"{seed}/folds", inside), wanted)]
+    met = set(sheets_in(lines))
+    lines += ["# without day items, so that the fold is the day of one list"]
+    lines += [fold_in_some_room(sheet, random) for sheet in dict.fromkeys(sheets_of_lists(seed)) if sheet not in met]
     return lines
 
 
@@ -169,19 +174,6 @@ def read_lines(seed: int) -> list[str]:
     return lines
 
 
-def day_lines(seed: int) -> list[str]:
-    def is_list(sheet: bytes) -> bool:
-        return refused_sort(sheet)[0] == 0 and len(read_sheet(sheet)[0]) <= LIST_LIMIT
-
-    lines = []
-    for name, sheet in named_sheets().items():
-        if is_list(sheet):
-            lines += [f"# {name}", f"{hexed(sheet)} {day_line(sheet)}"]
-    lines += ["# generated"]
-    sheets = islice(generated(f"{seed}/days", True, is_list), 700)
-    return lines + [f"{hexed(sheet)} {day_line(sheet)}" for sheet in sheets]
-
-
 # The files
 
 
@@ -190,12 +182,12 @@ def sheets_in(lines: Iterable[str]) -> list[bytes]:
     return [bytes.fromhex("" if sheet == "-" else sheet) for sheet in dict.fromkeys(given)]
 
 
-def held_against_oracle(lines: list[str], of_sheet, mode: list[str]) -> str:
-    """A remark on how the sheets of the lines came out beside the oracle; an assertion if one differs."""
+def held_against_oracle(lines: list[str]) -> str:
+    """A remark on how the folds of the lines' sheets came out beside the oracle; an assertion if one differs."""
     given = sheets_in(lines)
     counts: Counter = Counter()
-    for sheet, theirs in zip(given, oracle_lines(given, mode), strict=True):
-        name, difference = verdict(sheet, of_sheet(sheet), theirs)
+    for sheet, theirs in zip(given, oracle_lines(given, []), strict=True):
+        name, difference = verdict(sheet, fold_line(sheet), theirs)
         assert difference is None, difference
         counts[name] += 1
     told = ", ".join(f"{number} {name}" for name, number in sorted(counts.items()))
@@ -250,12 +242,10 @@ def main() -> None:
     for name, layout, lines in coded:
         remarks = [codes_remark(lines, layout), *sorts_remarks(lines)]
         if name == "fold.txt":
-            remarks.append(held_against_oracle(lines, fold_line, []))
+            remarks.append(held_against_oracle(lines))
         if name == "line.txt":
             remarks.append(reasons_remark(lines))
         write_list(name, seed, layout, remarks, lines)
-    days = day_lines(seed)
-    write_list("day.txt", seed, "SHEET RESULT", [held_against_oracle(days, day_line, ["--days"])], days)
 
 
 if __name__ == "__main__":

@@ -1,21 +1,21 @@
-"""The sheets and dates of the stored answers: named ones, damaged ones, and short ones of the generator.
+"""The sheets and dates of the stored answers: named ones, damaged ones, short ones of the generator, and lists of a day.
 
 Rests on `generate` and on `reference`, whose worked days stand among the named sheets.
 """
 
 from __future__ import annotations
 
-from itertools import count
+from itertools import count, islice
 from random import Random
 from typing import Callable, Iterator
 
-from generate import MINUTES, YEAR_VALUES, fields_met, flip, overwrite, sheet_number
+from generate import MINUTES, YEAR_VALUES, Stock, fields_met, flip, overwrite, sheet_number, stop_by_span
 from reference.build import ITEM_OF_SORT, boxes_rule, fixed, hours, plain_rule, weekdays
 from reference.fold import fold
-from reference.points import DIMENSIONS, Dimension
+from reference.points import DIMENSIONS, LIST_LIMIT, Dimension
 from reference.sheet import (
-    ADDITIONAL, DAY_ITEMS, EVENT, EVENT_OFFSET, FIXED_MINUTES, ITEM_COUNTS, ITEM_FIELDS, ITEM_LIMIT, NO_REPEATS, OPEN_END,
-    PADDING, PAST_THE_END, REPEATS, REPEATS_FLAG, RULE_COUNT, RULE_HEAD, RULE_LIMIT, TIME_TAG,
+    ADDITIONAL, DAY_ITEMS, EVENT, EVENT_OFFSET, FIXED_MINUTES, ITEM_COUNTS, ITEM_FIELDS, ITEM_LIMIT, NORMAL, NO_REPEATS,
+    OPEN_END, PADDING, PAST_THE_END, REPEATS, REPEATS_FLAG, RULE_COUNT, RULE_HEAD, RULE_LIMIT, TIME_TAG,
     DatedRange, Field, Holiday, Months, MonthsOfYear, Refusal, Rule, Span, Time, Week, Year, read_sheet, write_sheet,
 )
 from reference.worked import EXAMPLE, FOLDS, LOOKUPS, ROOM, RUNS
@@ -135,6 +135,36 @@ def largest(seed: int) -> list[bytes]:
     return list(dict.fromkeys(most + sorted(sheets, key=len)[-3:]))
 
 
+# Lists of a day
+
+
+def sheets_of_lists(seed: int) -> Iterator[bytes]:
+    """The rules of named sheets, of short ones and of random stocks, each as one list."""
+    random = Random(f"days {seed}")
+    sheets = (*filter(is_accepted, named_sheets().values()), *islice(generated(f"{seed}/days", True), 700))
+    stocks = (rules_of_stock(random) for _ in range(600))
+    for rules in (*(read_sheet(sheet)[0] for sheet in sheets), *stocks):
+        yield write_sheet(as_one_list(rules))
+
+
+def rules_of_stock(random: Random) -> list[Rule]:
+    """Rules of one stock; at times one has a span that may reach tomorrow."""
+    stock = Stock(random, inside=True)
+    rules = stock.rules()
+    if random.random() < 0.3:
+        place = random.randrange(len(rules))
+        rules[place] = stop_by_span(rules[place], stock)
+    return rules
+
+
+def as_one_list(rules: list[Rule]) -> list[Rule]:
+    """The rules without day items, the first Normal and the others Additional: if all drain, they are the list of every point."""
+    return [
+        rule._replace(operator=ADDITIONAL if place else NORMAL, years=(), monthdays=(), weeks=(), weekdays=())
+        for place, rule in enumerate(rules[:LIST_LIMIT])
+    ]
+
+
 # Refused readings
 
 
@@ -151,6 +181,10 @@ def refused_sort(sheet: bytes) -> tuple[int, int, str]:
 def padding_sort(place: int) -> str:
     """Padding never begins a byte, and what follows it always does."""
     return f"padding bit {place % 8}" if place % 8 else "bytes after the padding"
+
+
+def is_accepted(sheet: bytes) -> bool:
+    return refused_sort(sheet)[0] == 0
 
 
 def damaged(sheet: bytes) -> Iterator[bytes]:
@@ -177,7 +211,7 @@ def spoiled(sheet: bytes) -> Iterator[tuple[Sort, bytes]]:
 def each_refused_sort(seed: int, quota: int) -> list[bytes]:
     """For each code and each sort of place in reading so many sheets, no two of them from the same one."""
     random = Random(f"{seed}/which of a sort")
-    sound = generated(f"{seed}/refused", False, lambda sheet: refused_sort(sheet)[0] == 0)
+    sound = generated(f"{seed}/refused", False, is_accepted)
     found: dict[Sort, list[bytes]] = {sort: [] for sort in REFUSED_SORTS}
     while any(len(cases) < quota for cases in found.values()):
         of_sheet: dict[Sort, list[bytes]] = {}

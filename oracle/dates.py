@@ -1,21 +1,24 @@
-"""Makes crates/calendar_replay/data/: what Python's calendar says of dates from 1900 to 9999.
+"""Makes crates/replay/data/{dates,years}: what Python's calendar says of dates from 1900 to 9999.
 
     python3 oracle/dates.py [--seed N]
 
-The weekday and the ISO week come from `datetime`. A record is 23 bytes, and the first line is as long as four of them; so every record
-stands at a known place, and the program that replays them takes no text apart.
+The weekday and the ISO week come from `datetime`. The records are those of `sheets`, with no sheet:
 
-- dates.txt, a date a record: YEAR MONTH DAY in five digits each, WEEKDAY in one (Monday 0), WEEK in two; 9 and 99 where there is no such date.
-- years.txt, a year a record: YEAR in five digits, and a digest of the weekdays and weeks of all its days in sixteen. With each day the
-  digest is taken 500 times, 8 * WEEK + WEEKDAY is added, and the remainder by the largest prime below 10 ** 16 is kept.
+    a date   YEAR MONTH DAY in eight bytes each, WEEKDAY (Monday 0) WEEK, 9 and 99 where there is no such date
+    a year   YEAR DIGEST in eight bytes each
+
+The digest is of the weekdays and weeks of all the year's days: with each day it is taken 500 times, 8 * WEEK + WEEKDAY is
+added, and the remainder by the largest prime below 10 ** 16 is kept. Rests on `sheets`.
 """
 import argparse
 import datetime
 import random
 
+from sheets import LONG, numbers, record, write_records
+
 FIRST, LAST = 1900, 9999
-DATA = "crates/calendar_replay/data/"
 PRIME = 10**16 - 63
+NO_SHEET = b""
 
 
 def date_record(year, month, day):
@@ -27,7 +30,7 @@ def date_record(year, month, day):
         weekday, week = 9, 99
     else:
         weekday, week = date.weekday(), date.isocalendar().week
-    return f"{year:05} {month:05} {day:05} {weekday} {week:02}\n"
+    return record(NO_SHEET, numbers((year, month, day), LONG) + numbers((weekday, week)))
 
 
 def year_record(year):
@@ -35,7 +38,7 @@ def year_record(year):
     for day in range(datetime.date(year, 1, 1).toordinal(), datetime.date(year, 12, 31).toordinal() + 1):
         date = datetime.date.fromordinal(day)
         digest = (digest * 500 + 8 * date.isocalendar().week + date.weekday()) % PRIME
-    return f"{year:05} {digest:016}\n"
+    return record(NO_SHEET, numbers((year, digest), LONG))
 
 
 def around_months(year):
@@ -75,18 +78,13 @@ def dates(seed):
         yield date.year, date.month, date.day
 
 
-def store(name, seed, fields, records):
-    head = f"# made by: python3 oracle/dates.py --seed {seed}. {fields}".ljust(91) + "\n"
-    with open(DATA + name, "w", encoding="ascii") as out:
-        out.write(head + "".join(records))
-
-
 def main():
     parser = argparse.ArgumentParser()
     parser.add_argument("--seed", type=int, default=1)
     seed = parser.parse_args().seed
-    store("dates.txt", seed, "YEAR MONTH DAY WEEKDAY WEEK", (date_record(*date) for date in dates(seed)))
-    store("years.txt", seed, "YEAR DIGEST", map(year_record, range(FIRST, LAST + 1)))
+    write_records("dates", (date_record(*date) for date in dates(seed)))
+    write_records("years", map(year_record, range(FIRST, LAST + 1)))
 
 
-main()
+if __name__ == "__main__":
+    main()

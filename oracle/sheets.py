@@ -22,27 +22,28 @@ END is the place of the first bit after the rules, 0 where the sheet is refused;
 
 from __future__ import annotations
 
-from typing import Callable, Iterable, Iterator
+from typing import Callable, Iterable
 
 from answers import DATA, back_case, line_case, read_case, sheets_in
-from cases import ALL_FIELDS, damaged, refused_sort
+from cases import ALL_FIELDS, damaged, is_accepted
 from generate import fields_met
 from reference.line import line
 from reference.sheet import read_sheet
 from reference.worked import ROOM
 
 SHEETS_FOR_A_FIELD = 2
-SIZE_LIMIT = 65536  # the program's buffer for what follows a record's numbers
+SIZE_LIMIT = 65536  # the program's buffer for what follows a record's two numbers
+LONG = 8  # bytes of a number that an entry takes
 
 
-def number(value: int) -> bytes:
-    return value.to_bytes(3, "big")
+def numbers(values: Iterable[int], width: int = 3) -> bytes:
+    return b"".join(value.to_bytes(width, "big") for value in values)
 
 
-def record(sheet: bytes, numbers: list[int], told: bytes = b"") -> bytes:
-    body = sheet + b"".join(map(number, numbers)) + told
+def record(sheet: bytes, told: bytes) -> bytes:
+    body = sheet + told
     assert len(body) <= SIZE_LIMIT, len(body)
-    return number(len(sheet)) + number(len(body)) + body
+    return numbers((len(sheet), len(body))) + body
 
 
 def unhexed(given: str) -> bytes:
@@ -69,10 +70,6 @@ def damaged_sheets(name: str, kept: Callable[[bytes], bool]) -> list[bytes]:
     return list(dict.fromkeys(case for sheet in sheets for case in damaged(sheet)))
 
 
-def is_accepted(sheet: bytes) -> bool:
-    return refused_sort(sheet)[0] == 0
-
-
 def has_a_line(sheet: bytes) -> bool:
     return line(sheet, ROOM)[0].code == 0
 
@@ -82,33 +79,31 @@ def line_with_a_byte_to_spare(sheet: bytes) -> str:
 
 
 def reading(case: str) -> bytes:
-    given, *numbers = case.split()
+    given, *answer = case.split()
     sheet = unhexed(given)
-    code, place, rules = map(int, numbers)
+    code, place, rules = map(int, answer)
     begins, end = [], 0
     if code == 0:
         *begins, end = read_sheet(sheet)[1]
     assert len(begins) == rules, case
-    return record(sheet, [code, place, rules, end, *begins])
+    return record(sheet, numbers((code, place, rules, end, *begins)))
 
 
 def written(case: str) -> bytes:
     """A write-back, a line or a fold: the room stands first in the case and last in the record."""
-    given, room, *numbers, told = case.split()
+    given, room, *answer, told = case.split()
     result = unhexed(told)
-    assert len(result) == int(numbers[-2]), case
-    return record(unhexed(given), [*map(int, numbers), int(room)], result)
+    assert len(result) == int(answer[-2]), case
+    return record(unhexed(given), numbers(map(int, (*answer, room))) + result)
 
 
 def lookup(case: str) -> bytes:
-    given, *numbers = case.split()
-    date, answer = map(int, numbers[:4]), map(int, numbers[4:])
-    sheet = unhexed(given)
-    told = b"".join(value.to_bytes(8, "big") for value in date) + b"".join(map(number, answer))
-    return record(sheet, [], told)
+    given, *told = case.split()
+    date, answer = map(int, told[:4]), map(int, told[4:])
+    return record(unhexed(given), numbers(date, LONG) + numbers(answer))
 
 
-def write_records(name: str, records: Iterator[bytes]) -> None:
+def write_records(name: str, records: Iterable[bytes]) -> None:
     given = list(records)
     (DATA / name).write_bytes(b"".join(given))
     print(f"{name}: {len(given)} answers")

@@ -1,4 +1,4 @@
--- What an answer's numbers say, in 01's order.
+-- The numbers of each answer, in 01's order, as contracts and promises compare them.
 use mathlib.Core.List.{List, [], _∷_}
 use Prim.Native.Nat.{ℕ}
 use Rattle.definition.specs.Lookup.{Looked}

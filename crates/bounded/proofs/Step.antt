@@ -1,4 +1,4 @@
--- One lemma for each return of successor and predecessor, once over the bounds: the proofs of `succ` and `pred` of each kind cite them.
+-- One lemma for each return of successor and predecessor, for any bounds: the proofs of `succ` and `pred` of each kind cite them.
 use mathlib.Core.Path.{_≡_}
 use mathlib.Core.Option.{none, some}
 use Prim.Native.Nat.{ℕ, suc, _+_, _-_, _≤_, _<_}

@@ -1,4 +1,4 @@
--- One lemma for each return of splitting and of the way back, once over the bounds.
+-- One lemma for each return of `split_inverted_range` and of `to_range_inclusive`, for any bounds.
 use mathlib.Core.Path.{_≡_, ap}
 use mathlib.Core.List.{[], _∷_}
 use mathlib.Core.Option.{none, some}

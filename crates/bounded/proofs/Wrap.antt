@@ -1,4 +1,4 @@
--- Splitting, over any bounds: a value lies in just one of an item's ranges where the item, wrapping or not, has it, and in none elsewhere.
+-- Splitting keeps an item's meaning, for any bounds: a value that the item has lies in exactly one of its ranges, any other value in none.
 use mathlib.Core.Path.{_≡_, refl, sym, ap, _∙_}
 use mathlib.Core.List.{List, [], _∷_}
 use mathlib.Core.Bool.{Bool, true, false, _&&_, _||_, cond}

@@ -1,4 +1,4 @@
--- Successors and predecessors within bounds, said once over the bounds, and each kind's answers set out as numbers.
+-- The successor and the predecessor of a value, for any bounds; and what `succ` and `pred` of each kind answer, as numbers.
 use mathlib.Core.Option.{Option, none, some}
 use Prim.Native.Nat.{ℕ, suc, _-_}
 use lib.Dec.{ltb}

@@ -1,4 +1,5 @@
--- Ranges as the code answers them, set out as definition's pairs and lists of pairs. Rests on definition's specs/Range.
+-- The ranges that the code answers, as the definition's pairs and lists of pairs; and the steps from an item's ends to a range and back. Rests
+-- on definition's specs/Range.
 use mathlib.Core.List.{List, [], _∷_}
 use mathlib.Core.Option.{Option, none, some}
 use Prim.Native.Nat.{suc, _-_}

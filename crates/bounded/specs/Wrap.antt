@@ -1,5 +1,5 @@
--- What an item from a first to a last value means: the values between them; where it wraps, those up to its last and those from its
--- first on. Splitting is to say the same in ranges (proofs/Wrap).
+-- What an item from a first to a last value means: the values between them; where it wraps, those up to its last and those from its first on.
+-- proofs/Wrap shows that an item's ranges mean the same.
 use mathlib.Core.Bool.{Bool, true, false, _&&_, _||_}
 use Prim.Native.Nat.{ℕ}
 use lib.Dec.{leb}

@@ -1,9 +1,8 @@
-// Four kinds of numbers, so that a week is never passed for a year, and how an item's first and last value become ranges.
-// Carries normalize/bounded.rs. What is right stands in definition's specs/Rule (bounds) and specs/Range (`split`); the enums' cases
-// are set out in specs/Kind and specs/Strict.
+// Four kinds of numbers, so that a week is never passed for a year, and how an item's first and last value become ranges. Ported from
+// normalize/bounded.rs. The definition is definition's specs/Rule (bounds) and specs/Range (`split`); specs/Kind and specs/Strict say what the
+// enums' cases stand for.
 //
-// Ranges are plain numbers of 32 bits, whatever the kind: every item, lawful or not, then has its ranges, and no function here requires
-// anything.
+// Ranges are plain numbers of 32 bits, whatever the kind: so every item, lawful or not, has its ranges, and no function here has a `requires`.
 ghost use mathlib.Core.Path.{_≡_};
 ghost use Rattle.definition.specs.Rule.{weekdayBounds, weekBounds, monthBounds, yearBounds};
 ghost use Rattle.definition.specs.Range.{split};

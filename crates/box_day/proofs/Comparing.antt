@@ -1,4 +1,5 @@
--- One lemma for each return of the comparison of two days. Rests on parts of a buffer.
+-- One lemma for each return of `same_day`: the two days have equally many words, which are compared, or they have not. Rests on words' laws of
+-- parts of a buffer.
 use mathlib.Core.Path.{_≡_, sym, ap, _∙_}
 use mathlib.Core.List.{List}
 use mathlib.Core.Bool.{Bool, false}

@@ -1,4 +1,4 @@
--- A box's list handed on as a part of the lists, and the words that come back. Rests on the words of boxes.
+-- A box's list is lent to `canonical_time` as a part of all lists: what that call requires, and that the words which come back are the box's.
 use mathlib.Core.Path.{_≡_, sym, ap, _∙_, subst}
 use mathlib.Core.List.{List}
 use Prim.Native.Nat.{ℕ, _+_, _-_, _*_, _≤_}
@@ -28,7 +28,7 @@ module _ (states counts spans lists : List ℕ) (room box : ℕ) (ready : Ready 
       ap (λ k. take k (drop (box * listPlaces + 1) lists)) n ∙ part-taken lists (box * listPlaces + 1) (getD lists (box * listPlaces) 0) (omega (arith, s, t))
       ∙ sym (list-part lists box)
 
-  -- what folding it asks for
+  -- what folding it requires
   pub fold-needs : (spanStates spanCodes strokes minuteCuts intervalStates : ℕ) → Scratch spanStates spanCodes strokes minuteCuts intervalStates
       → Tables states counts spans slice
       × ((length slice ≤ 1024) × (16 * length slice ≤ spanStates)

@@ -1,4 +1,4 @@
--- Buffers that were used keep their room.
+-- What is required of the buffers still holds after they were used, since they keep their lengths.
 use mathlib.Core.Path.{_≡_, sym, subst}
 use mathlib.Core.List.{List}
 use Prim.Native.Nat.{ℕ, _<_}

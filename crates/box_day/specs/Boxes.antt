@@ -1,4 +1,4 @@
--- What folding a box's list asks of the scratch of a day.
+-- How long the scratch buffers of a day must be, so that any list within the limit can be folded in them.
 use Prim.Native.Nat.{ℕ, _+_, _*_, _≤_}
 use Rattle.tables.specs.Sizes.{listLimit}
 

@@ -11,7 +11,7 @@ ghost use Rattle.words.specs.Words.{part};
 ghost use Rattle.box_day.specs.Boxes.{Scratch};
 ghost use Rattle.tables.specs.Days.{boxWords, Ready};
 
-// The words of a box's day.
+// Writes the words of a box's day; answers how many there are.
 pub fn fold_box(
     words: &mut [u64],
     span_states: &mut [u32],
@@ -49,7 +49,7 @@ pub fn fold_box(
     )
 }
 
-// Whether a box's day has the words of another day, so many.
+// Whether a box's day is another day, which stands as the first `word_count` of `words`.
 pub fn same_day(
     words: &[u64],
     other: &mut [u64],

@@ -1,5 +1,5 @@
-// Scratch that is as large as the limits ask: the words of a day, what folding the list of a box works in, and what a fold notes of each box.
-// Each array is made in a function of its own, so that a proof that lends it knows its length and no more.
+// Scratch arrays as large as the limits allow: for the words of a day, for folding a box's list, and for what a fold notes of each box. Each
+// array is made in a function of its own, so that a proof knows its length from the contract and never looks at the array.
 ghost use mathlib.Core.Path.{_≡_};
 ghost use lib.ListN.{length, getD};
 
@@ -44,7 +44,7 @@ pub fn day_classes() -> [u8; 1025]
     [0u8; 1025]
 }
 
-// A mark for each interval of four dimensions.
+// A mark for each interval of four dimensions: with at most 1,024 boxes there are at most 1,027.
 pub fn marks() -> [u8; 1027]
     ensures { λ r. ⌜ 1027 ≡ length r ⌝ }
 {

@@ -1,5 +1,5 @@
--- What a date's numbers lie in: years, months and days within their bounds, the day of the year within the year; how the code's loop sums the
--- months before; and the two ways of the answer. Rests on the flags' laws and on the laws of days.
+-- A date's numbers: years, months and days lie within their bounds, the day of the year within the year; how the code's loop sums the months
+-- before; and one lemma for each return of `point_of`. Rests on the flags' laws and on the laws of days.
 use mathlib.Core.Path.{_≡_, refl}
 use mathlib.Core.List.{List, [], _∷_}
 use mathlib.Core.Bool.{Bool, true, false, _&&_, cond}

@@ -1,5 +1,4 @@
 -- The weekday of 1 January has a period of 400 years; so a table of one period, computed by the rule, has it for every year.
--- Rests on the numbers' laws.
 use mathlib.Core.Path.{_≡_, refl, sym, ap, _∙_}
 use mathlib.Core.List.{List, [], _∷_}
 use mathlib.Core.Bool.{cond}

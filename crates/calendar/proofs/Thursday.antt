@@ -1,5 +1,5 @@
--- THE THURSDAY OF A WEEK: by its number, in the same year, in the year before or in the next; it is a Thursday, the same for all days from Monday to
--- Sunday; and how many Thursdays its year has had with it. Rests on the laws of days.
+-- THE THURSDAY OF A WEEK: it lies in the day's own year, in the year before or in the next; it is a Thursday, the same for all days from Monday
+-- to Sunday; and how many Thursdays its year has had with it. Rests on the laws of days.
 use mathlib.Core.Path.{_≡_, refl, sym, ap, _∙_}
 use mathlib.Core.Bool.{Bool, true, false, cond}
 use mathlib.Core.Logic.{⊎-elim}

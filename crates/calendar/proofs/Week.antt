@@ -1,6 +1,6 @@
--- THE ISO WEEK OF A DATE: it lies in 1 to 53; a Thursday's is its number among its year's Thursdays; 4 January is in week 1. It stays from
--- Monday to Sunday, over the ends of months and years too, and with a Monday comes the next one, or week 1 after 52 or 53 weeks. Its
--- Thursday is a date of 1900 to 9999, so that no other year is asked for. Rests on the laws of the week's Thursday and of the day after a date.
+-- THE ISO WEEK OF A DATE: it lies in 1 to 53; a Thursday's is its number among its year's Thursdays; 4 January is in week 1. It stays the same
+-- from Monday to Sunday, over the ends of months and years too; on a Monday it is the next number, or 1 after 52 or 53 weeks. Its Thursday is a
+-- date of 1900 to 9999, so no year outside of these is needed. Rests on the laws of the week's Thursday and of the day after a date.
 use mathlib.Core.Path.{_≡_, refl, ap, _∙_}
 use mathlib.Core.Bool.{true}
 use mathlib.Core.Logic.{_⊎_, inl, inr, ⊎-elim}

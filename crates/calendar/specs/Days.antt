@@ -1,4 +1,4 @@
--- A day that its year has. Rests on definition's specs/Date.
+-- When a year has a day of some number: from 1 up to the year's length. Rests on definition's specs/Date.
 use Prim.Native.Nat.{_≤_}
 use Rattle.definition.specs.Date.{YearDay, yearLength}
 

@@ -1,5 +1,5 @@
-// Gregorian dates from 1900 to 9999: leap years, month lengths, the weekday of 1 January, day of the year, weekday and ISO week.
-// What is right stands in definition's specs/Date. Whatever is no date is answered so.
+// Gregorian dates from 1900 to 9999: leap years, month lengths, the weekday of 1 January, day of the year, weekday and ISO week. The definition
+// is definition's specs/Date. Numbers that are no date get an answer too: that there is none.
 mod new_years;
 
 use new_years::NEW_YEARS;

@@ -1,4 +1,5 @@
--- The rows of a rule's days, one behind the other: how far a row goes, how many ranges it gives, and one lemma for each return of the reader of rows.
+-- A rule's rows of days, one behind the other: how far a row goes, how many ranges it gives, and one lemma for each return of the reader of
+-- rows.
 use mathlib.Core.Path.{_≡_, refl, sym, ap, ap₂, _∙_}
 use mathlib.Core.List.{List}
 use mathlib.Core.Option.{Option, none, some}

@@ -1,5 +1,5 @@
--- What the days of a readable rule are: where no item stops, the definition's ranges stand in the table and its spans follow; where one
--- stops, the definition says so too.
+-- What `rule_ranges` loads of a rule that can be read: where no item stops, the definition's ranges stand in the table and the rule's spans
+-- follow; where one stops, the definition says so too.
 use mathlib.Core.Path.{_≡_, refl, sym, ap, _∙_, subst}
 use mathlib.Core.List.{List, [], _∷_, map, flatMap}
 use mathlib.Core.Option.{none, some}

@@ -1,4 +1,4 @@
--- What the walk over the rows leaves at a readable rule: its days in the tables; and what it answers is what is found there.
+-- After the rows of a readable rule were read, its days stand in the tables, and the answer is what specs/Found says.
 use mathlib.Core.Path.{_≡_, refl, sym, ap, _∙_}
 use mathlib.Core.List.{List}
 use mathlib.Core.Option.{Option, some}

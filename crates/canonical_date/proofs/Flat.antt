@@ -1,4 +1,4 @@
--- Ranges as numbers, laid into the table.
+-- Ranges as numbers, start, end, start, end .., and how `put_range` and `put_split` lay them into the table.
 use mathlib.Core.Path.{_≡_, refl, ap, _∙_}
 use mathlib.Core.List.{List, [], _∷_, _++_}
 use Prim.Native.Nat.{ℕ, suc, _+_, _*_}

@@ -1,5 +1,5 @@
--- What a row of items means: where no item stops it, the ranges of the definition; where one does, no end. Said once over the layout of
--- the items, and then for each sort.
+-- What reading a row of items gives: the definition's ranges where no item stops the rule, and no end where one does. Proved once for any
+-- layout of items, and then for each sort.
 use mathlib.Core.Path.{_≡_, refl, sym, ap, _∙_}
 use mathlib.Core.List.{List, [], _∷_, _++_, flatMap}
 use mathlib.Core.Option.{Option, none, some}

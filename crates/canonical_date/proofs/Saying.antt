@@ -1,4 +1,4 @@
--- What an item's reading says: one lemma for each return of the readers of items, and that the ends that were read lie within their bounds.
+-- What the readers of items answer: one lemma for each of their returns, and that the ends which were read lie within their bounds.
 use mathlib.Core.Path.{_≡_, sym, ap, ap₂, _∙_}
 use mathlib.Core.List.{List}
 use mathlib.Core.Option.{Option, none, some}

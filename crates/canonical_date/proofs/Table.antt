@@ -1,4 +1,4 @@
--- The rows of a rule's ranges, read from the table: they are the definition's selector.
+-- The rows of a rule's ranges, read back from the table, are the definition's ranges of the rule (`selector`).
 use mathlib.Core.Path.{_≡_, refl, ap, ap₂, _∙_}
 use mathlib.Core.List.{List, [], _∷_, map}
 use mathlib.Core.Bool.{Bool, true, false}

@@ -1,4 +1,4 @@
--- A rule's four rows of days, one behind the other, into the table of ranges; up to the first item that stops.
+-- How a rule's four rows of days are loaded into the table of ranges, one behind the other, up to the first item that stops the rule.
 use mathlib.Core.List.{List}
 use mathlib.Core.Option.{Option, none, some}
 use Prim.Native.Nat.{ℕ, zero, suc, _+_, _*_}

@@ -1,4 +1,4 @@
--- What is found at a readable rule: that its days pass, and its spans behind them; or that an item stops it.
+-- What is found at a rule that can be read: its days pass and its spans follow them, or an item stops it.
 use mathlib.Core.Path.{_≡_}
 use mathlib.Core.List.{List}
 use mathlib.Core.Bool.{true, false}

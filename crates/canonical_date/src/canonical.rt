@@ -1,4 +1,4 @@
-// An item of days as ranges. Each kind splits its own item, so that a week is never split as a year; a failed one stops its rule.
+// An item of days as ranges, or that it stops its rule. Each kind splits its own item, so that a week is never split as a year.
 use bounded::Month;
 use bounded::OrderedWeekday;
 use bounded::Split;

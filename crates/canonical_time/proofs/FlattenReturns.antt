@@ -1,4 +1,4 @@
--- One lemma for each return of the functions that lay a list's spans with their states.
+-- One lemma for each return of `push_spans` and `flatten`, which write a list's spans with their states.
 use mathlib.Core.Path.{_≡_, refl, sym, ap, ap₂, _∙_}
 use mathlib.Core.List.{List, [], _++_}
 use Prim.Native.Nat.{ℕ, zero, suc, _+_, _*_, _-_, _≤_, _<_}

@@ -1,4 +1,4 @@
--- One lemma for each return of the whole: the words that are laid are the flat form of the list's day.
+-- One lemma for each return of `normalize_time_rules`: the words that it wrote are the flat form of the list's day.
 use mathlib.Core.Path.{_≡_, refl, sym, ap, ap₂, _∙_, subst}
 use mathlib.Core.List.{List, [], _∷_, _++_, map}
 use mathlib.Core.Bool.{Bool, true, false}

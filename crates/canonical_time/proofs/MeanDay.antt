@@ -1,4 +1,5 @@
--- The words of a list, put together: the flat form of its day. Rests on the compression law in one dimension.
+-- The words of the painted states, with those of the groups behind them, are the flat form of the list's day. Rests on the laws of what
+-- strokes, pieces, classes and groups mean.
 use mathlib.Core.Path.{_≡_, refl, sym, ap, ap₂, _∙_, subst}
 use mathlib.Core.List.{List, [], _∷_, _++_, map, append-assoc, map-append}
 use mathlib.Core.Bool.{Bool, true, false}

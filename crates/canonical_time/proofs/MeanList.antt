@@ -1,4 +1,4 @@
--- What the laid states and spans of a list mean: the list's spans with their states.
+-- The states and spans that `flatten` wrote are the spans of the list, each with its state.
 use mathlib.Core.Path.{_≡_, refl, ap, _∙_}
 use mathlib.Core.List.{List, _∷_, _++_, map, flatMap}
 use Prim.Native.Nat.{ℕ, zero, suc, _+_, _*_}

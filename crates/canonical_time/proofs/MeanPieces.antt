@@ -1,4 +1,4 @@
--- What pieces that tile the day mean for its painted states: to group the minutes is to group the pieces. Rests on the compression law.
+-- Pieces that tile a day have its painted states: grouping the minutes gives what grouping the pieces gives. Rests on grid's compression law.
 use mathlib.Core.Path.{_≡_, refl, sym, ap, ap₂, _∙_}
 use mathlib.Core.List.{List, [], _∷_, _++_, map, flatMap}
 use mathlib.Core.Bool.{Bool, false}

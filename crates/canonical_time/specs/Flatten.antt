@@ -1,4 +1,5 @@
--- A list of rule numbers over tables: a state for each rule, how many spans it has, and these from sixteen times its number on.
+-- The states and spans of a list of rule numbers, taken from the tables: these have a state for each rule, how many spans it has, and its spans
+-- from sixteen times its number on.
 use mathlib.Core.List.{List, [], _∷_, _++_}
 use Prim.Native.Nat.{ℕ, zero, suc, _+_, _*_}
 use lib.ListN.{getD}

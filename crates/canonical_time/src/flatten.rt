@@ -1,4 +1,4 @@
-// A list of rule numbers, with the tables of states and spans, as spans with their states.
+// Writes the spans of the rules that a list names, each with its state, out of the rules' tables.
 use casts::u8_to_usize;
 use casts::u16_to_usize;
 ghost use mathlib.Core.Path.{_≡_};

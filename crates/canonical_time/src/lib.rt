@@ -1,4 +1,5 @@
-// From a list to a day, as the Rust's canonical_time.rs: the simple spans paint, the others stay in groups.
+// From a list to a day, ported from canonical_time.rs: the simple spans up to the end of the first group's run paint; all other spans stay in
+// groups.
 pub mod flatten;
 
 use day_group::groups;

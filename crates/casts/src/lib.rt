@@ -1,5 +1,5 @@
-// Numbers taken from one type to another, each in a function of its own: a caller then has no proof to give that a number fits, and knows
-// from the answer how large it is.
+// Numbers taken from one type to another, each in a function of its own: so a caller need not prove that a number fits, and learns from the
+// contract how large it is at most.
 ghost use mathlib.Core.Path.{_≡_};
 ghost use Prim.Native.Nat.{_<_};
 

@@ -1,4 +1,4 @@
--- The order of numbers by their digits, the highest first.
+-- Numbers made of digits are ordered by their digits, the highest digit first.
 use mathlib.Core.Path.{_≡_, refl, sym, _∙_}
 use mathlib.Core.Bool.{Bool, true, false, _&&_, _||_}
 use Prim.Native.Nat.{ℕ, suc, _+_, _*_, _≤_, _<_}

@@ -1,4 +1,5 @@
--- The tests on numbers, in the words of the code: when a span is simple, when it stays today, and a state's kind and class.
+-- The code's tests on numbers are the definition's: when a span is simple, when it can't overlap with the next day, and a state's kind and
+-- class.
 use mathlib.Core.Path.{_≡_, refl, sym, ap, ap₂, _∙_}
 use mathlib.Core.Bool.{Bool, true, false, _&&_, not, cond}
 use Prim.Native.Nat.{ℕ, _-_, _/_, _%_, _≤_, _<_}

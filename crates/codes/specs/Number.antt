@@ -1,8 +1,8 @@
--- States and spans as numbers. 01, "Part taken": "spans ordered by start, end, `open_end` (false first), repeats (none first, then by
--- minutes); fixed times before variable ones; variable times by event, then offset". The number of a span has these parts as digits, the
--- first one highest, so the order of the numbers is that of the spans. A time has 19 bits: fixed, its minutes; variable, a high bit, the
--- event and the offset by size. A span has 52: start, end, `open_end`, and 0 for no repeats or else their minutes and one.
--- Every number is a span's, and every number a state's, so no function over them has to ask for lawful ones.
+-- States and spans as numbers. 01, "Part taken": "spans ordered by start, end, `open_end` (false first), repeats (none first, then by minutes);
+-- fixed times before variable ones; variable times by event, then offset". The number of a span has these parts as digits, the first one
+-- highest, so the order of the numbers is that of the spans. A time has 19 bits: fixed, its minutes; variable, a high bit, the event and the
+-- offset by size. A span has 52: start, end, `open_end`, and 0 for no repeats or else one more than their minutes. Every number stands for some
+-- span and for some state, so no function over them requires a lawful one.
 use mathlib.Core.Option.{Option, none, some}
 use mathlib.Core.Bool.{cond}
 use Prim.Native.Nat.{ℕ, _+_, _*_, _-_, _/_, _%_, _<_}
@@ -37,7 +37,7 @@ NumberedTime (fixed m) = m < 262144
 NumberedTime (variable e o) = o < 65536
 
 -- ## Spans
--- the parts as digits
+-- the number of a span's four parts, as digits
 unfoldable pub partsNumber : ℕ → ℕ → ℕ → ℕ → ℕ
 partsNumber start end openEnd repeats = ((start * 524288 + end) * 2 + openEnd) * 8192 + repeats
 

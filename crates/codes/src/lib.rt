@@ -1,4 +1,4 @@
-// Spans and states as numbers: whose order is 01's order of spans, and whose class a `match` decides.
+// Spans and states as numbers: the order of the spans' numbers is 01's order of spans, and a `match` on a state's number decides its class.
 pub mod title;
 
 use casts::u8_to_u64;
@@ -32,7 +32,7 @@ pub fn variable_time(event: u8, offset: u16) -> u64
 
 // ## Spans
 
-// The number of a span from its parts: times, open_end as 0 or 1, repeats as 0 for none, else their minutes and one.
+// The number of a span from its parts: times, open_end as 0 or 1, repeats as 0 for none, else one more than their minutes.
 pub fn span(start: u64, end: u64, open_end: u64, repeats: u64) -> u64
     requires { ⌜ (start < 524288) × (end < 524288) × (open_end < 2) × (repeats < 8192) ⌝ }
     ensures { λ r. ⌜ r ≡ partsNumber start end open_end repeats ⌝ }

@@ -1,5 +1,5 @@
--- The steps of the cutting: the rows at their places, the bounds cut, then a rule more. Rests on the laws of cuts as rules come in, and on
--- how few ranges a rule has that a sheet carries.
+-- The steps of `cut_all`: the rows are placed, both bounds are cut, then the ranges of one rule after the other. Rests on the laws of cuts as
+-- rules come in, and on the law that a rule which a sheet carries has few ranges.
 use mathlib.Core.Path.{_≡_, refl, sym, ap, _∙_, subst}
 use mathlib.Core.Bool.{Bool, true, false}
 use mathlib.Core.List.{List, [], _∷_}

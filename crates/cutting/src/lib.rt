@@ -15,7 +15,7 @@ ghost use Rattle.tables.specs.Rules.{RuleDays};
 ghost use Rattle.tables.specs.Cuts.{CutBy, Cut};
 ghost use Rattle.cutting.specs.Cutting.{Placed, Rows};
 
-// A row for each dimension, one behind the other.
+// Places a row for each dimension, one behind the other.
 fn place_rows(row_starts: &mut [u16], places: u16)
     requires { ⌜ (length (now «row_starts») ≡ 4) × (places < 16384) ⌝ }
     ensures { λ _. ⌜ Placed places (now («row_starts» .exit)) ⌝ }
@@ -26,7 +26,7 @@ fn place_rows(row_starts: &mut [u16], places: u16)
     row_starts[3] = 3 * places;
 }
 
-// Each dimension with its bounds as its only cuts: weekdays, weeks, months, years.
+// Starts each dimension with its bounds as its only cuts: weekdays, weeks, months, years.
 fn start_rows(cuts: &mut [u16], sizes: &mut [u16], row_starts: &mut [u16], places: u16)
     requires { ⌜ (length (now «row_starts») ≡ 4) × (length (now sizes) ≡ 4) ⌝ }
     requires { ⌜ (2 ≤ places) × (places < 16384) × (4 * places ≤ length (now cuts)) ⌝ }
@@ -67,7 +67,7 @@ fn start_rows(cuts: &mut [u16], sizes: &mut [u16], row_starts: &mut [u16], place
     );
 }
 
-// Cuts the rows at the ranges of some rules, one rule after the other.
+// Cuts the rows at the ranges of the first `rules` rules, one rule after the other.
 fn cut_rules(
     cuts: &mut [u16],
     sizes: &mut [u16],
@@ -99,7 +99,7 @@ fn cut_rules(
     }
 }
 
-// The rows of the cuts of some rules, so many, and the number of boxes between them.
+// Makes the rows of the cuts of the first `rules` rules; answers the number of boxes between them.
 pub fn cut_all(
     cuts: &mut [u16],
     sizes: &mut [u16],

@@ -1,5 +1,5 @@
--- The runs of columns, column by column: one that is out, and one that is in, whose run goes on to its end. And how many runs there are at
--- most.
+-- The runs of marked columns, column by column: an unmarked column is passed over, a marked one begins a run that goes on to its end. And how
+-- many runs there are at most.
 use mathlib.Core.Path.{_≡_, refl, sym, ap, _∙_}
 use mathlib.Core.Bool.{Bool, true, false}
 use mathlib.Core.List.{List, [], _∷_}

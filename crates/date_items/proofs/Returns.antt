@@ -1,5 +1,5 @@
--- One lemma for each return of the code, in its own terms: where a run ends; a column that ends the walk, one that is passed over, one whose run is
--- written; a full dimension and any other. Rests on the runs of columns.
+-- One lemma for each return of `run_end`, `put_runs` and `put_items`: where a run ends; no column left, a column passed over, a run written; a
+-- full dimension and any other. Rests on the runs of columns.
 use mathlib.Core.Path.{_≡_, refl, sym, ap, _∙_}
 use mathlib.Core.List.{List, [], _∷_, map}
 use Prim.Native.Nat.{ℕ, suc, _+_, _-_, _*_, _≤_, _<_}

@@ -9,7 +9,7 @@ ghost use lib.Seq.{sets};
 ghost use Rattle.date_items.specs.Runs.{markAt, runEnd, Cuts, runsFrom, asItem, itemsAt};
 ghost use Rattle.tables.specs.Items.{numbers};
 
-// The first column from one on that isn't marked, or the width.
+// The first column from `column` on that isn't marked, or the width.
 fn run_end(marks: &[u8], base: usize, width: usize, column: usize) -> usize
     requires { ⌜ (column ≤ width) × (base + width ≤ length (now marks)) ⌝ }
     ensures { λ r. ⌜ r ≡ runEnd (markAt (now (marks .entry)) base) column (width - column) ⌝ }
@@ -23,7 +23,7 @@ fn run_end(marks: &[u8], base: usize, width: usize, column: usize) -> usize
     column
 }
 
-// The runs of the marked columns from one on; answers how many.
+// Writes the runs of the marked columns from `column` on as items; answers how many.
 fn put_runs(
     marks: &[u8],
     base: usize,
@@ -53,7 +53,7 @@ fn put_runs(
     0
 }
 
-// The items of a dimension; answers how many.
+// Writes the items of a dimension; answers how many.
 pub fn put_items(
     marks: &[u8],
     base: usize,

@@ -1,4 +1,4 @@
--- One lemma for each return of the functions that compare days and that make a fingerprint.
+-- One lemma for each return of `same_words` and `fingerprint`.
 use mathlib.Core.Path.{_≡_, sym, ap, _∙_}
 use mathlib.Core.List.{List}
 use mathlib.Core.Bool.{true, false}

@@ -1,5 +1,5 @@
--- The flat form of a day: for each entry its state, how many spans it has, and these; and a day read back from words. And the list of
--- rules that numbers name over tables; a day looks at their states and spans alone.
+-- The flat form of a day, as words: for each entry its state, how many spans it has, and these; and a day read back from words. And the rules
+-- that a list of numbers names in the tables: only with their states and spans, which are all that a day depends on.
 use mathlib.Core.Path.{_≡_}
 use mathlib.Core.List.{List, [], _∷_, _++_, map}
 use mathlib.Core.Bool.{Bool}

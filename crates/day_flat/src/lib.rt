@@ -1,4 +1,5 @@
-// Days in their flat form: whether two are equal, a number that equal ones share, and the class of one.
+// Days in their flat form, as words: for each entry its state, how many spans it has, and these. Whether two days are equal, a number that
+// equal ones share, and the class of one.
 pub mod class;
 
 ghost use mathlib.Core.Path.{_≡_};

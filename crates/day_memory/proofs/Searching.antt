@@ -1,4 +1,5 @@
--- The search for a day among the known boxes, on its way and at its end. Rests on hashes: equal words have equal ones.
+-- The search for a day among the known boxes: what holds after each row passed, and what is answered at the end. Equal words have equal hashes,
+-- so no row with another hash has the day.
 use mathlib.Core.Path.{_≡_, refl, sym, ap, _∙_}
 use mathlib.Core.List.{List}
 use mathlib.Core.Bool.{Bool, true, false, true≢false}

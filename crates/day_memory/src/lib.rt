@@ -1,5 +1,5 @@
-// A day is looked for among the days of the lists met before: where the hash is the same, the list is folded again and the words are
-// compared. `find_day` has more than twelve parameters: the scratch of a day is six slices (`other`, `span_states`, `span_codes`, `strokes`,
+// Looks for a day among the days of the lists met before: where the hash is the same, that list is folded again and the words are compared.
+// `find_day` has more than twelve parameters: the scratch of a day is six slices (`other`, `span_states`, `span_codes`, `strokes`,
 // `minute_cuts`, `interval_states`), the rules' times are three, and the language lends no struct of slices.
 use box_day::same_day;
 use casts::u16_to_usize;
@@ -14,7 +14,7 @@ ghost use Rattle.box_day.specs.Boxes.{Scratch};
 ghost use Rattle.tables.specs.Days.{boxWords, Ready};
 ghost use Rattle.day_memory.specs.Known.{DaysHashed, SameWords};
 
-// Looks for a day's words among so many rows: answers the box of a row whose day has the same words, or that there is none.
+// Looks for a day's words among the first `known_count` rows: answers the box of a row whose day has the same words, or that there is none.
 pub fn find_day(
     words: &[u64],
     other: &mut [u64],

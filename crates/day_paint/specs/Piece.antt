@@ -36,7 +36,7 @@ meetsUpTo x b = earlier (strokeEnd x) b
 unfoldable pub meets : ℕ → ℕ → ℕ → Bool
 meets x a b = ltb (meetsFrom x a) (meetsUpTo x b)
 
--- how many strokes there are up to the last of the first i that meets the range; 0 where none does
+-- which of the first i strokes is the last that meets the range, counted from 1; 0 where none does
 unfoldable pub lastMeeting : List ℕ → ℕ → ℕ → ℕ → ℕ
 lastMeeting strokes zero a b = 0
 lastMeeting strokes (suc i) a b = cond (meets (getD strokes i 0) a b) (suc i) (lastMeeting strokes i a b)
@@ -53,6 +53,6 @@ unfoldable pub pieces : List ℕ → ℕ → ℕ → ℕ → List Piece
 pieces strokes zero a b = cond (ltb a b) ((a, b, 65536) ∷ []) []
 pieces strokes (suc i) a b = paintedOver (getD strokes i 0) (pieces strokes i) a b
 
--- a day's
+-- the pieces of a whole day
 abbrev pub dayPieces : List ℕ → ℕ → List Piece
 dayPieces strokes k = pieces strokes k 0 1440

@@ -1,4 +1,4 @@
-// Which spans of a list paint, and the pieces of a day that they show.
+// Which spans of a list paint, as strokes; and, in piece.rt, the pieces of a day that the strokes show.
 pub mod piece;
 
 use casts::u32_to_u64;

@@ -1,5 +1,5 @@
-// A day as pieces of one state, in rising order. Strokes are painted one over another, so they are asked from the last one back: where a stroke
-// shows, those before it are not asked, and no cut has to be sorted.
+// A day as pieces of one state, in rising order. Strokes are painted one over another, so they are looked at from the last one back: where a
+// stroke shows, those before it are not looked at, and no cut has to be sorted.
 use crate::START_UNIT;
 use crate::STATE_UNIT;
 use codes::CLOSED;
@@ -28,7 +28,7 @@ fn stroke_start(x: u64) -> u64
     x / START_UNIT % START_UNIT
 }
 
-// The minute up to which it does.
+// The minute up to which a stroke paints.
 fn stroke_end(x: u64) -> u64
     ensures { λ r. ⌜ r ≡ strokeEnd x ⌝ }
 {
@@ -58,7 +58,7 @@ fn meets_range(x: u64, a: u64, b: u64) -> bool
     start < end
 }
 
-// How many strokes there are up to the last of the first i that meets a range; 0 where none does.
+// Which of the first i strokes is the last that meets a range, counted from 1; 0 where none does.
 fn last_meeting(strokes: &[u64], i: usize, a: u64, b: u64) -> usize
     requires { ⌜ (i ≤ length (now strokes)) × (a < b) ⌝ }
     ensures { λ r. ⌜ r ≡ lastMeeting (now (strokes .entry)) i a b ⌝ }

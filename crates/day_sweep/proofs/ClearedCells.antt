@@ -1,4 +1,4 @@
--- The cells that are left when a state is emptied.
+-- What the cells hold after a state was emptied.
 use mathlib.Core.Path.{_≡_, refl, sym, ap, _∙_}
 use mathlib.Core.List.{List}
 use mathlib.Core.Bool.{Bool, true, false, cond}

@@ -1,4 +1,5 @@
--- What the words of a class mean: the flat form of the groups that a sweep of the intervals takes for it. Rests on popping along a row.
+-- The words of a class are the flat form of the groups that grid's sweep over the intervals takes out for it. Rests on the laws of popping
+-- along one dimension.
 use mathlib.Core.Path.{_≡_, refl, sym, ap, ap₂, _∙_, subst}
 use mathlib.Core.List.{List, [], _∷_, _++_, map, append-assoc}
 use mathlib.Core.Logic.{inl, inr}

@@ -10,7 +10,7 @@ use Rattle.codes.specs.Number.{stateCoded, partsNumber}
 use Rattle.words.specs.Words.{part, entryWords}
 
 -- ## Bounds
--- the number of a time lies below it
+-- the number of every time lies below this
 abbrev pub timeLimit : ℕ
 timeLimit = 524288
 
@@ -26,7 +26,7 @@ entryLimit = 65539
 abbrev pub classLimit : ℕ
 classLimit = 4295163904
 
--- the words of the painted states are fewer: 2 ^ 40, more than five classes have
+-- the painted states have fewer words than this: 2 ^ 40, more than five classes can have
 abbrev pub wordLimit : ℕ
 wordLimit = 1099511627776
 

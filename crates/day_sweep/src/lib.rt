@@ -1,4 +1,4 @@
-// Writes painted states, class by class.
+// Writes painted states, class by class: each state once, with all its runs of minutes, after which its intervals are emptied.
 use codes::CLOSED;
 use codes::span;
 use codes::state_class;
@@ -21,7 +21,7 @@ fn write_run(buf: &mut [u64], at: usize, a: u64, c: u64) -> usize
     0
 }
 
-// Writes the runs of a state from interval j on, where a run goes on from a, at the front of a buffer; answers how many.
+// Writes the runs of a state from interval j on to the front of a buffer, one of which has begun at minute a; answers how many.
 fn write_runs(
     buf: &mut [u64],
     minute_cuts: &[u64],

@@ -1,5 +1,5 @@
--- A day's rules: entry by entry, over runs as the definition's rules of a page, and their bits one rule after the other. Rests on the law
--- that a rule laid over runs is the rule over their items.
+-- A day's rules, entry by entry: over a page's runs they are the definition's rules of the page, and their bits stand one rule after the other.
+-- Rests on the law that a rule laid over runs is the rule over their items.
 use mathlib.Core.Path.{_≡_, refl, sym, ap, ap₂, _∙_}
 use mathlib.Core.List.{List, [], _∷_, _++_, map, flatMap}
 use Prim.Native.Nat.{ℕ, suc, _+_, _-_}

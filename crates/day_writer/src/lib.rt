@@ -17,7 +17,7 @@ pub struct Measure {
     pub bits: usize,
 }
 
-// How many rules the entries in so many words from a place on are, and how many bits these take, whatever the operators and the ends.
+// How many rules the entries in the `words_left` words from `at` on make, and how many bits these take: no operator or end changes that.
 fn measure_entries(words: &[u64], at: usize, words_left: usize, item_counts: &[u16]) -> Measure
     requires { ⌜ (4 ≤ length (now «item_counts»)) × ((sort : ℕ) → getD (now «item_counts») sort 0 < 2 ^ 10) ⌝ }
     requires { ⌜ Whole (now words) at «words_left» ⌝ }
@@ -44,7 +44,7 @@ fn measure_entries(words: &[u64], at: usize, words_left: usize, item_counts: &[u
     }
 }
 
-// How many rules a day of so many words is, and how many bits these take, whatever the ends.
+// How many rules a day of `count` words makes, and how many bits these take, whatever the items' ends.
 pub fn measure_day(words: &[u64], count: usize, item_counts: &[u16]) -> Measure
     requires { ⌜ (4 ≤ length (now «item_counts»)) × ((sort : ℕ) → getD (now «item_counts») sort 0 < 2 ^ 10) ⌝ }
     requires { ⌜ Whole (now words) 0 count ⌝ }
@@ -57,7 +57,7 @@ pub fn measure_day(words: &[u64], count: usize, item_counts: &[u16]) -> Measure
     measure_entries(words, 0, count, item_counts)
 }
 
-// The entries in so many words from a place on as rules, the first with a given operator.
+// Writes the entries in the `words_left` words from `next` on as rules, the first with a given operator.
 fn write_entries(
     out: &mut [u8],
     at: usize,
@@ -102,7 +102,7 @@ fn write_entries(
     )
 }
 
-// The rules of a day of so many words; answers the place after them.
+// Writes the rules of a day of `count` words; answers the place after them.
 pub fn write_day(
     out: &mut [u8],
     at: usize,

@@ -1,5 +1,5 @@
--- COUNTS FIT THEIR FIELDS: what the fold writes has no more rules, items and spans than the form's counts can carry. Rests on the laws of
--- groups, entries and spans.
+-- HOW LARGE PAGES ARE: there are no more pages than boxes, a page has in each dimension at most half as many runs as there are boxes, rounded
+-- up, and its entries have few spans. Rests on the laws of groups, entries and spans.
 use mathlib.Core.Path.{_≡_, refl, sym, ap, ap₂, subst}
 use mathlib.Core.List.{List, [], _∷_, map, flatMap}
 use mathlib.Core.Option.{none}

@@ -1,5 +1,5 @@
--- The core of demand 3: for any choice of the minutes that non-simple spans cover, the last covering span of a day says at each minute
--- what the last covering span of its list says, plain Closed where none covers. Rests on grid's law that the groups give the map back.
+-- The core of demand 3: for any choice of the minutes that non-simple spans cover, the last covering span of a day says at each minute what the
+-- last covering span of its list says, plain Closed where none covers. Rests on the law that the painted entries show the painting.
 use mathlib.Core.Path.{_≡_, refl, sym, ap, ap₂, _∙_}
 use mathlib.Core.List.{List, [], _∷_, _++_, map, flatMap}
 use mathlib.Core.Bool.{Bool, true, false, _||_, not, cond}

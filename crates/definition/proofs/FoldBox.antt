@@ -1,4 +1,5 @@
--- THE FOLD OVER POINTS IS THE FOLD OVER BOXES, for all lawful rules, and so for every sheet. Rests on grid's law and on the days'.
+-- THE FOLD OVER POINTS IS THE FOLD OVER BOXES, for all lawful rules, and so for every sheet. Rests on grid's law that points are boxes, and on
+-- the same law of days.
 use mathlib.Core.Path.{_≡_, refl, sym, ap, ap₂, _∙_}
 use mathlib.Core.List.{List, [], _∷_, _++_, map, flatMap}
 use mathlib.Core.Bool.{Bool, true, false, cond}

@@ -1,4 +1,5 @@
--- THE FOLD BY CASES: what it is where the sheet is refused, the drained rules are judged, or they are fine. Rests on the definition alone.
+-- THE FOLD BY CASES: what it answers where the sheet is refused, where the drained rules are refused by 5 or 6, and where they are fine. Rests
+-- on the definition alone.
 use mathlib.Core.Path.{_≡_, refl, ap}
 use mathlib.Core.List.{List, _++_}
 use Prim.Native.Nat.{ℕ}

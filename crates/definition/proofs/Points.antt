@@ -1,4 +1,4 @@
--- Lists at points, of rules one behind the other; and how many ranges an item has: two at most.
+-- The list at a point after some rules and then others; and an item has at most two ranges.
 use mathlib.Core.Path.{_≡_, refl}
 use mathlib.Core.Bool.{Bool, true, false}
 use mathlib.Core.List.{List, [], _∷_, _++_}

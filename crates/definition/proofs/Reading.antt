@@ -1,5 +1,5 @@
--- A reading step by step: how layouts that are put together go on or stop, and how far they go. Whoever reads a sheet field by field
--- cites these and no layout's text.
+-- A reading step by step: how layouts that are put together go on or stop, and how far they go. Proofs about readers cite these laws and never
+-- look into a layout.
 use mathlib.Core.Path.{_≡_, refl, sym, ap, ap₂, _∙_}
 use mathlib.Core.List.{List, [], _∷_}
 use mathlib.Core.Bool.{Bool, true, false}

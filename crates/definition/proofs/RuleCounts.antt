@@ -1,5 +1,5 @@
--- COUNTS FIT THEIR FIELDS: what the fold writes has no more rules, items and spans than the form's counts can carry. Rests on the counts of
--- pages and spans.
+-- COUNTS FIT THEIR FIELDS: what the fold writes has no more rules, items and spans than the form's counts can carry. Rests on how large pages
+-- are.
 use mathlib.Core.Path.{_≡_, refl, sym, subst}
 use mathlib.Core.List.{List, [], _∷_, _++_, map, flatMap}
 use mathlib.Core.Option.{Option, none, some}

@@ -1,4 +1,4 @@
--- THE WORKED DAYS, over points: computed over boxes, and carried by the law that points are boxes.
+-- THE WORKED DAYS, over points: computed over boxes, and carried to points by the law that both folds are the same.
 use mathlib.Core.Path.{_≡_, refl, ap, _∙_}
 use mathlib.Core.List.{List, [], _∷_, flatMap}
 use mathlib.Core.Bool.{Bool, true, _&&_}

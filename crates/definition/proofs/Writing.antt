@@ -1,4 +1,5 @@
--- A result into a buffer: it has room, or 7; and elements stored one after the other from the front on.
+-- A result written into a buffer: it has room, or it is refused by 7; and storing its elements one after the other from the front on gives the
+-- definition's buffer.
 use mathlib.Core.Path.{_≡_, ap, _∙_}
 use mathlib.Core.List.{List, _++_}
 use Prim.Native.Nat.{ℕ, _+_, _≤_, _<_}

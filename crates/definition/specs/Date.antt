@@ -70,7 +70,7 @@ abbrev pub thursday : ℕ
 thursday = 3
 
 -- weeks go from Monday to Sunday: the Thursday comes 3, 2 or 1 days after the week's Monday, Tuesday or Wednesday, and 1, 2 or 3 days
--- before its Friday, Saturday or Sunday. What goes below 0 is 0, so one walks one way alone.
+-- before its Friday, Saturday or Sunday. A difference below 0 counts as 0, so the walk goes one way only.
 unfoldable pub thursdayOf : YearDay → YearDay
 thursdayOf a = times (thursday - weekdayAt a) dayAfter (times (weekdayAt a - thursday) dayBefore a)
 

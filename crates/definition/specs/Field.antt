@@ -143,7 +143,7 @@ via make parts L = record {
   fits = λ y. L .fits (parts y);
 }
 
--- a tag, and behind it what the tag asks for
+-- a tag, and behind it the layout for that tag
 unfoldable pub tagged : {A B : Type 0} → Layout A → (A → Layout B) → (B → A) → Layout B
 tagged L M tag = record {
   read = λ s p. andThen (λ t q. (M t) .read s q) (L .read s p);

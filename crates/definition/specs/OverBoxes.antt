@@ -1,5 +1,5 @@
--- The same definitions over boxes, between the cuts of the rules' ranges, and days over the intervals between their spans' ends: what
--- computes. No promise speaks of them; proofs/ show that they are the definitions over points and minutes.
+-- The same definitions over the boxes between the cuts of the rules' ranges, and days over the intervals between their spans' ends: few enough
+-- to be computed. No promise speaks of them; proofs/ show that they equal the definitions over points and minutes.
 use mathlib.Core.List.{List, [], _∷_, _++_, map, flatMap}
 use mathlib.Core.Option.{Option}
 use Prim.Native.Nat.{ℕ}

@@ -1,4 +1,4 @@
--- How often a box is among the covered ones: once for each combination of one covering range per dimension. Rests on the columns' laws.
+-- How often a box is among the covered ones: once for each combination of one covering range per dimension.
 use mathlib.Core.Path.{_≡_, refl, sym, ap, ap₂, _∙_}
 use mathlib.Core.Bool.{Bool, true, false, _&&_, cond}
 use mathlib.Core.List.{List, [], _∷_, _++_, map, flatMap}

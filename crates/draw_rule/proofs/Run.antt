@@ -1,4 +1,4 @@
--- The boxes of the last dimension that a range covers stand side by side where the dimension's cuts rise. Rests on the columns' laws.
+-- The boxes of the last dimension that a range covers stand side by side where the dimension's cuts rise. Rests on paving's laws of columns.
 use mathlib.Core.Path.{_≡_, refl, sym, ap, ap₂, _∙_}
 use mathlib.Core.Bool.{Bool, true, false}
 use mathlib.Core.List.{List, _∷_, flatMap}

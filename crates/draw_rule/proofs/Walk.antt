@@ -1,4 +1,5 @@
--- One lemma for each return of the update, in plain terms: s before, s₁ after the first call, s₂ after the second. Rests on the columns' laws.
+-- One lemma for each return of `update`, `update_columns` and `draw`: s stands for the lists and the flag before, s₁ after the first call, s₂
+-- after the second. Rests on paving's laws of columns.
 use mathlib.Core.Path.{_≡_, refl, ap}
 use mathlib.Core.Bool.{Bool, true, false}
 use mathlib.Core.List.{List, [], _∷_, _++_, flatMap}

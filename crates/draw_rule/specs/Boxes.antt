@@ -1,4 +1,4 @@
--- What an update must make of a box's list.
+-- A box's list after a rule that covers the box so many times: what drawing the rule must leave there.
 use mathlib.Core.Bool.{Bool, true, false, cond}
 use mathlib.Core.List.{List, [], _∷_, _++_}
 use Prim.Native.Nat.{ℕ, _+_}

@@ -37,7 +37,7 @@ pub fn draw(
     true
 }
 
-// Draws a rule at the boxes from one up to another.
+// Draws a rule at the boxes from `first` up to `end`, excluded.
 fn draw_boxes(
     lists: &mut [u16],
     rule: u16,

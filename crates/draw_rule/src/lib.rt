@@ -34,7 +34,7 @@ fn covers(
     }
 }
 
-// The first column, from one on, that a range covers; the width, if there is none.
+// The first column, from `column` on, that a range covers; the width, if there is none.
 fn next_covered(
     row_starts: &[u16],
     cuts: &[u16],
@@ -144,7 +144,7 @@ pub fn update(
     )
 }
 
-// The same below the columns of a box, from one on, that a range covers.
+// The same below the columns of a box, from `column` on, that a range covers.
 fn update_columns(
     lists: &mut [u16],
     sizes: &[u16],

@@ -1,5 +1,5 @@
--- The steps of the drawing: a rule whose ranges stand in the tables is the definition's rule, and drawing it gives the lists of a rule more, or
--- the definition's first rule after which a list is too long. Rests on the laws of the lists.
+-- The steps of `draw_rules`: the rule in the tables is the definition's, and drawing it gives the lists after one rule more, or it is the
+-- definition's first rule after which a list is too long. Rests on the laws of lists at points.
 use mathlib.Core.Path.{_≡_, refl, sym, ap, ap₂, _∙_, subst}
 use mathlib.Core.Bool.{Bool, true, false, cond}
 use mathlib.Core.List.{List}
@@ -75,7 +75,7 @@ module _ (replacing counts ranges rows sizes cuts : List ℕ) (n : ℕ) (rs : Li
   lawful : All rules.Lawful rs
   lawful = All-map (λ r f. rules.rule-lawful form1 limits1 r f) rs (drawable .0 .fits)
 
-  -- what the drawing of one rule asks for
+  -- what drawing one rule requires
   pub rule-there : (k : ℕ) → k < n → (k < 65536) × (k * 4 + 4 ≤ length counts) × (k * 256 + 256 ≤ length ranges)
   rule-there k h =
       let days = drawable .0 in

@@ -1,4 +1,4 @@
--- What the answer of the drawing says: the first rule after which a list is too long, or that each box has its list. And lists of zeros are
+-- What the answer of `draw_rules` says: the first rule after which a list is too long, or that each box has its list. And lists of zeros are
 -- empty.
 use mathlib.Core.Path.{_≡_, sym, ap, _∙_}
 use mathlib.Core.List.{List}

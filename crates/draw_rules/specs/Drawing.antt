@@ -1,4 +1,4 @@
--- What the drawing of all rules answers.
+-- What `draw_rules` answers, and what the lists then hold.
 use mathlib.Core.Path.{_≡_}
 use mathlib.Core.List.{List}
 use Prim.Native.Nat.{ℕ, _≤_}

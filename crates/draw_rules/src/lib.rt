@@ -1,4 +1,4 @@
-// All rules drawn over the boxes, one after the other, from the tables of their days, up to the first rule after which a list is too long.
+// Draws all rules over the boxes, one after the other, out of the tables of their days, up to the first rule after which a list is too long.
 use casts::u16_to_usize;
 ghost use mathlib.Core.Path.{_≡_};
 ghost use mathlib.Core.Bool.{false};
@@ -14,7 +14,7 @@ ghost use Rattle.tables.specs.Cuts.{Drawable};
 ghost use Rattle.tables.specs.Lists.{Empty};
 ghost use Rattle.draw_rules.specs.Drawing.{Listing};
 
-// The rule of a number drawn over all boxes: whether a list is too long then.
+// Draws the rule of a number over all boxes; answers whether a list is too long then.
 fn draw_rule(
     lists: &mut [u16],
     row_starts: &[u16],
@@ -53,7 +53,7 @@ fn draw_rule(
     )
 }
 
-// All rules drawn over boxes whose lists are empty: the first rule after which a list is too long, or how many rules there are.
+// Draws all rules over boxes whose lists are empty; answers the first rule after which a list is too long, or how many rules there are.
 pub fn draw_rules(
     lists: &mut [u16],
     row_starts: &[u16],

@@ -1,5 +1,5 @@
--- A field in two parts, and a field within a wider one: what is read from whole bytes, and stored with them, goes by this.
--- Rests on the definition's laws of bits.
+-- A field in two parts, and a field within a wider one: so a field can be read from the whole bytes that it spans, and stored with them. Rests
+-- on the definition's laws of bits.
 use mathlib.Core.Path.{_≡_, refl, sym, ap, _∙_, subst}
 use mathlib.Core.List.{List, [], _∷_, _++_}
 use Prim.Native.Nat.{ℕ, _+_, _*_, _/_, _%_, _^_, _≤_, _<_}

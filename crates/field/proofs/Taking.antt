@@ -1,4 +1,4 @@
--- A field that is tested, from the field of any value: what was read stands where the test passes, and a refusal stands.
+-- A field with a test, by the field of any value: where that one is refused, so is this one; else the test decides.
 use mathlib.Core.Path.{_≡_, refl, sym, ap, ap₂, _∙_}
 use mathlib.Core.List.{List}
 use mathlib.Core.Bool.{Bool, true, false, cond}

@@ -64,7 +64,7 @@ module _ (states counts spans : List ℕ) (rs : List Rule) (tables : RuleTimes s
 
   -- ## Boxes
   module _ (rows sizes cuts lists : List ℕ) (boxed : Boxed rows sizes cuts lists rs) where
-    -- the rows are those that popping asks for
+    -- the rows are those that popping requires
     pub rows-cut : CutRows rows cuts sizes 4
     rows-cut =
         cut-rows rows sizes cuts rs dimensions (boxed .cut .cut-by) (lawful-bounded rs (entries-lawful states counts spans rs tables))

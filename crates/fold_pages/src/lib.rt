@@ -1,5 +1,5 @@
-// From boxes with lists to pages of the folded rules: the boxes' days are numbered, groups of boxes that have one day popped as pages, and
-// the pages counted.
+// From boxes with lists to pages of the folded rules: numbers the boxes' days, pops the groups of boxes that have one day, writes each as a
+// page, and counts the pages.
 ghost use mathlib.Core.List.{List};
 ghost use Prim.Native.Nat.{_*_, _≤_};
 ghost use lib.ListN.{length};
@@ -32,7 +32,7 @@ pub fn fold_pages(
     let mut classes = buffers::day_classes();
     let mut marks = buffers::marks();
     let numbers = &mut cells[..boxes];
-    // While days are numbered the room for pages holds the memory of lists met.
+    // No page is written yet, so the buffer of the pages holds the memory of the lists met.
     number_boxes::number_boxes(
         states,
         span_counts,

@@ -1,5 +1,5 @@
 -- THE ANSWER: what was measured is the length of the sheet that the definition writes, and both answers, refused and written, are the
--- definition's. Rests on the records of pages and of the rules left.
+-- definition's. Rests on what is known of the pages (`Paged`) and of the rules left (`Leaving`).
 use mathlib.Core.Path.{_≡_, sym, ap, ap₂, _∙_}
 use mathlib.Core.List.{List, [], _∷_, _++_}
 use Prim.Native.Nat.{ℕ, _+_, _-_, _^_, _≤_, _<_}

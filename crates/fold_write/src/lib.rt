@@ -1,4 +1,4 @@
-// The result written: all is measured, refused where the buffer has no room (7), and else written: the rule count, the rules of the pages,
+// Writes the result: all is measured first, then refused where the buffer has no room (7), or written: the rule count, the rules of the pages,
 // the rules left as their bits stand in the sheet, zero bits to the byte's end.
 use answers::Folded;
 use answers::fold_refused;
@@ -79,7 +79,7 @@ fn write_sheet(
     sheet_writer::put_left(sheet, start, end, out, place);
 }
 
-// The result of a fold whose drained rules stand folded on so many pages: written to the front of the buffer, or refused with nothing written.
+// The result of a fold whose drained rules stand folded on `count` pages: written to the front of the buffer, or refused with nothing written.
 pub fn emit(
     sheet: &[u8],
     left: Left,

@@ -14,7 +14,7 @@ fn print_refusal(name: &[u8], code: u64, place: u64) {
     io::write_all(STDOUT_FILENO, b"\n");
 }
 
-// The line and a newline after it: as many bytes as were written, none of them past the buffer.
+// Prints the line and a newline after it: as many bytes as were written, none of them past the buffer.
 fn print_line(line: Written, text: &[u8]) {
     let bytes = line.bytes;
     if line.code == 0 && bytes <= text.len() {
@@ -31,7 +31,7 @@ fn show_line(folded: &[u8]) {
     print_line(line, &text);
 }
 
-// The fold's result goes on to its line.
+// Shows the line of the fold's result, or why there is none.
 fn show_fold(folded: Folded, out: &[u8]) {
     let bytes = folded.bytes;
     if folded.code == 0 && bytes <= out.len() as u64 {

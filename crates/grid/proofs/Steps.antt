@@ -1,5 +1,5 @@
--- A sweep ends: as many steps as there are matching points are enough, and more change nothing. So a sweep unrolls for ever.
--- Rests on the popped groups' laws.
+-- A sweep ends: as many steps as there are matching points are enough, and more change nothing. So a sweep is its first group, followed by the
+-- sweep of what is left. Rests on the popped groups' laws.
 use mathlib.Core.Path.{_≡_, refl, ap}
 use mathlib.Core.List.{List, [], _∷_}
 use mathlib.Core.Option.{Option, none, some}

@@ -1,5 +1,5 @@
--- How wide the groups' sets are: no list of theirs is empty, so that the coordinates of a set are hardly more than its points. Rests on the
--- popped groups' laws.
+-- How wide the groups' sets are: none of their lists is empty, so the coordinates of a set are fewer than its points and its dimensions
+-- together. Rests on the popped groups' laws.
 use mathlib.Core.List.{List, [], _∷_}
 use mathlib.Core.Bool.{Bool}
 use Prim.Native.Nat.{ℕ, zero, suc, _+_, _*_, _≤_}

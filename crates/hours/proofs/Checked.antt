@@ -32,7 +32,7 @@ module _ (sheet : List ℕ) (r : Checked) (answer : asChecked r ≡ checked shee
       go (refused k j) h g = let a : k ≡ c = cc in let b : j ≡ p = cc in h ∙ ap (λ z. refused z j) a ∙ ap (refused c) b
       go (got rs q) h g = let z : _≡_ {A = ℕ} 0 1 = cc in absurd (omega arith)
 
-  -- what the line asks of the rules that were read; and theirs is the line of the sheet
+  -- what the line requires of the rules that were read; and theirs is the line of the sheet
   module _ (b : Bytes sheet) (begins before : List ℕ) (noted : begins ≡ begun sheet before) (room : 64 ≤ length before) (n q : ℕ) (e : r ≡ Rules n q) where
     read : (rs : List Rule) × (decode form1 limits1 sheet ≡ got rs q) × (length rs ≡ n)
     read = checked-rules sheet n q (sym answer ∙ ap asChecked e)

@@ -4,6 +4,6 @@ use mathlib.Core.List.{List}
 use Prim.Native.Nat.{ℕ}
 use Rattle.definition.specs.Fold.{buffer}
 
--- some numbers at the front, where the answer is told
+-- the lent slice afterwards: these numbers at its front if the answer is yes, else as it was
 abbrev pub put : Bool → List ℕ → List ℕ → List ℕ
 put told numbers lent = cond told (buffer numbers lent) lent

@@ -1,4 +1,4 @@
--- What a tag asks for: the layout behind it, once the tag is known.
+-- The layout that stands behind each tag.
 use mathlib.Core.Path.{_≡_, sym, ap, _∙_}
 use mathlib.Core.List.{List}
 use mathlib.Core.Bool.{true, false}

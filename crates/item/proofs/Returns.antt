@@ -1,4 +1,4 @@
--- The return of a reader whose field was refused: the refusal stands.
+-- Where a field of an item is refused, the item's reader answers that refusal: one lemma for each sort of item.
 use mathlib.Core.Path.{_≡_, sym, ap, _∙_}
 use Prim.Native.Nat.{ℕ}
 use Rattle.definition.specs.Field.{Read, refused}

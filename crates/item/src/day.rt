@@ -231,7 +231,7 @@ pub fn week_day_range_at(sheet: &[u8], at: usize) -> WeekDay
     }
 }
 
-// Weekdays as they stand: not moved, and every one of a month.
+// Whether weekdays are meant as they stand: not moved by days, and every one of a month.
 pub fn every_week(offset: u64, from_start: u64, from_end: u64) -> bool
     ensures { λ r. ⌜ r ≡ eqb offset 0 && (eqb «from_start» everyNth && eqb «from_end» everyNth) ⌝ }
 {

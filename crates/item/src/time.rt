@@ -1,4 +1,4 @@
-// Times and spans, read at a bit.
+// Times and spans, read at a bit: each answers its values with the bit after it, or a refusal's code and place.
 use field::Taken;
 use field::width;
 ghost use mathlib.Core.Path.{_≡_};

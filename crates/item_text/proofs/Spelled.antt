@@ -1,4 +1,4 @@
--- How each text is spelled, piece behind piece.
+-- How the text of each part of a rule is put together from pieces.
 use mathlib.Core.Path.{_≡_, refl, sym, ap, _∙_}
 use mathlib.Core.List.{List, [], _∷_, _++_, append-nil}
 use mathlib.Core.Bool.{Bool, true, false, cond}

@@ -1,4 +1,4 @@
--- The two parts of a state's text.
+-- The two parts of a state's text: its kind and its comment.
 use mathlib.Core.List.{List, [], _++_}
 use mathlib.Core.Bool.{_&&_, cond}
 use Prim.Native.Nat.{ℕ}

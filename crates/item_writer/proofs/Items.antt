@@ -1,4 +1,4 @@
--- The bits of weekdays; and of a time, of repeats and of a span, by their number, with what a lawful one's number is below.
+-- The bits of weekdays; the bits of a time, of repeats and of a span, by their numbers; and that the parts of a lawful one fit their fields.
 use mathlib.Core.Path.{_≡_, sym, ap, _∙_}
 use mathlib.Core.List.{_++_, append-assoc, append-nil}
 use mathlib.Core.Bool.{true, _&&_}

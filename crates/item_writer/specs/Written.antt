@@ -1,4 +1,4 @@
--- What a writer asks for and what it leaves: bits stored in a buffer from a place on, every other bit as it was, and the place after
+-- What a writer requires and what it leaves: bits stored in a buffer from a place on, every other bit as it was, and the place after
 -- them. And the items of days that the fold writes: "step 1, offset 0, nth bits all 1".
 use mathlib.Core.Path.{_≡_}
 use mathlib.Core.List.{List}

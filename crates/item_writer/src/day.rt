@@ -1,4 +1,4 @@
-// The items of days.
+// Writes the items of days: years, months, weeks and weekdays.
 use crate::put::put_three;
 use field::width;
 ghost use Prim.Native.Nat.{_<_};

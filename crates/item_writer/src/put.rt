@@ -1,4 +1,4 @@
-// Fields stored from a bit on, with the bit after them as the answer: what all writers chain.
+// Stores fields from a bit on and answers the bit after them: every writer is a chain of these.
 ghost use mathlib.Core.List.{_++_};
 ghost use lib.ListN.{length};
 ghost use Rattle.definition.specs.Field.{bits};
@@ -13,7 +13,7 @@ pub fn put(out: &mut [u8], at: usize, width: usize, value: u64) -> usize
     at + width
 }
 
-// Three of them, one behind the other.
+// Stores three fields, one behind the other.
 pub fn put_three(
     out: &mut [u8],
     at: usize,

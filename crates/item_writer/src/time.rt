@@ -1,4 +1,4 @@
-// Times and spans, from their numbers.
+// Writes times and spans, from their numbers.
 use crate::put::put;
 use crate::put::put_three;
 use field::width;

@@ -1,4 +1,4 @@
--- Laws of the numbers from one on. Rests on the lists' laws.
+-- Laws of `from`, the numbers from a first one on. Rests on the lists' laws.
 use mathlib.Core.Path.{_≡_, refl, ap, ap₂, _∙_}
 use mathlib.Core.List.{_∷_, _++_, map}
 use mathlib.Core.Bool.{Bool, true, false}
@@ -71,7 +71,7 @@ order x y = go (ltb x y) refl (eqb x y) refl
     go false e true f = inr (inl (eqb-true x y f))
     go false e false f = inr (inr (omega (arith, ltb-false x y e, eqb-false x y f)))
 
--- a fact of each of the numbers from one on
+-- a fact of each of the numbers from a first one on
 pub from-All : (P : ℕ → Type 0) (s n : ℕ) → All P (from s n) → (x : ℕ) → s ≤ x → x < s + n → P x
 unfolding from
 from-All P s zero h x l k = absurd (omega arith)

@@ -1,5 +1,5 @@
--- Laws of `flatMap`: where a test or an answer is constant on what each element is replaced by, and how it goes over lists behind each other.
--- Rests on the lists' laws.
+-- Laws of `flatMap`: over appended lists, and where a test or an answer is the same for all that an element is replaced by. Rests on the lists'
+-- laws.
 use mathlib.Core.Path.{_≡_, refl, sym, ap, ap₂, _∙_}
 use mathlib.Core.List.{List, [], _∷_, _++_, map, flatMap, append-nil, append-assoc}
 use mathlib.Core.Option.{Option, none, some, Option·map}

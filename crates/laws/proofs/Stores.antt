@@ -1,4 +1,4 @@
--- Laws of rows laid over a list (`sets`): one behind another, whichever is laid first. Rests on the kit's laws of lists.
+-- Laws of rows laid over a list (`sets`): two rows, one behind the other, may be laid in either order. Rests on the kit's laws of lists.
 use mathlib.Core.Path.{_≡_, refl, sym, ap, _∙_}
 use mathlib.Core.List.{List, [], _∷_, _++_}
 use Prim.Native.Nat.{ℕ, suc, _+_, _<_}

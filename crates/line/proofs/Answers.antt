@@ -1,4 +1,4 @@
--- What is measured and written, and the definition's answer.
+-- What `measure` and `line_of` answer is what the definition answers.
 use mathlib.Core.Path.{_≡_, sym, ap, _∙_, subst}
 use mathlib.Core.List.{List}
 use mathlib.Core.Option.{none, Option·some-ne-none}

@@ -1,4 +1,4 @@
--- What is answered of n rules at their noted beginnings, and what the buffer then holds.
+-- What is answered for n rules whose beginnings were noted, and what the buffer then holds.
 use mathlib.Core.Path.{_≡_}
 use mathlib.Core.List.{List}
 use mathlib.Core.Option.{none, some}

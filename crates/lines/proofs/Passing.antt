@@ -1,4 +1,4 @@
--- Which elements of a list pass a test: none, and the first that does. Rests on the lists' laws.
+-- The first element of a list that passes a test, and lists of which none does. Rests on the lists' laws.
 use mathlib.Core.Path.{_≡_, refl, sym, ap}
 use mathlib.Core.List.{List, [], _∷_}
 use mathlib.Core.Option.{Option, none, some, Option·map, Option·some-ne-none}

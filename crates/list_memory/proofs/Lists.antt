@@ -1,4 +1,5 @@
--- Two boxes' lists compared, number by number, their counts first; and a search that found one. Rests on parts of a buffer.
+-- Two boxes' lists compared, number by number, their counts first; and what a search has found when it finds a list. Rests on words' laws of
+-- parts of a buffer.
 use mathlib.Core.Path.{_≡_, refl, sym, ap, ap₂, _∙_}
 use mathlib.Core.List.{List, [], _∷_, map}
 use mathlib.Core.Bool.{Bool, true, false, _&&_}

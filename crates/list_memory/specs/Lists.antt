@@ -1,4 +1,4 @@
--- What is asked of a box's list, and what a search for it answers.
+-- A box's list that can be compared, and what a search for it among the lists met before answers.
 use mathlib.Core.Path.{_≡_}
 use mathlib.Core.List.{List}
 use Prim.Native.Nat.{ℕ, _+_, _*_, _≤_, _<_}

@@ -1,4 +1,4 @@
-// A box's list is looked for among the lists met before: where the hash is the same, the lists are compared.
+// Looks for a box's list among the lists met before: where the hash is the same, the lists are compared.
 use casts::u16_to_u64;
 use casts::u16_to_usize;
 use casts::u64_to_u16;
@@ -14,7 +14,7 @@ ghost use Rattle.memory.specs.Rows.{memoryPlaces, boxAt};
 ghost use Rattle.tables.specs.Sizes.{listPlaces};
 ghost use Rattle.list_memory.specs.Lists.{HasList, SameList};
 
-// Whether so many numbers from two places on are equal.
+// Whether the `count` numbers from a on are the same as those from b on.
 fn same_numbers(lists: &[u16], a: usize, b: usize, count: usize) -> bool
     requires { ⌜ (a + count ≤ length (now lists)) × (b + count ≤ length (now lists)) ⌝ }
     ensures { λ r. ⌜ r ≡ sameList eqb (part (now (lists .entry)) a count) (part (now (lists .entry)) b count) ⌝ }
@@ -29,7 +29,7 @@ fn same_numbers(lists: &[u16], a: usize, b: usize, count: usize) -> bool
     true
 }
 
-// How many numbers a box's list is, with its count.
+// How many numbers a box's list takes: its count, and as many rules' numbers.
 fn list_numbers(lists: &[u16], box_index: usize) -> usize
     requires { ⌜ HasList (now lists) «box_index» ⌝ }
     ensures { λ r. ⌜ (r ≡ suc (getD (now (lists .entry)) («box_index» * listPlaces) 0)) × (r ≤ listPlaces) ⌝ }
@@ -37,7 +37,7 @@ fn list_numbers(lists: &[u16], box_index: usize) -> usize
     u16_to_usize(lists[box_index * tables::LIST_PLACES]) + 1
 }
 
-// A number that equal lists share. It only spares comparisons: a list that it hid would be folded once more. So nothing is promised of it.
+// A number that equal lists share. It only spares comparisons: if it told equal lists apart, one would be folded twice. So nothing is promised of it.
 pub fn list_hash(lists: &[u16], box_index: usize) -> u16
     requires { ⌜ HasList (now lists) «box_index» ⌝ }
 {
@@ -52,7 +52,7 @@ pub fn list_hash(lists: &[u16], box_index: usize) -> u16
     u64_to_u16(hash)
 }
 
-// Looks for a box's list among so many rows: answers the box of a row that has the same list, or that there is none.
+// Looks for a box's list among the first `known_count` rows: answers the box of a row that has the same list, or that there is none.
 pub fn find_list(
     lists: &[u16],
     memory: &[u16],

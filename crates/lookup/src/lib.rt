@@ -19,7 +19,7 @@ ghost use Rattle.prepare.specs.Prepared.{RulesRead, EachReading};
 ghost use Rattle.state_at.specs.Boxes.{InBounds, momentPoint};
 ghost use Rattle.lookup.specs.Looks.{lookAt, Lookable};
 
-// A list for each box (6), none of the rules left (9), and the state at the moment.
+// Makes a list for each box (6); refuses where a rule is left (9); else answers the state at the moment.
 fn look_boxes(
     states: &[u32],
     span_counts: &[u8],
@@ -69,7 +69,7 @@ fn look_boxes(
     ))
 }
 
-// The rules drained and the dimensions cut (5), for a moment.
+// Drains the rules and cuts the dimensions (5), then looks the moment up.
 fn look_moment(sheet: &[u8], begins: &[usize], count: usize, moment: Moment) -> Answer
     requires { ⌜ RulesRead (now sheet) (now begins) count ⌝ }
     requires { ⌜ InBounds allBounds (momentPoint moment) ⌝ }
@@ -118,7 +118,7 @@ fn look_moment(sheet: &[u8], begins: &[usize], count: usize, moment: Moment) -> 
     )
 }
 
-// The date and the minute (8).
+// Tests the date and the minute (8), then looks them up.
 pub fn look_rules(
     sheet: &[u8],
     begins: &[usize],

@@ -1,4 +1,4 @@
--- What the rows hold after one was written.
+-- What the memory's rows hold after one of them was written.
 use mathlib.Core.Path.{_≡_, _∙_}
 use mathlib.Core.List.{List}
 use Prim.Native.Nat.{ℕ, _+_, _*_, _≤_, _<_}

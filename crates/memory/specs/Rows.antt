@@ -1,5 +1,5 @@
--- The rows of the memory: for each list met the box that had it, the hash of the list and the hash of its day. A hash is a number of 16 bits;
--- that of a day is one that equal words share, and of that of a list nothing is said.
+-- The rows of the memory: for each list met the box that had it, the hash of the list and the hash of its day. A hash is a number of 16 bits.
+-- Equal words of days have equal hashes; of the hash of a list nothing is said.
 use mathlib.Core.List.{List}
 use Prim.Native.Nat.{ℕ, _+_, _*_, _%_}
 use lib.ListN.{getD, set}

@@ -11,7 +11,7 @@ pub const MEMORY_PLACES: usize = 3;
 // At which place of a row the hash of the list stands.
 pub const LIST_HASH: usize = 1;
 
-// And the hash of its day.
+// At which place of a row the hash of the day stands.
 pub const DAY_HASH: usize = 2;
 
 // What a search answers: the box that has what was sought, or that none has it.
@@ -20,7 +20,7 @@ pub enum Found {
     Nothing,
 }
 
-// The first of so many rows, from one on, that has a hash at a place; or how many rows there are.
+// The first of the `known_count` rows, from row `next` on, that has a hash at a place; or `known_count` where none has.
 pub fn next_place(memory: &[u16], place: usize, hash: u16, known_count: usize, next: usize) -> usize
     requires { ⌜ («known_count» * memoryPlaces ≤ length (now memory)) × (place < memoryPlaces) × (next ≤ «known_count») ⌝ }
     ensures { λ r. ⌜ (next ≤ r) × (r ≤ «known_count»)
@@ -36,7 +36,7 @@ pub fn next_place(memory: &[u16], place: usize, hash: u16, known_count: usize, n
     row
 }
 
-// Remembers a list in the row after so many: its box, its hash and the hash of its day.
+// Remembers a list in the row behind the `known_count` rows: its box, its hash and the hash of its day.
 pub fn remember_list(
     memory: &mut [u16],
     known_count: usize,

@@ -1,4 +1,4 @@
--- What a fold asks for, stage after stage, and what its answer and buffer are: those of the definition.
+-- What a fold requires, stage after stage, and what its answer and buffer are: those of the definition.
 use mathlib.Core.Path.{_≡_}
 use mathlib.Core.List.{List}
 use Prim.Native.Nat.{ℕ}

@@ -15,7 +15,7 @@ ghost use Rattle.paving.specs.Grid.{sizeOf};
 ghost use Rattle.tables.specs.Lists.{Empty};
 ghost use Rattle.normalize.specs.Folds.{Foldable, Folds};
 
-// A list for each box and the pages, in the buffers that are lent: 6, or the result written.
+// Makes a list for each box and the pages, in the buffers that are lent; answers 6, or writes the result.
 fn fold_boxes_in(
     sheet: &[u8],
     left: Left,
@@ -153,7 +153,7 @@ fn fold_many_boxes(
     )
 }
 
-// The fold of the boxes, in buffers for so many.
+// Folds the boxes, in small buffers where they are few.
 pub fn fold_boxes(
     sheet: &[u8],
     left: Left,

@@ -13,7 +13,7 @@ ghost use lib.ListN.{length};
 ghost use Rattle.tables.specs.Sizes.{rowPlaces};
 ghost use Rattle.normalize.specs.Folds.{Readings, Folds};
 
-// The rules drained and cut, in the tables that are lent: 5, or the fold of the boxes.
+// Drains the rules and cuts the dimensions, in the tables that are lent; answers 5, or folds the boxes.
 fn fold_rules_in(
     sheet: &[u8],
     begins: &[usize],
@@ -140,7 +140,7 @@ fn fold_many_rules(
     )
 }
 
-// The rules of a checked sheet, drained and cut, in tables for so many: 5, or the fold of the boxes.
+// Folds the rules of a checked sheet, in small tables where they are few.
 pub fn fold_rules(
     sheet: &[u8],
     begins: &[usize],

@@ -1,5 +1,6 @@
--- THE DAY OF A NUMBER, and that a table of day numbers has what the law from numbers to points asks for: days one to one with the numbers
--- in use, the empty day for 0, the class of each, and at each box its list's day. Rests on the numbering; a table list's day is read back.
+-- THE DAY OF A NUMBER. A table of day numbers has what the law from numbers to points requires: days one to one with the numbers in use, the
+-- empty day for 0, the class of each, and at each box its list's day. Rests on the laws of the numbering, and on the law that a day is read
+-- back from its words.
 use mathlib.Core.Path.{_≡_, refl, sym, ap, _∙_, subst}
 use mathlib.Core.Logic.{_⊎_, inl, inr}
 use mathlib.Core.List.{List, []}

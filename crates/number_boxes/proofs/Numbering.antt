@@ -1,4 +1,4 @@
--- Equal words have equal numbers, and a number stands for its words. Rests on the numbering.
+-- Laws of the numbering: equal words have equal numbers, and a number stands for its words.
 use mathlib.Core.Path.{_≡_, refl, sym, ap, _∙_}
 use mathlib.Core.List.{List, [], _∷_}
 use mathlib.Core.Bool.{Bool, true, false, true≢false}

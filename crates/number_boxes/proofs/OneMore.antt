@@ -1,4 +1,5 @@
--- No box, one box more: each numbered as another that has its day, or as the first of its day; and its list known or not. Rests on the numbering.
+-- What is known and numbered before the first box, and after one box more: it gets the number of an earlier box that has its day, or a new one;
+-- and its list was known or is known from now on. Rests on the laws of the numbering.
 use mathlib.Core.Path.{_≡_, sym, ap, _∙_, subst}
 use mathlib.Core.List.{List, [], _∷_}
 use Prim.Native.Nat.{ℕ, suc, _+_, _*_, _≤_, _<_}

@@ -1,5 +1,5 @@
--- What the steps of the numbering ask for and give: a box's list sought, its day folded and sought, and the box recorded. Rests on the laws of
--- one box more.
+-- What the steps of numbering a box require and leave: its list is looked for, its day is folded and looked for, and the box is recorded. Rests
+-- on the laws of one box more.
 use mathlib.Core.Path.{_≡_, sym, ap, _∙_, subst}
 use mathlib.Core.List.{List}
 use Prim.Native.Nat.{ℕ, suc, _+_, _*_, _≤_, _<_}

@@ -1,4 +1,4 @@
--- A table of the boxes' day numbers: what it is measured by, and what is known on the way to it.
+-- The room that numbering the boxes' days needs; and what is known and numbered once all boxes before one are done.
 use mathlib.Core.Path.{_≡_}
 use mathlib.Core.List.{List}
 use Prim.Native.Nat.{ℕ, _*_, _≤_, _<_}

@@ -154,7 +154,7 @@ fn number_box(
     }
 }
 
-// Numbers the day of each box, a cell for each, and notes the class of each number. The memory of the lists met may hold anything before.
+// Numbers the day of each box, in a cell for each, and notes the class of each number. The memory of the lists met may hold anything at first.
 pub fn number_boxes(
     states: &[u32],
     span_counts: &[u8],

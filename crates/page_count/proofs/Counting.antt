@@ -1,5 +1,5 @@
--- Pages that end at a place are so many: they take at least five numbers each, and no other number of pages ends there. What the loop that
--- counts them keeps.
+-- How many pages end at a place: each has at least five numbers, so only one number of pages ends there. And the invariant of the loop that
+-- counts them.
 use mathlib.Core.Path.{_≡_, refl, sym, ap, subst}
 use mathlib.Core.List.{List}
 use Prim.Native.Nat.{ℕ, zero, suc, _+_, _*_, _≤_, _<_}

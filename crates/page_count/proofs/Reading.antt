@@ -1,5 +1,5 @@
--- GROUPS APPENDED AS PAGES ARE READ BACK as so many pages from the front on, and end where their numbers do. Rests on the law that a
--- page is read back where its numbers stand.
+-- THE PAGES IN THE BUFFER ARE READ BACK AS THE GROUPS that were written there, one page for each, and they end where the groups' numbers do.
+-- Rests on the law that a page is read back where its numbers stand.
 use mathlib.Core.Path.{_≡_, refl, sym, ap, ap₂, _∙_}
 use mathlib.Core.List.{List, [], _∷_, _++_, map, flatMap, append-assoc}
 use Prim.Native.Nat.{ℕ, _+_, _≤_}

@@ -90,7 +90,7 @@ module _ (rows sizes cuts : List ℕ) (rs : List Rule) (cut : Cut rows sizes cut
         let first = first-read rows cuts sizes pages g gs at rest (p .0) h in
         (group-ready g at (groupsNumbers rows cuts sizes 4 gs ++ rest) (p .0) (d .0) first, pages-ready gs (at + pageSize pages at) rest (p .1) (d .1) (first .behind))
 
--- THE PAGES FROM THE TEXT'S FRONT ON
+-- THE PAGES FROM THE BUFFER'S FRONT ON
 pub text-ready : (rows sizes cuts : List ℕ) (rs : List Rule) → Cut rows sizes cuts rs → All Lawful rs → sizeOf sizes 4 ≤ 1024 → (states counts spans lists pages₀ pages : List ℕ) (room : ℕ)
     (gs : List (Group ℕ ℕ)) → pages ≡ sets pages₀ 0 (groupsNumbers rows cuts sizes 4 gs) → length (groupsNumbers rows cuts sizes 4 gs) ≤ length pages₀
     → All (λ g. Part (axes sizes 4) (g .1)) gs → All (λ g. DayReady states counts spans lists room (g .0)) gs → Pages states counts spans lists pages room (length gs) 0

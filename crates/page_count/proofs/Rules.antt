@@ -1,5 +1,5 @@
--- THE RULES OF THE PAGES ARE THE GROUPS': items dimension by dimension and items by sort are laid over a rule alike. Rests on the law
--- that the pages are read back.
+-- THE RULES OF THE PAGES ARE THE GROUPS': laying items over a rule sort by sort, or dimension by dimension, gives the same rule. Rests on the
+-- law that the pages are read back.
 use mathlib.Core.Path.{_≡_, refl, ap, _∙_}
 use mathlib.Core.List.{List, flatMap}
 use Prim.Native.Nat.{ℕ, _≤_}

@@ -1,4 +1,4 @@
--- What the writer of pages asks of a group's value.
+-- What the writer of pages requires of a group's value, the number of its day.
 use mathlib.Core.List.{List}
 use Prim.Native.Nat.{ℕ, _-_, _≤_}
 use Rattle.laws.specs.Lists.{All}

@@ -1,4 +1,4 @@
-// How many pages there are: the pages in the buffer, counted up to the place where they end, for the writer that takes so many of them.
+// Counts the pages in the buffer, up to the place where they end: the writer of pages must be told how many there are.
 use tables::page::page_size;
 ghost use mathlib.Core.Path.{_≡_};
 ghost use Prim.Native.Nat.{ℕ, _≤_};

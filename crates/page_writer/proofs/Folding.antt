@@ -1,4 +1,4 @@
--- A page's day, folded into words: they are a whole number of entries, few, and their rules over the page's items are the page's. Rests on the
+-- A page's day, folded into words: they are a whole number of entries, few, and over the page's items their rules are the page's. Rests on the
 -- laws that the day of a list over tables is read back from its words and has few of them.
 use mathlib.Core.Path.{_≡_, sym, ap, ap₂, _∙_, subst}
 use mathlib.Core.List.{List}

@@ -1,4 +1,4 @@
--- Pages read from a row of numbers: a page cut out of its row, and pages one after the other, with the rules they are.
+-- Pages read from the buffer: a page cut out of it, and pages one after the other, with the rules that they stand for.
 use mathlib.Core.Path.{_≡_, sym, ap, ap₂, _∙_, subst}
 use mathlib.Core.List.{List, [], _++_, flatMap}
 use Prim.Native.Nat.{ℕ, zero, suc, _+_, _-_, _≤_, _<_}

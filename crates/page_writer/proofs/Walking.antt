@@ -1,5 +1,5 @@
--- Pages measured and written on the way: what is done, and the pages from here on, are all of them. Rests on one page more. And the scratch
--- of a day, which keeps its lengths.
+-- The invariants of the loops that measure and write pages: what is done and the pages left are all of them, and the scratch of a day keeps its
+-- lengths. Rests on the laws of one page more.
 use mathlib.Core.Path.{_≡_, refl, sym, ap, _∙_}
 use mathlib.Core.List.{List, [], _++_, append-nil, append-assoc}
 use Prim.Native.Nat.{ℕ, _+_, _-_, _*_, _≤_, _<_, _^_}

@@ -1,8 +1,8 @@
-// Pages measured and written, one after the other: a page's day over the page's items. A page is a row of numbers: the day's number,
-// four counts of items by sorts, and the items' ends; pages stand one behind the other. A day's number is one more than a box that has it:
-// the box's day is folded again where its rules are due. The buffers from `words` to `interval_states` are scratch.
-// `write_page` has thirteen parameters, since the language lends no struct of slices: the scratch of a day is six of them, and the rules'
-// times are three.
+// Measures and writes pages, one after the other: a page's rules are those of its day over its items. A page is a row of numbers: the day's
+// number, four counts of items by sorts, and the items' ends; pages stand one behind the other. A day's number is one more than the number of a
+// box that has the day, so that box's list is folded again when the page is measured or written. The buffers from `words` to `interval_states`
+// are scratch. `write_page` has thirteen parameters, since the language lends no struct of slices: the scratch of a day is six of them, and the
+// rules' times are three.
 use box_day::fold_box;
 use casts::u16_to_usize;
 use day_writer::Measure;
@@ -19,7 +19,7 @@ ghost use Rattle.tables.specs.Days.{boxWords};
 ghost use Rattle.tables.specs.Sizes.{dayRoom};
 ghost use Rattle.tables.specs.Pages.{pageSize, pageAt, pageRules, pagedRules, PageReady, Pages};
 
-// How many rules a page is, and how many bits they take.
+// How many rules a page stands for, and how many bits they take.
 fn measure_page(
     words: &mut [u64],
     span_states: &mut [u32],
@@ -58,7 +58,7 @@ fn measure_page(
     measure_day(words, count, &page[1..5])
 }
 
-// How many rules so many pages from the front on are, and how many bits they take.
+// How many rules the first `count` pages stand for, and how many bits they take.
 pub fn measure_pages(
     states: &[u32],
     span_counts: &[u8],
@@ -111,7 +111,7 @@ pub fn measure_pages(
     }
 }
 
-// A page's rules; answers the place after them.
+// Writes a page's rules; answers the place after them.
 fn write_page(
     out: &mut [u8],
     place: usize,
@@ -153,7 +153,7 @@ fn write_page(
     write_day(out, place, words, count, &page[5..], &page[1..5])
 }
 
-// The rules of so many pages from the front on; answers the place after them.
+// Writes the rules of the first `count` pages; answers the place after them.
 pub fn write_pages(
     out: &mut [u8],
     place: usize,

@@ -1,4 +1,4 @@
--- One lemma for each return of the check, in plain terms. Rests on the columns' laws.
+-- One lemma for each return of `check_predicate` and `check_columns`. Rests on the columns' laws.
 use mathlib.Core.Path.{_≡_, sym, ap, _∙_}
 use mathlib.Core.Bool.{Bool, true, false, _&&_}
 use mathlib.Core.List.{List}

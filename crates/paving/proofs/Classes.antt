@@ -1,4 +1,4 @@
--- The test of a class, in plain terms.
+-- One lemma for each return of `lowest_class` and `in_class`.
 use mathlib.Core.Path.{_≡_}
 use mathlib.Core.List.{List}
 use Prim.Native.Nat.{ℕ, _≤_, _<_}

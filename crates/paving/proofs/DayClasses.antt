@@ -1,4 +1,4 @@
--- A table of the days' classes tests them as the definition's classes do. Rests on the test of a class.
+-- Where a table holds each day's class, its test of a day's number is the definition's test of the day.
 use mathlib.Core.Path.{_≡_, refl, sym, ap, _∙_}
 use mathlib.Core.Bool.{Bool, true, false, _&&_, cond}
 use mathlib.Core.List.{List, [], _∷_}

@@ -1,4 +1,4 @@
--- One lemma for each return of the reset, in plain terms. Rests on the columns' laws.
+-- One lemma for each return of `reset` and `reset_columns`. Rests on the columns' laws.
 use mathlib.Core.Path.{_≡_, refl, sym, ap, ap₂, _∙_, fun-ext}
 use mathlib.Core.Bool.{Bool, true, false, _&&_, _||_, cond}
 use mathlib.Core.List.{List, [], _∷_}

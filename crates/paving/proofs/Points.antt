@@ -1,4 +1,5 @@
--- FROM THE CODE'S NUMBERS TO POINTS AND DAYS: one use of the compression law.
+-- FROM THE CODE'S NUMBERS TO POINTS AND DAYS: the groups of the cells, with their intervals taken as points and their numbers as days, are the
+-- groups of the points. One use of grid's compression law.
 use mathlib.Core.Path.{_≡_, refl, sym, ap, ap₂, _∙_, subst}
 use mathlib.Core.Bool.{Bool, true, false, cond}
 use mathlib.Core.List.{List, [], _∷_, map}
@@ -47,7 +48,7 @@ module _ (cuts : ℕ → ℕ → ℕ) (sizes : List ℕ) where
       (interval-all (cuts l) (getD sizes l 0) (h l (omega arith)) 0 (getD sizes l 0) (omega arith) ∙ ap (λ m. from (cuts l 0) (cuts l m - cuts l 0))
       (let z : 0 + getD sizes l 0 ≡ getD sizes l 0 = omega arith in z)) (points l (λ i k. h i (omega arith)))
 
--- what that asks of the cells: at each cell the day of each of its points
+-- what that law requires of the cells: at each cell the day of each of its points
 abbrev pub Shows : {X : Type 0} → (ℕ → X) → (ℕ → ℕ → ℕ) → List ℕ → List ℕ → ℕ → ℕ → Map ℕ X → Type 0
 Shows day cuts cells sizes zero node g = day (getD cells node 0) ≡ g []
 Shows day cuts cells sizes (suc l) node g =

@@ -1,4 +1,4 @@
--- One lemma for each return of the pop, in plain terms. Rests on the marks' laws.
+-- One lemma for each return of `pop_filter` and `pop_columns`. Rests on the marks' laws.
 use mathlib.Core.Path.{_≡_, refl, sym, ap, ap₂, _∙_}
 use mathlib.Core.Bool.{Bool, true, false, cond}
 use mathlib.Core.List.{List, [], _∷_}

@@ -1,4 +1,4 @@
--- The columns of a node, one after the other, and the room for a child.
+-- The columns' laws: the columns of a node, one after the other; and where a node's cells and marks are all there, those of its children are.
 use mathlib.Core.Path.{_≡_, ap, _∙_}
 use mathlib.Core.Bool.{cond}
 use mathlib.Core.List.{List, [], _∷_}

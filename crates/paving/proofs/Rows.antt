@@ -1,4 +1,4 @@
--- A node with one dimension left: what the loops over its row of cells show is what the walks over its columns ask. Rests on the walks' laws.
+-- A node with one dimension left: the loops over its row of cells give what the walks over its columns give. Rests on the walks' laws.
 use mathlib.Core.Path.{_≡_, refl, sym, ap, _∙_}
 use mathlib.Core.Bool.{Bool, true, false, _&&_, cond}
 use mathlib.Core.List.{List}

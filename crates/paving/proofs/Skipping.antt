@@ -1,4 +1,5 @@
--- Where the search may begin: sizes of nodes, and columns that lie before a cell before which none is of the class.
+-- Where the search for a group may begin: if no cell before a given one is of the class, the columns before that cell have no group. And the
+-- sizes of nodes.
 use mathlib.Core.Path.{_≡_, refl, sym, ap, _∙_}
 use mathlib.Core.Bool.{Bool, true, false, cond}
 use mathlib.Core.List.{List, [], _∷_}

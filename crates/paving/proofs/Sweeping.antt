@@ -1,4 +1,5 @@
--- The loop: what is left gives what the start gives, whatever takes the groups in; a group fewer at each round. Rests on grid's sweeps.
+-- The invariant of the loop that pops groups: what was taken in and the groups left are all, whatever takes them in; and each round leaves
+-- fewer cells of the class. Rests on grid's sweeps.
 use mathlib.Core.Path.{_≡_, refl, sym, ap, _∙_, subst}
 use mathlib.Core.Bool.{Bool, true, false, cond}
 use mathlib.Core.List.{List, [], _∷_, _++_, map}

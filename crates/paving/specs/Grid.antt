@@ -1,4 +1,5 @@
--- A grid of any number of dimensions in one flat list: the sizes' last is the first dimension, child j of node c is c * n + j.
+-- A grid of any number of dimensions in one flat list of cells. The sizes stand last dimension first; of a node c with n children, child j is
+-- the node c * n + j.
 use mathlib.Core.Path.{_≡_}
 use mathlib.Core.Bool.{Bool, false, cond}
 use mathlib.Core.List.{List, [], _∷_}
@@ -68,11 +69,11 @@ unfoldable pub popped : Popped → Set ℕ → Option (Group ℕ ℕ)
 popped (Value v) S = some (v, S)
 popped Nothing S = none
 
--- no cell from one on up to an end passes
+-- no cell from the first one up to the second, excluded, passes
 unfoldable pub NoneFrom : List ℕ → (ℕ → Bool) → ℕ → ℕ → Type 0
 NoneFrom cells ok first end = (q : ℕ) → first ≤ q → q < end → ok (getD cells q 0) ≡ false
 
--- the first value that passes among r cells from one on
+-- the first value that passes among r cells from a given one on
 unfoldable pub firstCell : List ℕ → (ℕ → Bool) → ℕ → ℕ → Popped
 firstCell cells ok at zero = Nothing
 firstCell cells ok at (suc r) = cond (ok (getD cells at 0)) (Value (getD cells at 0)) (firstCell cells ok (at + 1) r)

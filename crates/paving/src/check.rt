@@ -1,4 +1,4 @@
-// Whether a product of marked columns holds one value.
+// Whether a product of marked columns holds one value throughout.
 use super::row::check_cells;
 use casts::u16_to_usize;
 ghost use mathlib.Core.Path.{_≡_};

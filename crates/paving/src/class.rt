@@ -12,7 +12,7 @@ fn class_of(classes: &[u8], value: u16) -> u8
     if k < classes.len() { classes[k] } else { 0 }
 }
 
-// A class holds the days whose first class lies from this one up to the class itself.
+// A class holds the days whose first class is this one, the class itself, or one between them.
 fn lowest_class(class: u8) -> u8
     ensures { λ r. ⌜ r ≡ lowestClass class ⌝ }
 {

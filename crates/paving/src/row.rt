@@ -7,7 +7,7 @@ ghost use Prim.Native.Nat.{_+_, _-_, _≤_, _<_};
 ghost use lib.ListN.{length, getD};
 ghost use Rattle.paving.specs.Grid.{inClass, NoneFrom, firstCell, cellIs, cellsAgree, emptied, paint};
 
-// The first cell of a class from one on up to an end, or the end.
+// The first cell of a class from `first` up to `end`, excluded; or `end`.
 pub fn next_cell(cells: &[u16], classes: &[u8], class: u8, first: usize, end: usize) -> usize
     requires { ⌜ (first ≤ end) × (end ≤ length (now cells)) ⌝ }
     ensures { λ r. ⌜ (first ≤ r) × (r ≤ end)
@@ -24,7 +24,7 @@ pub fn next_cell(cells: &[u16], classes: &[u8], class: u8, first: usize, end: us
     at
 }
 
-// Its value, if there is one.
+// The value of that cell, if there is one.
 pub fn first_cell(cells: &[u16], classes: &[u8], class: u8, first: usize, end: usize) -> Popped
     requires { ⌜ (first ≤ end) × (end ≤ length (now cells)) ⌝ }
     ensures { λ r. ⌜ r ≡ firstCell (now (cells .entry)) (inClass (now (classes .entry)) class) first (end - first) ⌝ }

@@ -1,5 +1,5 @@
 -- Pages appended one behind the other; and how the room that is required for all of them gives the room of a page, of a class and of the
--- classes behind it. Rests on the laws of the loop.
+-- classes behind it. Rests on paving's laws of the loop.
 use mathlib.Core.Path.{_≡_, refl, sym, ap, ap₂, _∙_}
 use mathlib.Core.List.{List, [], _∷_, _++_, flatMap}
 use Prim.Native.Nat.{ℕ, suc, _+_, _≤_}

@@ -1,5 +1,5 @@
 -- FROM PAGES TO RULES: a page's items, over the day that its value numbers, are the definition's rules of the group. A row's first and last
--- cuts are its dimension's bounds; and rows that hold the rules' cuts are what popping requires. Rests on the law from popped groups to pages.
+-- cuts are its dimension's bounds; and rows that hold the rules' cuts are what popping requires. Rests on the laws of the points of a box.
 use mathlib.Core.Path.{_≡_, sym, ap, ap₂, _∙_}
 use mathlib.Core.List.{List, [], _∷_, map, flatMap, head-eq-of-cons-eq}
 use Prim.Native.Nat.{ℕ, zero, suc, _+_, _-_, _≤_, _<_}
@@ -43,7 +43,7 @@ from-same a zero c n e = let z : 0 ≡ suc n = ap length e ∙ length-from c (su
 from-same a (suc m) c n e = (head-eq-of-cons-eq e, omega (arith, ap length e, length-from (suc a) m, length-from (suc c) n))
 
 module _ (rows sizes table : List ℕ) (rs : List Rule) where
-  -- the rows that hold the rules' cuts are those that popping asks for
+  -- the rows that hold the rules' cuts are those that popping requires
   pub cut-rows : (ds : List Dimension) → CutBy rows sizes table rs ds → Bounded rs ds → length ds ≤ length rows → length ds ≤ length sizes
       → ((i : ℕ) → i < length ds → getD rows i 0 + getD sizes i 0 < length table) → CutRows rows table sizes (length ds)
   unfolding cutOf

@@ -1,4 +1,4 @@
--- A rule over a page's items.
+-- A rule over a page's items, sort by sort; and the rules of a group.
 use mathlib.Core.List.{List, [], _∷_, map}
 use Prim.Native.Nat.{ℕ}
 use Rattle.grid.specs.Group.{Group}

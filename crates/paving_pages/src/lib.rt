@@ -90,8 +90,8 @@ fn put_page(
     )
 }
 
-// Pops and empties group after group of one class, and appends each. What comes before the first cell of a group is of the class no more:
-// the search for the next one begins there.
+// Pops and empties group after group of one class, and appends each. No cell before a group's first one is of the class any more, so the search
+// for the next group begins there.
 pub fn pop_class(
     cells: &mut [u16],
     classes: &[u8],
@@ -152,7 +152,7 @@ pub fn pop_class(
     }
 }
 
-// Class after class, up to the last.
+// Does the same for class after class, up to the last.
 pub fn pop_classes(
     cells: &mut [u16],
     classes: &[u8],

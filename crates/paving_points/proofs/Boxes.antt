@@ -1,5 +1,5 @@
--- The points of a box: what holds at each box and each of its points is what grid's laws and the popped groups ask for; and all points of a
--- box have the marks of its first one. Rests on the rows' laws.
+-- The points of a box: what grid's laws and the law of popped groups require of each box and each of its points; and all points of a box have
+-- the marks of its first one. Rests on the rows' laws.
 use mathlib.Core.Path.{_≡_, refl, sym, ap, ap₂, _∙_}
 use mathlib.Core.Bool.{Bool, true, false}
 use mathlib.Core.List.{List, [], _∷_, map}

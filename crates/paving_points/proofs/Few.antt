@@ -1,5 +1,5 @@
--- HOW MANY RANGES: a rule that fits a sheet has few items in each dimension, so few ranges, and some rules' cuts have room in rows of a size
--- that goes with their number. Rests on the layouts' tests.
+-- HOW MANY RANGES: a rule that fits a sheet has few items in each dimension, so few ranges; so the cuts of some rules have room in rows whose
+-- size grows with the number of rules. Rests on the layouts' tests.
 use mathlib.Core.Path.{_≡_}
 use mathlib.Core.Bool.{Bool, true, _&&_}
 use mathlib.Core.List.{List, [], _∷_}

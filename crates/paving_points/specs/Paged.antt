@@ -1,4 +1,4 @@
--- A popped group as a page of the definition.
+-- A popped group as a page of the definition: a day, and in each dimension the runs of the marked intervals.
 use mathlib.Core.List.{List, [], _∷_, map}
 use Prim.Native.Nat.{ℕ, zero, suc}
 use Rattle.grid.specs.Group.{Set, Group}

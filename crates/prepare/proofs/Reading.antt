@@ -1,5 +1,5 @@
--- A SHEET THAT WAS READ: what draining asks for holds of it, and what draining and cutting leave is that of its drained rules. Rests on the
--- laws of beginnings.
+-- A SHEET THAT WAS READ can be drained, and draining and cutting leave the tables and the cuts of its drained rules. Rests on the laws of
+-- beginnings.
 use mathlib.Core.Path.{_≡_, sym, ap, ap₂, _∙_, subst}
 use mathlib.Core.List.{List}
 use Prim.Native.Nat.{ℕ, _*_, _≤_, _<_}
@@ -34,7 +34,7 @@ module _ (sheet : List ℕ) (bytes : Bytes sheet) (begins : List ℕ) (rs : List
   few : length rs ≤ limits1 .rules
   few = rules-few sheet rs end bytes (reading .read)
 
-  -- ## What draining asks for
+  -- ## What draining requires
   pub rules-begin : AllBegin (sheetBits sheet) begins count
   rules-begin =
       subst (λ b. AllBegin (sheetBits sheet) b count) (sym (reading .noted))

@@ -1,5 +1,5 @@
--- From what is prepared to what is drawn: no more rules than were read, no more boxes than the limit, and tables of the drained rules alone
--- where they are lent up to these.
+-- What is prepared can be drawn: there are no more drained rules than were read and no more boxes than the limit, and the tables, lent up to
+-- the drained rules, hold these alone.
 use mathlib.Core.Path.{_≡_, sym, subst}
 use mathlib.Core.List.{List}
 use Prim.Native.Nat.{ℕ, _*_, _≤_}

@@ -1,4 +1,4 @@
--- What is prepared of a sheet that was read.
+-- What `prepare` leaves of a sheet that was read: the tables of its drained rules, and the rows of their cuts.
 use mathlib.Core.Path.{_≡_}
 use mathlib.Core.List.{List}
 use Prim.Native.Nat.{ℕ, _*_, _≤_}

@@ -1,5 +1,4 @@
--- WHICH LIST IS TOO LONG FIRST: some drained rule is the first after which some point's list passes the limit, or after none does. Rests on
--- the search for the first number that passes.
+-- WHICH LIST IS TOO LONG FIRST: some drained rule is the first after which some point's list passes the limit, or after none does.
 use mathlib.Core.Path.{_≡_, refl, ap, _∙_}
 use mathlib.Core.List.{List, [], _∷_}
 use mathlib.Core.Option.{none, some}

@@ -22,7 +22,7 @@ pub enum Reading {
     TooLarge,
 }
 
-// A field of any value, at any bit of any sheet. Crate `field` asks for a small place, so it is given the sheet from the field's first
+// A field of any value, at any bit of any sheet. Crate `field` requires a small place, so it is given the sheet from the field's first
 // byte on, and the place within that byte.
 pub fn read_at(sheet: &[u8], at: usize, width: usize) -> Reading
     ensures { λ r. ⌜ Says r (now (sheet .entry)) at width ⌝ }
@@ -78,8 +78,8 @@ pub fn first(sheet: &[u8], width: usize) -> Reading
     take(open(sheet), width)
 }
 
-// How many rules a sheet has, its first field: at most 64, else refused by 4. That field is never too large to be said, so that the first way
-// out is not taken.
+// How many rules a sheet has, its first field: no more than the limit, else refused by 4. That field is never too large to be answered, so
+// the first return is never taken.
 pub fn rule_count(sheet: &[u8]) -> Taken
     ensures { λ r. ⌜ asRead r ≡ (counted (form1 .ruleCount) (limits1 .rules)) .read (sheetBits (now (sheet .entry))) 0 ⌝ }
 {

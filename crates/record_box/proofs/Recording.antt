@@ -1,4 +1,4 @@
--- One lemma for each return of the numbering of a new day, and of the recording of a box.
+-- One lemma for each return of `number_new` and `record_box`.
 use mathlib.Core.Path.{_≡_, refl, sym, ap, _∙_, subst}
 use mathlib.Core.List.{List}
 use Prim.Native.Nat.{ℕ, zero, suc, _+_, _<_}

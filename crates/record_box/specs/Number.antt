@@ -16,7 +16,7 @@ abbrev pub newClasses : ℕ → List ℕ → List ℕ → List ℕ
 newClasses box [] classes = classes
 newClasses box (x ∷ xs) classes = set classes (suc box) (dayClass (unflat (x ∷ xs)))
 
--- the same of words that were looked for: a box that has them is one of so many
+-- a search for the words found one of so many boxes, or none; and the number and the classes in each case
 abbrev pub Among : Found → ℕ → Type 0
 Among (At same) boxes = same < boxes
 Among Nothing boxes = Unit {0}

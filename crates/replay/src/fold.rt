@@ -1,6 +1,6 @@
 // Does the fold of a sheet do what a record tells? Told: CODE DRAINED EMITTED LEFT BYTES PLACE ROOM, and the bytes at the front of the buffer.
 use crate::buffer;
-use replay_records::number;
+use crate::record::number;
 ghost use Prim.Native.Nat.{_≤_};
 ghost use lib.ListN.{length};
 
@@ -19,14 +19,13 @@ fn folded_so(sheet: &[u8], told: &[u8], out: &mut [u8]) -> bool
     numbers && buffer::holds(out, &told[21..])
 }
 
-pub fn agrees(sheet: &[u8], told: &[u8]) -> bool {
+pub fn agrees(sheet: &[u8], told: &[u8], out: &mut [u8]) -> bool {
     if told.len() < 21 {
         return false;
     }
     let room = number(told, 18);
-    if 65536 < room {
+    if out.len() < room {
         return false;
     }
-    let mut out = io::large_buffer();
     folded_so(sheet, told, &mut out[..room])
 }

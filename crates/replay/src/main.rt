@@ -1,10 +1,13 @@
-// Replays readings, write-backs, lines, folds and lookups of sheets (data/, made by oracle/sheets.py), and prints how many were compared and how
-// many differ.
+// Replays readings, write-backs, lines, folds and lookups of sheets (data/, made by oracle/sheets.py), and what another calendar says of dates
+// and of years (made by oracle/dates.py). Prints how many were compared and how many differ.
 mod buffer;
+mod date;
 mod fold;
 mod reading;
+mod record;
 mod state;
 mod written;
+mod year;
 
 use libc::STDOUT_FILENO;
 
@@ -15,6 +18,8 @@ enum Sort {
     Line,
     Fold,
     Lookup,
+    Date,
+    Year,
 }
 
 enum Compared {
@@ -28,56 +33,55 @@ struct Tally {
     differing: usize,
 }
 
-// Is what the record tells of its sheet so?
-fn agrees(sort: Sort, sheet: &[u8], told: &[u8]) -> bool {
+// Does what the record tells come out? Entries that write are lent the buffer. Dates and years are told without a sheet.
+fn agrees(sort: Sort, sheet: &[u8], told: &[u8], out: &mut [u8]) -> bool {
     match sort {
         Sort::Reading => reading::agrees(sheet, told),
-        Sort::WriteBack => written::agrees(false, sheet, told),
-        Sort::Line => written::agrees(true, sheet, told),
-        Sort::Fold => fold::agrees(sheet, told),
+        Sort::WriteBack => written::agrees(false, sheet, told, out),
+        Sort::Line => written::agrees(true, sheet, told, out),
+        Sort::Fold => fold::agrees(sheet, told, out),
         Sort::Lookup => state::agrees(sheet, told),
+        Sort::Date => date::agrees(told),
+        Sort::Year => year::agrees(told),
     }
 }
 
-// The sheet, of some length, and behind it what is told of it.
-fn agrees_body(sort: Sort, body: &[u8], length: usize) -> bool {
+// Compares a body: the sheet, `length` bytes, and behind it what is told of it.
+fn agrees_body(sort: Sort, body: &[u8], length: usize, out: &mut [u8]) -> bool {
     if body.len() < length {
         return false;
     }
-    agrees(sort, &body[..length], &body[length..])
+    agrees(sort, &body[..length], &body[length..], out)
 }
 
-// What follows a record's two numbers is read and compared. A file that ends in between differs.
-fn compare_body(fd: i32, sort: Sort, length: usize, size: usize) -> Compared {
-    let mut body = io::large_buffer();
-    let taken = replay_records::take(fd, &mut body, size);
-    if taken == size && agrees_body(sort, &body[..taken], length) {
+// The file's next record, compared: its sheet's length, the length of all that follows, the sheet, and what is told of it. A file that ends behind
+// the two numbers differs.
+fn compare_record(fd: i32, sort: Sort, body: &mut [u8], out: &mut [u8]) -> Compared {
+    let mut numbers = [0u8; 6];
+    if io::read_full(fd, &mut numbers) < 6 {
+        return Compared::NoRecord;
+    }
+    let size = record::number(&numbers, 3);
+    let taken = record::take(fd, body, size);
+    if taken < size {
+        return Compared::Differing;
+    }
+    if agrees_body(sort, &body[..taken], record::number(&numbers, 0), out) {
         Compared::Same
     } else {
         Compared::Differing
     }
 }
 
-// The file's next record, compared: its sheet's length, the length of all that follows, the sheet, and what is told of it.
-fn compare_record(fd: i32, sort: Sort) -> Compared {
-    let mut numbers = [0u8; 6];
-    if io::read_full(fd, &mut numbers) < 6 {
-        return Compared::NoRecord;
-    }
-    compare_body(
-        fd,
-        sort,
-        replay_records::number(&numbers, 0),
-        replay_records::number(&numbers, 3),
-    )
-}
-
-// Record after record to the end of the file. A proved loop has to end, so it stops at a million, which no file here has.
+// Record after record to the end of the file. A proved loop has to end, so it stops at a million, which no file here has. Both buffers are made once,
+// since clearing them takes longer than most records.
 fn replay(fd: i32, sort: Sort) -> Tally {
+    let mut body = io::large_buffer();
+    let mut out = io::large_buffer();
     let mut differing: usize = 0;
     let mut turn: usize = 0;
     while turn < 1000000 {
-        let compared = compare_record(fd, sort);
+        let compared = compare_record(fd, sort, &mut body, &mut out);
         match compared {
             Compared::Same => {}
             Compared::Differing => {
@@ -108,14 +112,17 @@ fn replay_file(path: &[u8], sort: Sort, name: &[u8]) {
     libc::close(fd);
     io::print_decimal(STDOUT_FILENO, tally.compared as u64);
     io::write_all(STDOUT_FILENO, name);
+    io::write_all(STDOUT_FILENO, b" compared, ");
     io::print_decimal(STDOUT_FILENO, tally.differing as u64);
     io::write_all(STDOUT_FILENO, b" differing\n");
 }
 
 fn main() {
-    replay_file(b"readings", Sort::Reading, b" readings compared, ");
-    replay_file(b"write_backs", Sort::WriteBack, b" write-backs compared, ");
-    replay_file(b"lines", Sort::Line, b" lines compared, ");
-    replay_file(b"folds", Sort::Fold, b" folds compared, ");
-    replay_file(b"lookups", Sort::Lookup, b" lookups compared, ");
+    replay_file(b"readings", Sort::Reading, b" readings");
+    replay_file(b"write_backs", Sort::WriteBack, b" write-backs");
+    replay_file(b"lines", Sort::Line, b" lines");
+    replay_file(b"folds", Sort::Fold, b" folds");
+    replay_file(b"lookups", Sort::Lookup, b" lookups");
+    replay_file(b"dates", Sort::Date, b" dates");
+    replay_file(b"years", Sort::Year, b" years, day by day,");
 }

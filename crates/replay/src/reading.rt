@@ -1,5 +1,5 @@
 // Does reading a sheet do what a record tells? Told: CODE PLACE RULES END, and where each rule begins.
-use replay_records::number;
+use crate::record::number;
 use sheet::check::Checked;
 
 // Do the rules begin where the record says?

@@ -1,6 +1,6 @@
 // Does the lookup in a sheet answer what a record tells? Told: YEAR MONTH DAY MINUTE in eight bytes each, CODE KIND COMMENT PLACE.
-use replay_records::long_number;
-use replay_records::number;
+use crate::record::long_number;
+use crate::record::number;
 
 pub fn agrees(sheet: &[u8], told: &[u8]) -> bool {
     if told.len() < 44 {

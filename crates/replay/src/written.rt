@@ -1,8 +1,8 @@
 // Does an entry that writes, writing back or the line, do what a record tells? Told: CODE BYTES PLACE ROOM, and the bytes at the front of the
 // buffer.
 use crate::buffer;
+use crate::record::number;
 use answers::Written;
-use replay_records::number;
 ghost use Prim.Native.Nat.{_≤_};
 ghost use lib.ListN.{length};
 
@@ -26,14 +26,13 @@ fn written_so(as_line: bool, sheet: &[u8], told: &[u8], out: &mut [u8]) -> bool
     numbers && buffer::holds(out, &told[12..])
 }
 
-pub fn agrees(as_line: bool, sheet: &[u8], told: &[u8]) -> bool {
+pub fn agrees(as_line: bool, sheet: &[u8], told: &[u8], out: &mut [u8]) -> bool {
     if told.len() < 12 {
         return false;
     }
     let room = number(told, 9);
-    if 65536 < room {
+    if out.len() < room {
         return false;
     }
-    let mut out = io::large_buffer();
     written_so(as_line, sheet, told, &mut out[..room])
 }

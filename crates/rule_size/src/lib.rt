@@ -27,7 +27,7 @@ fn item_bits(sort: usize) -> usize
     }
 }
 
-// The rows of the sorts from one on, whatever their ends.
+// The rows of the sorts from `sort` on, whatever their ends.
 fn rows_bits(item_counts: &[u16], sort: usize) -> usize
     requires { ⌜ (4 ≤ length (now «item_counts»)) × ((s : ℕ) → getD (now «item_counts») s 0 < 2 ^ 10) × (sort ≤ 4) ⌝ }
     ensures { λ r. ⌜ ((ends : List ℕ) → rowPlace (now («item_counts» .entry)) 4 ≤ length ends → length (rowsBits ends (now («item_counts» .entry)) sort) ≡ r) × (r + 45056 * sort ≤ 180224) ⌝ }

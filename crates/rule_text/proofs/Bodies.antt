@@ -1,4 +1,4 @@
--- The days and spans of a rule, by the counts that were read: what is told of them is the rule's own, and stands near.
+-- The days and spans of a rule, by the counts that were read: their tales are those of the rule's own items.
 use mathlib.Core.Path.{_≡_, ap₂, _∙_}
 use mathlib.Core.List.{List}
 use mathlib.Core.Bool.{_||_, not}

@@ -1,4 +1,4 @@
--- What is told of rows that are read is the definition's text of their items. Said once over the layout, and then for a rule's days and spans.
+-- The tale of rows that are read has the definition's text of their items. Proved once for any layout, and then for a rule's days and spans.
 use mathlib.Core.Path.{_≡_, refl, sym, ap, ap₂, _∙_}
 use mathlib.Core.List.{List, [], _∷_, _++_, flatMap, append-assoc}
 use mathlib.Core.Bool.{Bool, false, _||_, not}

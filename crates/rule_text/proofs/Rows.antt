@@ -1,4 +1,4 @@
--- Rows of items: what is told of them step by step, and how far they reach.
+-- Rows of items: their tales step by step, and how many bits they take at most.
 use mathlib.Core.Path.{_≡_, refl, sym, ap, ap₂, _∙_}
 use mathlib.Core.List.{List, [], _∷_, _++_, append-nil, append-assoc}
 use mathlib.Core.Bool.{Bool, true, false, _||_, cond, or-false}

@@ -1,4 +1,4 @@
--- What is told of a reading, and the answers that show it: one lemma for each way in which a reader of an item returns.
+-- The tale of a reading, and the answers that show it: one lemma for each return of a reader of an item.
 use mathlib.Core.Path.{_≡_, refl, sym, ap₂, _∙_, subst}
 use mathlib.Core.List.{List, []}
 use mathlib.Core.Bool.{Bool, true, false, _||_}

@@ -1,4 +1,4 @@
--- What is told of a row of items, of the items behind its first, and of the part of a rule that it makes.
+-- The tales of a row of items, of the items behind its first, and of the part of a rule that the row makes.
 use mathlib.Core.List.{List, [], _++_}
 use mathlib.Core.Bool.{false, _||_, cond}
 use Prim.Native.Nat.{ℕ, zero, suc}

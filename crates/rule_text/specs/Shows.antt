@@ -1,4 +1,5 @@
--- An answer that shows what is told: the bit and the place after it, whether some of it has no words, and the text in the buffer.
+-- An answer that shows a tale: it has the bit after what was read, the place after its text, and whether some of it has no words; and the text
+-- stands in the buffer.
 use mathlib.Core.Path.{_≡_}
 use mathlib.Core.List.{List}
 use mathlib.Core.Bool.{true}

@@ -1,4 +1,4 @@
--- What is told of what stands at a bit: its text, whether some of it has no words, and the bit after it.
+-- A tale is what the line says of what stands at a bit: its text, whether some of it has no words, and the bit after it.
 use mathlib.Core.List.{List, []}
 use mathlib.Core.Bool.{Bool, true, false, not, cond}
 use Prim.Native.Nat.{ℕ}

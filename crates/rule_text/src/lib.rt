@@ -1,4 +1,5 @@
-// A rule as text, read from the sheet as it is written: item after item, row after row. What has no words is told, and nothing is written of it.
+// A rule as text, written while it is read from the sheet: item after item, row after row. The answer says where something has no words;
+// nothing is written for that.
 pub mod row;
 pub mod rule;
 pub mod shown;

@@ -11,7 +11,7 @@ ghost use Rattle.text.specs.Put.{Put, Within};
 ghost use Rattle.rule_text.specs.Shows.{Shows};
 ghost use Rattle.rule_text.specs.Row.{othersTold, itemsTold, opening, partTold};
 
-// Is one of the two so?
+// Whether one or both of two flags are set.
 pub fn either(one: bool, other: bool) -> bool
     ensures { λ r. ⌜ r ≡ one || other ⌝ }
 {

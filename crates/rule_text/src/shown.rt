@@ -1,4 +1,4 @@
-// One item, read at a bit and put as text. What has no words is told, and nothing is written of it.
+// One item, read at a bit and put as text. The answer says where an item has no words; nothing is written for it.
 use item::day::Monthday;
 use item::day::Stepped;
 use item::day::WeekDay;
@@ -25,7 +25,7 @@ pub struct Shown {
 }
 
 impl Shown {
-    // Of what has no words nothing is written.
+    // The answer for what has no words: nothing is written.
     fn silent(at: usize, to: usize) -> Shown
         ensures { λ r. ⌜ r ≡ silent at to ⌝ }
     {
@@ -127,7 +127,7 @@ fn fixed(time: Time) -> bool
     }
 }
 
-// Fixed times and no repeats.
+// Whether a span has fixed times and no repeats.
 fn plain(start: Time, end: Time, repeats: u64) -> bool
     ensures { λ r. ⌜ r ≡ isFixed (asTime start) && (isFixed (asTime end) && noRepeats (repeatsFrom repeats)) ⌝ }
 {

@@ -1,4 +1,4 @@
--- The item of a sort, sort by sort; and a head's bits.
+-- The bits of an item, sort by sort; and the bits of a rule's head.
 use mathlib.Core.Path.{_≡_, refl, sym, ap, ap₂, _∙_}
 use mathlib.Core.Bool.{Bool, true, false}
 use mathlib.Core.List.{List, _++_, append-assoc}

@@ -1,5 +1,5 @@
--- Rows step by step: a row is its first pair and the row behind it; the rows from a sort on are its row and the rows from the next sort
--- on; so for spans.
+-- Rows step by step: a row is its first pair and the row behind it; the rows from a sort on are its row and the rows from the next sort on; and
+-- the same for spans.
 use mathlib.Core.Path.{_≡_, refl, sym, ap, ap₂, _∙_, subst}
 use mathlib.Core.List.{List, [], _∷_, _++_, map, flatMap}
 use Prim.Native.Nat.{ℕ, zero, suc, _+_, _*_, _-_, _≤_, _<_}

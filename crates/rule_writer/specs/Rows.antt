@@ -19,7 +19,7 @@ itemBits sort e =
 unfoldable pub rowBits : ℕ → List Ends → List ℕ
 rowBits sort es = flatMap (itemBits sort) es
 
--- the rows of the sorts from one on, one behind the other
+-- the rows of the sorts from a given one on, one behind the other
 unfoldable pub rowsBits : List ℕ → List ℕ → ℕ → List ℕ
 rowsBits ends counts sort = flatMap (λ s. rowBits s (row ends counts s)) (from sort (4 - sort))
 

@@ -32,7 +32,7 @@ fn put_item(out: &mut [u8], at: usize, sort: usize, start: u64, end: u64) -> usi
     }
 }
 
-// A row: so many pairs of ends from a place on.
+// Writes a row: `item_count` pairs of ends from `place` on.
 pub fn put_row(
     out: &mut [u8],
     at: usize,
@@ -59,7 +59,7 @@ pub fn put_row(
     put_row(out, next, sort, ends, place + 2, item_count - 1)
 }
 
-// The rows of the sorts from one on, the first of them from a place on.
+// Writes the rows of the sorts from `sort` on, whose ends stand from `place` on.
 pub fn put_rows(
     out: &mut [u8],
     at: usize,
@@ -88,7 +88,7 @@ pub fn put_rows(
     )
 }
 
-// So many spans, their numbers from a place on.
+// Writes `span_count` spans, whose numbers stand from `first` on.
 pub fn put_spans(out: &mut [u8], at: usize, spans: &[u64], first: usize, span_count: usize) -> usize
     requires { ⌜ first + «span_count» ≤ length (now spans) ⌝ }
     requires { ⌜ All FitsSpan (spansAt (now spans) first «span_count») ⌝ }

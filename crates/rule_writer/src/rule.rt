@@ -1,4 +1,4 @@
-// A whole rule.
+// Writes a whole rule: its head, its rows of items and its spans.
 use crate::head::put_counts;
 use crate::head::put_title;
 use crate::row::put_rows;
@@ -12,7 +12,7 @@ ghost use Rattle.tables.specs.Items.{Rows};
 ghost use Rattle.tables.specs.Days.{FitsSpan};
 ghost use Rattle.rule_writer.specs.Written.{ruleBits};
 
-// The operator's number, the state's, the rows of ends, and so many spans, their numbers from a place on.
+// The rule has an operator and a state, by their numbers, rows of items' ends, and `span_count` spans, whose numbers stand from `first` on.
 pub fn put_rule(
     out: &mut [u8],
     at: usize,

@@ -1,4 +1,4 @@
--- What follows the rules: zero bits to the byte's end, then nothing.
+-- What follows the rules of a sheet: zero bits to the byte's end, then nothing.
 use mathlib.Core.Path.{_≡_, refl, sym, ap, _∙_}
 use mathlib.Core.List.{List, [], _∷_}
 use mathlib.Core.Option.{Option, none, some}

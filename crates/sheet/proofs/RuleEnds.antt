@@ -1,4 +1,4 @@
--- Where a rule ends: its title, its counts, its items. Rests on the laws of rows.
+-- Where a rule ends: its title, its counts, its items. One lemma for each return of `counted_end` and `rule_end`.
 use mathlib.Core.Path.{_≡_, refl, sym, ap, _∙_}
 use mathlib.Core.List.{List}
 use Prim.Native.Nat.{ℕ}

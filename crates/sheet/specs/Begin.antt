@@ -1,4 +1,4 @@
--- The rule that begins at a bit.
+-- The rule that is read at a bit, and when there is one.
 use mathlib.Core.Path.{_≡_}
 use mathlib.Core.List.{List}
 use Prim.Native.Nat.{ℕ}

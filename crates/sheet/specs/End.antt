@@ -1,4 +1,4 @@
--- Where readings end: the same as what they read, less the values.
+-- Where readings end: a reading without its values, just the bit after it, or the refusal.
 use mathlib.Core.List.{List}
 use mathlib.Core.Bool.{cond}
 use Prim.Native.Nat.{ℕ, zero, suc}

@@ -16,7 +16,7 @@ pub enum Checked {
 }
 
 impl Checked {
-    // The rules were counted; what follows them ends, or is refused.
+    // What a check answers once the rules were counted: how many and the bit after them, or the refusal that was met.
     fn of(count: usize, step: Step) -> Checked
         ensures { λ r. ⌜ asChecked r ≡ andThen (λ u q. got count q) (asStep step) ⌝ }
     {
@@ -96,8 +96,8 @@ fn check_rules(sheet: &[u8], begins: &mut [usize; 64], start: usize, count: usiz
     }
 }
 
-// "every byte string gets an answer": 1, 2 and 4 as met from the first bit on, then 3. The sheet is opened, and how many rules it has is
-// taken through 01's view of it.
+// Every byte string gets an answer: "1, 2 and 4 as met from the first bit on; then 3". How many rules there are is read through 01's view of
+// the sheet, crate `reader`.
 pub fn check(sheet: &[u8], begins: &mut [usize; 64]) -> Checked
     ensures { λ r. ⌜ (asChecked r ≡ checked (now (sheet .entry))) × (now (begins .exit) ≡ begun (now (sheet .entry)) (now (begins .entry))) ⌝ }
 {

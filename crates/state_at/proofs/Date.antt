@@ -1,4 +1,4 @@
--- THE POINT OF A DATE lies within all bounds; and what the calendar's answer says of the date. Rests on the laws of what a date's numbers lie in.
+-- THE POINT OF A DATE lies within all bounds; and what the calendar's answer says of the date. Rests on calendar's laws of a date's numbers.
 use mathlib.Core.Path.{_≡_, refl, sym, ap, _∙_, subst}
 use mathlib.Core.Bool.{Bool, true, false}
 use mathlib.Core.List.{List, []}

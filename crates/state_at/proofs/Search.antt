@@ -1,4 +1,4 @@
--- One lemma for each return of the search for a point's box. Rests on the laws of nodes.
+-- One lemma for each return of the search for a point's box. Rests on paving's laws of columns.
 use mathlib.Core.Path.{_≡_, ap, _∙_, subst}
 use mathlib.Core.List.{List, [], _∷_}
 use Prim.Native.Nat.{ℕ, suc, _+_, _*_, _-_, _≤_, _<_}

@@ -43,6 +43,6 @@ module _ (states counts spans : List ℕ) where
     overList shown [] = State shown
     overList shown (k ∷ ks) = onward (overRule shown k) (λ after. overList after ks)
 
--- the numbers from one on, of so many that stand from a place on
+-- the last numbers of a box's list, from number `next` of it on: the list has `many`, which stand from `first` on
 abbrev pub numbersFrom : List ℕ → ℕ → ℕ → ℕ → List ℕ
 numbersFrom lists first next many = map (λ k. getD lists (first + k) 0) (from next (many - next))

@@ -1,4 +1,4 @@
-// What is found, in the numbers of the answer: code, kind, comment and the table's place.
+// The answer's numbers for what was found: code, kind, comment and the table's place.
 use super::StateFound;
 use answers::Answer;
 use casts::u32_to_u64;

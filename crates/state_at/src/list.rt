@@ -39,7 +39,7 @@ fn after_span(span: u64, minute: u16, state: u32, before: u32) -> u32
     }
 }
 
-// The state after spans from one up to another, all of one state.
+// The state after some spans of a rule, all of one state.
 fn over_spans(
     spans: &[u64],
     first: usize,

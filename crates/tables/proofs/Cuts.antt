@@ -1,4 +1,4 @@
--- Laws of rows of cuts. Rests on the search's rising numbers.
+-- A row of cuts that rises is a row of rising numbers, as the search for a place requires.
 use mathlib.Core.Path.{_≡_, subst}
 use mathlib.Core.List.{List}
 use Prim.Native.Nat.{ℕ, suc, _+_, _-_, _<_}

@@ -1,4 +1,4 @@
--- Laws of the boxes' lists.
+-- A box's list is as long as its count says.
 use mathlib.Core.Path.{_≡_, _∙_}
 use mathlib.Core.List.{List}
 use Prim.Native.Nat.{ℕ, _+_, _*_}

@@ -1,4 +1,4 @@
--- Search among rising numbers: what is left, while it is halved. Rests on no other laws.
+-- Search among rising numbers: what holds while the numbers left are halved, and where the search ends.
 use mathlib.Core.Path.{_≡_, subst}
 use mathlib.Core.List.{List}
 use Prim.Native.Nat.{ℕ, zero, suc, _+_, _-_, _≤_, _<_}

@@ -1,4 +1,4 @@
--- Rows of a table: what they are where they are lent, and where one of them was written anew. Rests on no other laws.
+-- Rows of a table: a row that is lent, and the rows after one of them was written.
 use mathlib.Core.Path.{_≡_, sym, ap, _∙_}
 use mathlib.Core.List.{List, _++_}
 use Prim.Native.Nat.{ℕ, _+_, _-_, _*_, _≤_, _<_}

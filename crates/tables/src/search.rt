@@ -1,9 +1,9 @@
-// Search among rising numbers: where a value's place is.
+// Search for a value's place among rising numbers.
 ghost use Prim.Native.Nat.{_≤_, _<_};
 ghost use lib.ListN.{length};
 ghost use Rattle.tables.specs.Search.{Rising, PlaceOf};
 
-// The first place, of rising numbers, whose number is not below a value; the end, if all are. What is left is halved.
+// The first place among rising numbers whose number is not below a value; the end, if all are below it. Each step halves what is left.
 pub fn place_in(numbers: &[u16], first: usize, end: usize, value: u16) -> usize
     requires { ⌜ (first ≤ end) × (end ≤ length (now numbers)) ⌝ }
     requires { ⌜ Rising (now numbers) first end ⌝ }

@@ -1,4 +1,4 @@
--- A number with some of its bits made others.
+-- A number with some of its bits replaced.
 use Prim.Native.Nat.{ℕ, _+_, _*_, _/_, _%_, _^_}
 
 -- what stands above the last `from` bits, the value, the last `to` bits

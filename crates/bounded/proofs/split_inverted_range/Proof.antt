@@ -1,4 +1,4 @@
--- `bounded::split_inverted_range` meets its contract, by the two ways of `split`.
+-- `bounded::split_inverted_range` meets its contract: one lemma for each of its returns, one range or two.
 use native.Mathlib.Omega.{arith}
 use borrow.Author.Needs.{needs}
 use Rattle.bounded.specs.Strict.{pairOf}

@@ -1,4 +1,4 @@
--- `bounded::to_range_inclusive` meets its contract, by the two ways of `inclusive`.
+-- `bounded::to_range_inclusive` meets its contract: one lemma for each of its returns, two ends or nothing.
 use native.Mathlib.Omega.{arith}
 use borrow.Author.Needs.{needs}
 use Rattle.bounded.proofs.Strict.{inclusive-some, inclusive-none}

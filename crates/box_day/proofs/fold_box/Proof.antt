@@ -1,4 +1,4 @@
--- `box_day::fold_box` meets its contract.
+-- `box_day::fold_box` meets its contract: the box's list is lent as a part of all lists, and folded.
 use mathlib.Core.Path.{refl}
 use borrow.Author.Needs.{needs}
 use Rattle.box_day.proofs.Folding.{fold-needs, fold-gives}

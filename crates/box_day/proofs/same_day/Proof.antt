@@ -1,4 +1,4 @@
--- `box_day::same_day` meets its contract.
+-- `box_day::same_day` meets its contract: the box's day is folded, then compared with the other day.
 use borrow.Author.Needs.{needs}
 use Rattle.box_day.proofs.Comparing.{days-compared, lengths-differ}
 use Rattle.box_day.proofs.same_day.Statement.{statement}

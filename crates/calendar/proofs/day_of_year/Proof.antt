@@ -1,4 +1,4 @@
--- `calendar::day_of_year` meets its contract. The loop's invariant: as many days as the months passed have, and the day.
+-- `calendar::day_of_year` meets its contract. The loop's invariant: the sum is the days of the months passed, and the day.
 use mathlib.Core.Path.{_≡_}
 use Prim.Native.Nat.{_+_, _*_, _-_, _≤_}
 use native.Mathlib.Omega.{arith}

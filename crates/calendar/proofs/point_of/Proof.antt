@@ -1,4 +1,4 @@
--- `calendar::point_of` meets its contract, by the two ways of `pointAt`.
+-- `calendar::point_of` meets its contract: one lemma for each of its returns, a date or none.
 use mathlib.Core.Path.{sym, _∙_}
 use native.Mathlib.Omega.{arith}
 use borrow.Author.Needs.{needs}

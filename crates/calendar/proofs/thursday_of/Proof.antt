@@ -1,5 +1,5 @@
--- `calendar::thursday_of` meets its contract: the three ways are those of the laws `thursday-before`, `thursday-same` and `thursday-next`. A year
--- has at most 366 days and weekdays end at 6, so nothing wraps.
+-- `calendar::thursday_of` meets its contract: its three returns are those of the laws `thursday-before`, `thursday-same` and `thursday-next`. A
+-- year has at most 366 days and weekdays end at 6, so nothing wraps.
 use mathlib.Core.Path.{ap}
 use Prim.Native.Nat.{_-_}
 use native.Mathlib.Omega.{arith}

@@ -1,5 +1,5 @@
--- `fold_pages::fold_pages` meets its contract: the buffers are as large as the limits ask for, the boxes can be folded, the cells and marks are
--- those that popping asks for, and the pages in the buffer are those of the folded rules.
+-- `fold_pages::fold_pages` meets its contract: the buffers are as large as the limits require, the boxes can be folded, the cells and marks are
+-- those that popping requires, and the pages in the buffer are those of the folded rules.
 use mathlib.Core.Path.{_≡_, sym, _∙_}
 use mathlib.Core.List.{List}
 use Prim.Native.Nat.{ℕ, _≤_}

@@ -1,4 +1,5 @@
--- `paving_pages::pop_class` meets its contract: what is left to append gives what the start gives, and has room.
+-- `paving_pages::pop_class` meets its contract. The loop's invariant: appending the groups that are left gives what appending all gives, and
+-- they have room.
 use mathlib.Core.Path.{_≡_, refl, _∙_}
 use Prim.Native.Nat.{ℕ, _≤_}
 use native.Mathlib.Omega.{arith}

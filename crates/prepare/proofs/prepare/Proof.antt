@@ -1,4 +1,4 @@
--- `prepare::prepare` meets its contract: the rules drained are those of the sheet, and what is drained can be cut at.
+-- `prepare::prepare` meets its contract: the rules drained are those of the sheet, and their ranges can be cut at.
 use native.Mathlib.Omega.{arith}
 use Rattle.field.proofs.Bytes.{known-bytes}
 use Rattle.prepare.proofs.Reading.{rules-begin, begins-there, drained-few, drained-days, sheet-prepared}

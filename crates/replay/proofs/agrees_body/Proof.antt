@@ -12,4 +12,4 @@ agrees-body-spec =
     (tie.spec
     (λ c. search needs)
     (λ c. sym (length-take-le _ _ (omega arith)))
-    (λ c. search needs) (λ c. search needs) (λ c. search needs) (λ c κs. search needs) (λ c. search needs))
+    (λ c. search needs) (λ c. search needs) (λ c. search needs) (λ c κs. search needs) (λ c. search needs) (λ c. search needs))

@@ -1,4 +1,4 @@
--- `bounded::OrderedWeekday::pred` meets its contract, by the two ways of `prior`.
+-- `bounded::OrderedWeekday::pred` meets its contract: one lemma for each of its two returns, at the bounds of weekdays.
 use native.Mathlib.Omega.{arith}
 use borrow.Author.Needs.{needs}
 use Rattle.definition.specs.Rule.{weekdayBounds}

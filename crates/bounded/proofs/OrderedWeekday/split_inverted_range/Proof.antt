@@ -1,4 +1,4 @@
--- `bounded::OrderedWeekday::split_inverted_range` meets its contract: what the plain one ensures, at these bounds.
+-- `bounded::OrderedWeekday::split_inverted_range` meets its contract: the function for any bounds is called with those of weekdays.
 use borrow.Author.Needs.{needs}
 use Rattle.bounded.proofs.OrderedWeekday.split_inverted_range.Statement.{statement}
 use Rattle.bounded.proofs.OrderedWeekday.split_inverted_range.Tie as tie

@@ -1,4 +1,4 @@
--- `bounded::OrderedWeekday::succ` meets its contract, by the two ways of `next`.
+-- `bounded::OrderedWeekday::succ` meets its contract: one lemma for each of its two returns, at the bounds of weekdays.
 use native.Mathlib.Omega.{arith}
 use borrow.Author.Needs.{needs}
 use Rattle.definition.specs.Rule.{weekdayBounds}

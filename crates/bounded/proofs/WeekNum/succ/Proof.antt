@@ -1,4 +1,4 @@
--- `bounded::WeekNum::succ` meets its contract, by the two ways of `next`.
+-- `bounded::WeekNum::succ` meets its contract: one lemma for each of its two returns, at the bounds of weeks.
 use native.Mathlib.Omega.{arith}
 use borrow.Author.Needs.{needs}
 use Rattle.definition.specs.Rule.{weekBounds}

@@ -1,4 +1,4 @@
--- `bounded::Year::succ` meets its contract, by the two ways of `next`.
+-- `bounded::Year::succ` meets its contract: one lemma for each of its two returns, at the bounds of years.
 use native.Mathlib.Omega.{arith}
 use borrow.Author.Needs.{needs}
 use Rattle.definition.specs.Rule.{yearBounds}

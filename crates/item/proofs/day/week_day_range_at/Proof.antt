@@ -1,4 +1,4 @@
--- `item::day::week_day_range_at` meets its contract: a tag, and what it asks for.
+-- `item::day::week_day_range_at` meets its contract: a tag, and the layout behind it.
 use mathlib.Core.Path.{sym}
 use native.Mathlib.Omega.{arith}
 use borrow.Author.Needs.{needs}

@@ -1,5 +1,5 @@
--- The cycle of `paving::check::check_predicate` and `check_columns` meets its contracts. The invariant of the loop over the columns:
--- whether what is left from here agrees is whether all does.
+-- The cycle of `paving::check::check_predicate` and `check_columns` meets its contracts. The invariant of the loop over the columns: all marked
+-- columns agree exactly when those that are left do.
 use mathlib.Core.Path.{_≡_, refl, _∙_}
 use mathlib.Core.Logic.{⊎-elim}
 use Prim.Native.Nat.{suc, _+_, _*_, _-_, ℕ, _<_}

@@ -1,5 +1,5 @@
--- The cycle of `paving::reset::reset` and `reset_columns` meets its contracts. The invariant of the loop over the columns: what empties
--- the marked columns that are left empties, in all, those of the cells as they came.
+-- The cycle of `paving::reset::reset` and `reset_columns` meets its contracts. The invariant of the loop over the columns: emptying the marked
+-- columns that are left gives what emptying all of them gives.
 use mathlib.Core.Path.{_≡_, refl, ap, _∙_}
 use mathlib.Core.Logic.{⊎-elim}
 use Prim.Native.Nat.{suc, _+_, _*_, _-_, ℕ, _<_}

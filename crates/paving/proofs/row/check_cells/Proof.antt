@@ -1,4 +1,4 @@
--- `paving::row::check_cells` meets its contract. The loop's invariant: whether what is left from here agrees is whether all does.
+-- `paving::row::check_cells` meets its contract. The loop's invariant: all marked cells agree exactly when those that are left do.
 use mathlib.Core.Path.{_≡_, refl, _∙_}
 use mathlib.Core.Logic.{⊎-elim}
 use Prim.Native.Nat.{_-_}

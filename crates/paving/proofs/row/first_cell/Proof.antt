@@ -1,4 +1,4 @@
--- `paving::row::first_cell` meets its contract: the cell that is next is the first.
+-- `paving::row::first_cell` meets its contract: the cell that `next_cell` finds is the first of the class, or there is none.
 use borrow.Author.Needs.{needs}
 use Rattle.paving.proofs.Rows.{first-hit, first-none}
 use Rattle.paving.proofs.row.first_cell.Statement.{statement}

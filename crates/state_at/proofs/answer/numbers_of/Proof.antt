@@ -1,4 +1,4 @@
--- `state_at::answer::numbers_of` meets its contract.
+-- `state_at::answer::numbers_of` meets its contract: one lemma for each of its returns, a state or that it is unsettled.
 use borrow.Author.Needs.{needs}
 use Rattle.state_at.proofs.Numbers.{state-numbers, unsettled-numbers}
 use Rattle.state_at.proofs.answer.numbers_of.Statement.{statement}
