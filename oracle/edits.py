@@ -23,7 +23,10 @@ from typing import Iterator, NamedTuple
 
 ROOT = Path(__file__).resolve().parent.parent
 SLOW = 15  # seconds
-ERROR = re.compile(r"^(?:note: )?(\S+:\d+:\d+): (?:error: |.*?is not admitted: )?(.*)$")
+ERROR = re.compile(r"^(\S+:\d+:\d+): (?:error: )?(.*(?:unsolved|not admitted|error).*|(?<=error: ).*)$", re.MULTILINE)
+OPEN = re.compile(r"^help: write (\S+)/Proof\.antt", re.MULTILINE)
+NEED = re.compile(r"^ +([\w-]+) : tie\.Need-", re.MULTILINE)
+NO_ERROR, NOT_REFUSED = "no error told", "NOT REFUSED"
 SHAPE = re.compile(r"has no field|has no `|is not in scope|binders, but its type has room|can be named from here|was not admitted")
 
 
@@ -34,10 +37,12 @@ class Tried(NamedTuple):
 
 
 def first_error(log: str) -> str:
-    """Where the first error stands, and its first words."""
-    lines = [line for line in log.splitlines() if ": error: " in line or "is not admitted" in line or "unsolved" in line]
-    found = ERROR.match(lines[0]) if lines else None
-    return f"{'/'.join(Path(found[1]).parts[-3:])} {found[2]}" if found else "no error told"
+    """Where the first error stands, and its first words; of a function without a proof file, what is left to prove."""
+    if found := ERROR.search(log):
+        return f"{'/'.join(Path(found[1]).parts[-3:])} {found[2]}"
+    if found := OPEN.search(log):
+        return f"{'/'.join(Path(found[1]).parts[-2:])} leaves open: " + ", ".join(NEED.findall(log))
+    return NO_ERROR
 
 
 def tried_by_gate() -> Iterator[Tried]:
@@ -70,15 +75,15 @@ def tried_alone(names: list[str]) -> Iterator[Tried]:
             for edit in sorted((ROOT / "crates" / name / "must-fail").glob("*.edit")):
                 crate = copy / "crates" / name
                 applied(edit, crate)
-                ran = subprocess.run(["rt", "check", name], cwd=copy, capture_output=True, text=True, env=None)
+                ran = subprocess.run(["rt", "check", name], cwd=copy, capture_output=True, text=True)
                 seconds = re.search(rf"{name} NOT PROVED \(exit \d+, (\d+) s\)", ran.stdout)
-                yield Tried(edit, int(seconds[1]) if seconds else 0, first_error(ran.stdout) if seconds else "NOT REFUSED")
+                yield Tried(edit, int(seconds[1]) if seconds else 0, first_error(ran.stdout) if seconds else NOT_REFUSED)
                 shutil.rmtree(crate)
                 shutil.copytree(ROOT / "crates" / name, crate, ignore=shutil.ignore_patterns("must-fail"))
 
 
 def faults(tried: Tried) -> Iterator[str]:
-    if SHAPE.search(tried.error) or tried.error in ("NOT REFUSED", "no error told"):
+    if SHAPE.search(tried.error) or tried.error in (NO_ERROR, NOT_REFUSED):
         yield "shows nothing"
     if tried.seconds > SLOW and "slow: " not in tried.edit.read_text().splitlines()[0]:
         yield "slow, and doesn't say why"
