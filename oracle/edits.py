@@ -27,7 +27,7 @@ ERROR = re.compile(r"^(\S+:\d+:\d+): (?:error: )?(.*(?:unsolved|not admitted|err
 OPEN = re.compile(r"^help: write (\S+)/Proof\.antt", re.MULTILINE)
 NEED = re.compile(r"^ +([\w-]+) : tie\.Need-", re.MULTILINE)
 NO_ERROR, NOT_REFUSED = "no error told", "NOT REFUSED"
-SHAPE = re.compile(r"has no field|has no `|is not in scope|binders, but its type has room|can be named from here|was not admitted")
+SHAPE = re.compile(r"has no field|has no `|is not in scope|binders, but its type has room|can be named from here|unsolved")
 
 
 class Tried(NamedTuple):
@@ -37,9 +37,10 @@ class Tried(NamedTuple):
 
 
 def first_error(log: str) -> str:
-    """Where the first error stands, and its first words; of a function without a proof file, what is left to prove."""
-    if found := ERROR.search(log):
-        return f"{'/'.join(Path(found[1]).parts[-3:])} {found[2]}"
+    """Where the first error stands that no other one brought about, and its first words; of a function without a proof file, what is left open."""
+    for found in ERROR.finditer(log):
+        if "was not admitted" not in found[2]:
+            return f"{'/'.join(Path(found[1]).parts[-3:])} {found[2]}"
     if found := OPEN.search(log):
         return f"{'/'.join(Path(found[1]).parts[-2:])} leaves open: " + ", ".join(NEED.findall(log))
     return NO_ERROR

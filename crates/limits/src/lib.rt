@@ -1,5 +1,5 @@
-// The tests of 01's limits, each in one place: how many rules, items and boxes a sheet may have, how many entries a list, which minutes a day
-// has, and whether a buffer has room.
+// The tests of 01's limits, each in one place: how many rules, items and boxes a sheet may have, how many entries a list, how wide a field is,
+// which minutes a day has, and whether a buffer has room.
 ghost use mathlib.Core.Path.{_≡_};
 ghost use lib.Dec.{ltb, leb};
 ghost use Rattle.definition.specs.Rule.{midnight24};
@@ -17,6 +17,13 @@ pub fn items_allowed(count: u64) -> bool
     ensures { λ r. ⌜ r ≡ leb count (limits1 .items) ⌝ }
 {
     count <= 16
+}
+
+// The widest field of a sheet is "a caller's reference of 32".
+pub fn width_over(width: usize) -> bool
+    ensures { λ r. ⌜ r ≡ ltb 32 width ⌝ }
+{
+    width > 32
 }
 
 // "boxes over 1,024"

@@ -74,86 +74,7 @@ fn fold_boxes_in(
     )
 }
 
-// Few boxes, in small buffers: clearing large ones would take most of the time.
-fn fold_few_boxes(
-    sheet: &[u8],
-    left: Left,
-    out: &mut [u8],
-    states: &[u32],
-    span_counts: &[u8],
-    spans: &[u64],
-    replacing: &[u8],
-    range_counts: &[u16],
-    ranges: &[u16],
-    row_starts: &[u16],
-    sizes: &[u16],
-    cuts: &[u16],
-) -> Folded
-    requires { ⌜ ((rs : List Rule) × Foldable (now sheet) left (now states) (now «span_counts») (now spans) (now replacing)
-        (now «range_counts») (now ranges) (now «row_starts») (now sizes) (now cuts) rs) ⌝ }
-    requires { ⌜ sizeOf (now sizes) 4 ≤ 16 ⌝ }
-    ensures { λ r. ⌜ Folds (now (sheet .entry)) (now (out .entry)) r (now (out .exit)) ⌝ }
-{
-    let mut lists = [0u16; 528];
-    let mut pages = [0u16; 208];
-    fold_boxes_in(
-        sheet,
-        left,
-        out,
-        states,
-        span_counts,
-        spans,
-        replacing,
-        range_counts,
-        ranges,
-        row_starts,
-        sizes,
-        cuts,
-        &mut lists,
-        &mut pages,
-    )
-}
-
-// As many boxes as the limit allows.
-fn fold_many_boxes(
-    sheet: &[u8],
-    left: Left,
-    out: &mut [u8],
-    states: &[u32],
-    span_counts: &[u8],
-    spans: &[u64],
-    replacing: &[u8],
-    range_counts: &[u16],
-    ranges: &[u16],
-    row_starts: &[u16],
-    sizes: &[u16],
-    cuts: &[u16],
-) -> Folded
-    requires { ⌜ ((rs : List Rule) × Foldable (now sheet) left (now states) (now «span_counts») (now spans) (now replacing)
-        (now «range_counts») (now ranges) (now «row_starts») (now sizes) (now cuts) rs) ⌝ }
-    ensures { λ r. ⌜ Folds (now (sheet .entry)) (now (out .entry)) r (now (out .exit)) ⌝ }
-{
-    let mut lists = [0u16; 33792];
-    let mut pages = [0u16; 13312];
-    fold_boxes_in(
-        sheet,
-        left,
-        out,
-        states,
-        span_counts,
-        spans,
-        replacing,
-        range_counts,
-        ranges,
-        row_starts,
-        sizes,
-        cuts,
-        &mut lists,
-        &mut pages,
-    )
-}
-
-// Folds the boxes, in small buffers where they are few.
+// Folds the boxes. Few of them have small buffers: clearing large ones would take most of the time.
 pub fn fold_boxes(
     sheet: &[u8],
     left: Left,
@@ -173,7 +94,9 @@ pub fn fold_boxes(
     ensures { λ r. ⌜ Folds (now (sheet .entry)) (now (out .entry)) r (now (out .exit)) ⌝ }
 {
     if paving::place::size_of(sizes, 4) <= 16 {
-        fold_few_boxes(
+        let mut lists = [0u16; 528];
+        let mut pages = [0u16; 208];
+        return fold_boxes_in(
             sheet,
             left,
             out,
@@ -186,21 +109,26 @@ pub fn fold_boxes(
             row_starts,
             sizes,
             cuts,
-        )
-    } else {
-        fold_many_boxes(
-            sheet,
-            left,
-            out,
-            states,
-            span_counts,
-            spans,
-            replacing,
-            range_counts,
-            ranges,
-            row_starts,
-            sizes,
-            cuts,
-        )
+            &mut lists,
+            &mut pages,
+        );
     }
+    let mut lists = [0u16; 33792];
+    let mut pages = [0u16; 13312];
+    fold_boxes_in(
+        sheet,
+        left,
+        out,
+        states,
+        span_counts,
+        spans,
+        replacing,
+        range_counts,
+        ranges,
+        row_starts,
+        sizes,
+        cuts,
+        &mut lists,
+        &mut pages,
+    )
 }

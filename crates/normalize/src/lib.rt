@@ -71,43 +71,8 @@ fn fold_rules_in(
     )
 }
 
-// Few rules, in small tables: clearing large ones would take longer than the fold of so few.
-fn fold_few_rules(
-    sheet: &[u8],
-    begins: &[usize],
-    count: usize,
-    end: usize,
-    out: &mut [u8],
-) -> Folded
-    requires { ⌜ Readings (now sheet) (now begins) count end ⌝ }
-    requires { ⌜ count ≤ 4 ⌝ }
-    ensures { λ r. ⌜ Folds (now (sheet .entry)) (now (out .entry)) r (now (out .exit)) ⌝ }
-{
-    let mut states = [0u32; 4];
-    let mut span_counts = [0u8; 4];
-    let mut spans = [0u64; 64];
-    let mut replacing = [0u8; 4];
-    let mut range_counts = [0u16; 16];
-    let mut ranges = [0u16; 1024];
-    let mut cuts = [0u16; 1032];
-    fold_rules_in(
-        sheet,
-        begins,
-        count,
-        end,
-        out,
-        &mut states,
-        &mut span_counts,
-        &mut spans,
-        &mut replacing,
-        &mut range_counts,
-        &mut ranges,
-        &mut cuts,
-    )
-}
-
-// As many rules as the limit allows.
-fn fold_many_rules(
+// Folds the rules of a checked sheet. Few of them have small tables: clearing large ones would take longer than the fold of so few.
+pub fn fold_rules(
     sheet: &[u8],
     begins: &[usize],
     count: usize,
@@ -117,6 +82,29 @@ fn fold_many_rules(
     requires { ⌜ Readings (now sheet) (now begins) count end ⌝ }
     ensures { λ r. ⌜ Folds (now (sheet .entry)) (now (out .entry)) r (now (out .exit)) ⌝ }
 {
+    if count <= 4 {
+        let mut states = [0u32; 4];
+        let mut span_counts = [0u8; 4];
+        let mut spans = [0u64; 64];
+        let mut replacing = [0u8; 4];
+        let mut range_counts = [0u16; 16];
+        let mut ranges = [0u16; 1024];
+        let mut cuts = [0u16; 1032];
+        return fold_rules_in(
+            sheet,
+            begins,
+            count,
+            end,
+            out,
+            &mut states,
+            &mut span_counts,
+            &mut spans,
+            &mut replacing,
+            &mut range_counts,
+            &mut ranges,
+            &mut cuts,
+        );
+    }
     let mut states = [0u32; 64];
     let mut span_counts = [0u8; 64];
     let mut spans = [0u64; 1024];
@@ -138,22 +126,4 @@ fn fold_many_rules(
         &mut ranges,
         &mut cuts,
     )
-}
-
-// Folds the rules of a checked sheet, in small tables where they are few.
-pub fn fold_rules(
-    sheet: &[u8],
-    begins: &[usize],
-    count: usize,
-    end: usize,
-    out: &mut [u8],
-) -> Folded
-    requires { ⌜ Readings (now sheet) (now begins) count end ⌝ }
-    ensures { λ r. ⌜ Folds (now (sheet .entry)) (now (out .entry)) r (now (out .exit)) ⌝ }
-{
-    if count <= 4 {
-        fold_few_rules(sheet, begins, count, end, out)
-    } else {
-        fold_many_rules(sheet, begins, count, end, out)
-    }
 }

@@ -35,6 +35,7 @@ use Rattle.hours.proofs.fold.Reads as fold-contract
 use Rattle.hours.proofs.lookup.Kinds as lookup-kinds
 use Rattle.hours.proofs.lookup.Reads as lookup-contract
 use Rattle.one_answer.specs.Promise.{FoldPromise, LookupPromise}
+use Rattle.one_answer.proofs.Promised.{fold-promised, lookup-promised}
 use Rattle.one_answer.specs.Meaning.{FoldMeans, FoldNothing, FoldTheorem, LookupTheorem}
 
 -- ## The fold
@@ -92,7 +93,8 @@ module _ (sheet out : List ℕ) (x : Folded × List ℕ) (p : FoldPromise sheet 
 -- THE THEOREM OF `hours::fold`
 pub fold-theorem : (κs : Lfts 2) (a : Dens κs fold-kinds.ps) (r : Folded) (e : AtExit (endedOf 2 fold-kinds.ps fold-kinds.r) κs)
     → fold-contract.Learnt κs a r e → Bytes (now (a .0)) → FoldTheorem (now (a .0)) (now (a .1 .0)) (r, now (e .1 .0))
-fold-theorem κs a r e h bytes = (λ code. let means = accepted _ _ _ h bytes code in (means .0, written (means .0), means .1), refused _ _ _ h)
+fold-theorem κs a r e h bytes =
+    let p = fold-promised κs a r e h in (λ code. let means = accepted _ _ _ p bytes code in (means .0, written (means .0), means .1), refused _ _ _ p)
 
 -- THE THEOREM OF `hours::lookup`, beside a fold of the same sheet
 pub lookup-theorem : (κs : Lfts 2) (a : Dens κs fold-kinds.ps) (r : Folded) (e : AtExit (endedOf 2 fold-kinds.ps fold-kinds.r) κs)
@@ -101,4 +103,5 @@ pub lookup-theorem : (κs : Lfts 2) (a : Dens κs fold-kinds.ps) (r : Folded) (e
     → lookup-contract.Learnt λs b s f → now (b .0) ≡ now (a .0) → Bytes (now (a .0))
     → LookupTheorem (now (a .0)) (now (a .1 .0)) (r, now (e .1 .0)) (b .1 .0) (b .1 .1 .0) (b .1 .1 .1 .0) (b .1 .1 .1 .1 .0) s
 lookup-theorem κs a r e h λs b s f g same bytes =
-    told-there (now (a .0)) (now (a .1 .0)) (r, now (e .1 .0)) h _ _ _ _ s (subst (λ sheet. LookupPromise sheet (b .1 .0) (b .1 .1 .0) (b .1 .1 .1 .0) (b .1 .1 .1 .1 .0) s) same g) bytes
+    told-there (now (a .0)) (now (a .1 .0)) (r, now (e .1 .0)) (fold-promised κs a r e h) _ _ _ _ s
+    (subst (λ sheet. LookupPromise sheet (b .1 .0) (b .1 .1 .0) (b .1 .1 .1 .0) (b .1 .1 .1 .1 .0) s) same (lookup-promised λs b s f g)) bytes

@@ -1,1 +1,2 @@
-// That no second answer fits the promises of the entry points, and which programs they shut out: statements in specs/, theorems in proofs/; nothing runs here.
+// What is proved of the entry points themselves: what their promises mean in one piece, that no second answer fits them, and which programs they
+// shut out. Statements stand in specs/, theorems in proofs/; nothing runs here.

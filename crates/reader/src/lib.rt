@@ -4,6 +4,7 @@
 use field::Taken;
 use field::width;
 use limits::rules_allowed;
+use limits::width_over;
 ghost use mathlib.Core.Path.{_≡_};
 ghost use Rattle.definition.specs.Field.{Layout, sheetBits, counted};
 ghost use Rattle.definition.specs.Sheet.{form1, limits1};
@@ -27,7 +28,7 @@ pub enum Reading {
 pub fn read_at(sheet: &[u8], at: usize, width: usize) -> Reading
     ensures { λ r. ⌜ Says r (now (sheet .entry)) at width ⌝ }
 {
-    if width > 32 {
+    if width_over(width) {
         return Reading::TooLarge;
     }
     let before = at / 8;

@@ -19,7 +19,7 @@ rest-within : (old count rest : ℕ) → rest ≡ old % 2 ^ count → rest ≤ o
 rest-within old count rest e = omega (arith, e, split old count)
 
 sub-result : tie.Need-sub-result
-sub-result c = rest-within _ _ _ (c .low-bits .ensures)
+sub-result c = rest-within _ (c .before .args .from) _ (c .low-bits .ensures)
 
 add-result : tie.Need-add-result
 add-result c = let m = moved _ _ _ _ (c .before .pre) in omega (arith, m .0, m .1)
