@@ -8,11 +8,10 @@ use native.Mathlib.Omega.{arith}
 use lib.Dec.{eqb}
 use lib.ListN.{length, set}
 use lib.Seq.{sets}
-use borrow.Author.Tests.{eq-eqb, ne-eqb}
 use Rattle.laws.specs.Lists.{anyOf}
 use Rattle.laws.proofs.Flags.{or-assoc}
 use Rattle.definition.specs.Field.{got, sheetBits, several}
-use Rattle.definition.specs.Rule.{Operator, Additional, Fallback, operatorOf, Kind, Open, Unknown, kindOf, Rule}
+use Rattle.definition.specs.Rule.{Operator, operatorOf, Kind, kindOf, Rule}
 use Rattle.definition.specs.Sheet.{form1, limits1, span, title}
 use Rattle.definition.specs.Stop.{isFallback, monthdayStops, weekdayStops, spanStops, stops}
 use Rattle.definition.specs.Point.{isNormal, isClosed}

@@ -7,18 +7,16 @@ use codes::title::state_number;
 use sheet::rule::TitleRead;
 ghost use mathlib.Core.Path.{_≡_};
 ghost use mathlib.Core.List.{map};
-ghost use mathlib.Core.Bool.{_&&_, not, cond};
+ghost use mathlib.Core.Bool.{cond};
 ghost use Prim.Native.Nat.{_+_, _*_, _≤_, _<_, _^_};
 ghost use lib.ListN.{length};
 ghost use lib.Seq.{sets};
 ghost use mathlib.Core.Option.{none, some};
 ghost use Rattle.definition.specs.Field.{sheetBits};
-ghost use Rattle.definition.specs.Rule.{operatorOf, kindOf};
-ghost use Rattle.definition.specs.Stop.{isFallback, stops};
-ghost use Rattle.definition.specs.Point.{isNormal, isClosed};
+ghost use Rattle.definition.specs.Stop.{stops};
 ghost use Rattle.sheet.specs.Begin.{ruleReadAt, Readable};
 ghost use Rattle.canonical_date.specs.Days.{daysLoaded};
-ghost use Rattle.codes.specs.Number.{stateNumber, stateOf, spanNumber};
+ghost use Rattle.codes.specs.Number.{spanNumber};
 ghost use Rattle.draining.specs.Rule.{loadedSpans, partsStop, loadOf, SetRule, DrainedRule};
 
 // How many spans a rule has; or an item or a span stops it.

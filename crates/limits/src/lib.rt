@@ -12,7 +12,7 @@ pub fn rules_allowed(count: u64) -> bool
     count <= 64
 }
 
-// "16 items of each sort"
+// "16 items of each sort, 16 spans"
 pub fn items_allowed(count: u64) -> bool
     ensures { λ r. ⌜ r ≡ leb count (limits1 .items) ⌝ }
 {

@@ -1,7 +1,7 @@
 -- DEMAND 3, FROM BYTES TO BYTES: what an accepted fold wrote is read again as its folded rules and the rules left. Rests on the law that it
 -- fits the layout, and on the round trip of sheets.
 use mathlib.Core.Path.{_≡_, refl, sym, ap, _∙_, subst}
-use mathlib.Core.List.{List, [], _∷_, _++_, map}
+use mathlib.Core.List.{List, [], _∷_, map}
 use mathlib.Core.Bool.{Bool, true, false}
 use Prim.Native.Nat.{ℕ, _-_, _^_, _<_}
 use native.Mathlib.Omega.{arith}
