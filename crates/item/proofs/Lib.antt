@@ -1,3 +1,4 @@
 pub mod Returns
 pub mod Bodies
 pub mod Spans
+pub mod Sorts

@@ -14,10 +14,10 @@ use Rattle.definition.specs.Text.{Text, ascii, word, _then_, unless, several}
 use Rattle.definition.specs.Line.{yearText, monthText, weekText, weekdayText, isPlain, spanText, part}
 use Rattle.definition.proofs.Reading.{all-parts}
 use Rattle.definition.proofs.RuleParts.{RuleParts}
+use Rattle.item.proofs.Sorts.{of-years, of-monthdays, of-weeks, of-weekdays, of-spans}
 use Rattle.rule_text.specs.Tale.{Tale, tale, told, itemTold}
 use Rattle.rule_text.specs.Row.{followed, after, othersTold, itemsTold, opening, partTold}
 use Rattle.rule_text.specs.Rule.{daysTold, daysText}
-use Rattle.rule_text.proofs.Telling.{as-years, as-months, as-weeks, as-weekdays, as-spans}
 use Rattle.rule_text.proofs.Rows.{opening-none, part-some}
 use Rattle.rule_text.proofs.Rules.{days-parts}
 
@@ -89,13 +89,13 @@ module _ (s : List ℕ) (p : ℕ) (r : Rule) (q : ℕ) (w : RuleParts s p r q) w
   pub days-read : daysTold (w .many .0) (w .many .1 .0) (w .many .1 .1 .0) (w .many .1 .1 .1 .0) s (p + 70)
       ≡ tale (daysText r) (anyOf monthdayStops (r .monthdays) || anyOf weekdayStops (r .weekdays)) (w .spans-at)
   days-read =
-      let y = part-read yearRange yearText (λ y. false) 0 (λ s p. as-years 0 s p refl) (several "," yearText)
+      let y = part-read yearRange yearText (λ y. false) 0 (λ s p. of-years _ _ _ _ _ 0 s p refl) (several "," yearText)
       (spaceless yearText 0 (λ e. omega arith)) _ s _ _ _ (w .years-read) in
-      let m = part-read monthdayRange monthText monthdayStops 1 (λ s p. as-months 1 s p refl refl) (several "," monthText)
+      let m = part-read monthdayRange monthText monthdayStops 1 (λ s p. of-monthdays _ _ _ _ _ 1 s p (λ e. omega arith) refl) (several "," monthText)
       (spaceless monthText 1 (λ e. omega arith)) _ s _ _ _ (w .monthdays-read) in
-      let k = part-read weekRange weekText (λ x. false) 2 (λ s p. as-weeks 2 s p refl refl refl) (word "week " then several "," weekText) weeks-open _
+      let k = part-read weekRange weekText (λ x. false) 2 (λ s p. of-weeks _ _ _ _ _ 2 s p (λ e. omega arith) (λ e. omega arith) refl) (word "week " then several "," weekText) weeks-open _
       s _ _ _ (w .weeks-read) in
-      let d = part-read weekDayRange weekdayText weekdayStops 3 (λ s p. as-weekdays 3 s p refl refl refl refl) (several "," weekdayText)
+      let d = part-read weekDayRange weekdayText weekdayStops 3 (λ s p. of-weekdays _ _ _ _ _ 3 s p (λ e. omega arith) (λ e. omega arith) (λ e. omega arith) refl) (several "," weekdayText)
       (spaceless weekdayText 3 (λ e. omega arith)) _ s _ _ _ (w .weekdays-read) in
       let m′ = ap (λ x. partTold 1 (w .many .1 .0) s (x .next)) y ∙ m in
       let k′ = ap (λ x. partTold 2 (w .many .1 .1 .0) s (x .next)) m′ ∙ k in
@@ -105,4 +105,4 @@ module _ (s : List ℕ) (p : ℕ) (r : Rule) (q : ℕ) (w : RuleParts s p r q) w
       (none-lack (r .years)) (none-lack (r .weeks))
 
   pub spans-read : itemsTold 4 (length (r .spans)) s (w .spans-at) ≡ tale ((several "," spanText) .write (r .spans)) (anyOf (λ x. not (isPlain x)) (r .spans)) q
-  spans-read = items-read span spanText (λ x. not (isPlain x)) 4 (λ s p. as-spans 4 s p refl refl refl refl) _ s _ _ _ (w .spans-read)
+  spans-read = items-read span spanText (λ x. not (isPlain x)) 4 (λ s p. of-spans _ _ _ _ _ 4 s p (λ e. omega arith) (λ e. omega arith) (λ e. omega arith) (λ e. omega arith)) _ s _ _ _ (w .spans-read)

@@ -1,7 +1,7 @@
 -- Rows of items: their tales step by step, and how many bits they take at most.
 use mathlib.Core.Path.{_≡_, refl, sym, ap, ap₂, _∙_}
 use mathlib.Core.List.{List, [], _∷_, _++_, append-nil, append-assoc}
-use mathlib.Core.Bool.{Bool, true, false, _||_, cond, or-false}
+use mathlib.Core.Bool.{Bool, true, false, _||_, or-false}
 use Prim.Native.Nat.{ℕ, zero, suc, _+_, _*_, _-_, _≤_, _<_}
 use native.Mathlib.Omega.{arith}
 use lib.Dec.{eqb}
@@ -13,10 +13,11 @@ use Rattle.definition.specs.Sheet.{yearRange, monthdayRange, weekRange, weekDay
 use Rattle.definition.specs.Text.{Text, ascii}
 use Rattle.definition.proofs.Reading.{Short}
 use Rattle.definition.proofs.Lengths.{years-short, monthdays-short, weeks-short, weekdays-short, span-short}
+use Rattle.item.proofs.Sorts.{of-each}
 use Rattle.text.specs.Put.{Put, Within}
 use Rattle.text.proofs.Putting.{put-none, put-then}
 use Rattle.rule_text.specs.declared.shown.Shown.{Shown}
-use Rattle.rule_text.specs.Tale.{Tale, tale, told, yearTold, monthsTold, weekTold, weekdaysTold, spanTold, itemTold}
+use Rattle.rule_text.specs.Tale.{Tale, tale, told, itemTold}
 use Rattle.rule_text.specs.Shows.{Shows}
 use Rattle.rule_text.proofs.Telling.{shows-as}
 use Rattle.rule_text.specs.Row.{followed, nothing, othersTold, itemsTold, opening, partTold}
@@ -31,15 +32,10 @@ told-near L T wordless n short l s p = go (L .read s p) refl
     go (refused c b) e = omega arith
 
 pub item-near : (sort : ℕ) (s : List ℕ) (p : ℕ) → (itemTold sort s p) .next ≤ p + 52
-unfolding itemTold
-item-near sort s p = go (eqb sort 0) (eqb sort 1) (eqb sort 2) (eqb sort 3)
-  where
-    go : (a b c d : Bool) → (cond a (yearTold s p) (cond b (monthsTold s p) (cond c (weekTold s p) (cond d (weekdaysTold s p) (spanTold s p))))) .next ≤ p + 52
-    go true b c d = told-near yearRange _ _ 44 years-short (omega arith) s p
-    go false true c d = told-near monthdayRange _ _ 34 monthdays-short (omega arith) s p
-    go false false true d = told-near weekRange _ _ 20 weeks-short (omega arith) s p
-    go false false false true = told-near weekDayRange _ _ 33 weekdays-short (omega arith) s p
-    go false false false false = told-near span _ _ 52 span-short (omega arith) s p
+item-near sort s p =
+    of-each _ _ _ _ _ sort s p (λ (x : Tale). x .next ≤ p + 52) (told-near yearRange _ _ 44 years-short (omega arith) s p)
+    (told-near monthdayRange _ _ 34 monthdays-short (omega arith) s p) (told-near weekRange _ _ 20 weeks-short (omega arith) s p)
+    (told-near weekDayRange _ _ 33 weekdays-short (omega arith) s p) (told-near span _ _ 52 span-short (omega arith) s p)
 
 -- ## The items behind the first, one by one
 -- what is put so far, and that what is left follows it

@@ -3,13 +3,12 @@ use mathlib.Core.Path.{_≡_, refl, sym, ap₂, _∙_, subst}
 use mathlib.Core.List.{List, []}
 use mathlib.Core.Bool.{Bool, true, false, _||_}
 use Prim.Native.Nat.{ℕ}
-use lib.Dec.{eqb}
 use Rattle.definition.specs.Field.{Read, got, refused}
 use Rattle.definition.specs.Text.{Text}
 use Rattle.text.specs.Put.{Put, Within}
 use Rattle.text.proofs.Putting.{put-none, put-then, put-as}
 use Rattle.rule_text.specs.declared.shown.Shown.{Shown}
-use Rattle.rule_text.specs.Tale.{Tale, told, yearTold, monthsTold, weekTold, weekdaysTold, spanTold, itemTold}
+use Rattle.rule_text.specs.Tale.{Tale, told}
 use Rattle.rule_text.specs.Shows.{silent, Shows}
 use Rattle.rule_text.specs.Row.{followed, nothing}
 
@@ -43,25 +42,3 @@ module _ {A : Type 0} (T : Text A) (wordless : A → Bool) (p : ℕ) (read : Rea
   -- and one that could not be read
   pub refused-silent : (c b : ℕ) (r : Shown) {l : List ℕ} → read ≡ refused c b → r ≡ silent p place → Shows (told T wordless p read) l place r l
   refused-silent c b r {l} e h = rw (h, e) (record { read-to = refl; lacks = refl; put = put-none l place })
-
--- ## An item by its sort
-module _ (sort : ℕ) (s : List ℕ) (p : ℕ) where
-  pub as-years : eqb sort 0 ≡ true → yearTold s p ≡ itemTold sort s p
-  unfolding itemTold
-  as-years a = sym (rw a)
-
-  pub as-months : eqb sort 0 ≡ false → eqb sort 1 ≡ true → monthsTold s p ≡ itemTold sort s p
-  unfolding itemTold
-  as-months a b = sym (rw (a, b))
-
-  pub as-weeks : eqb sort 0 ≡ false → eqb sort 1 ≡ false → eqb sort 2 ≡ true → weekTold s p ≡ itemTold sort s p
-  unfolding itemTold
-  as-weeks a b c = sym (rw (a, b, c))
-
-  pub as-weekdays : eqb sort 0 ≡ false → eqb sort 1 ≡ false → eqb sort 2 ≡ false → eqb sort 3 ≡ true → weekdaysTold s p ≡ itemTold sort s p
-  unfolding itemTold
-  as-weekdays a b c d = sym (rw (a, b, c, d))
-
-  pub as-spans : eqb sort 0 ≡ false → eqb sort 1 ≡ false → eqb sort 2 ≡ false → eqb sort 3 ≡ false → spanTold s p ≡ itemTold sort s p
-  unfolding itemTold
-  as-spans a b c d = sym (rw (a, b, c, d))

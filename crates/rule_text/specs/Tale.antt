@@ -1,13 +1,13 @@
 -- A tale is what the line says of what stands at a bit: its text, whether some of it has no words, and the bit after it.
 use mathlib.Core.List.{List, []}
-use mathlib.Core.Bool.{Bool, true, false, not, cond}
+use mathlib.Core.Bool.{Bool, true, false, not}
 use Prim.Native.Nat.{ℕ}
-use lib.Dec.{eqb}
 use Rattle.definition.specs.Field.{Read, got, refused, Layout}
 use Rattle.definition.specs.Sheet.{yearRange, monthdayRange, weekRange, weekDayRange, span}
 use Rattle.definition.specs.Stop.{monthdayStops, weekdayStops}
 use Rattle.definition.specs.Text.{Text}
 use Rattle.definition.specs.Line.{yearText, monthText, weekText, weekdayText, isPlain, spanText}
+use Rattle.item.specs.Sort.{ofSort}
 
 pub record Tale : Type 0 where
   pub text : List ℕ
@@ -38,6 +38,7 @@ weekdaysTold s p = told weekdayText weekdayStops p (weekDayRange .read s p)
 abbrev pub spanTold : List ℕ → ℕ → Tale
 spanTold s p = told spanText (λ x. not (isPlain x)) p (span .read s p)
 
--- by the sort's number: 0 years, 1 months, 2 weeks, 3 weekdays, else spans
-unfoldable pub itemTold : ℕ → List ℕ → ℕ → Tale
-itemTold sort s p = cond (eqb sort 0) (yearTold s p) (cond (eqb sort 1) (monthsTold s p) (cond (eqb sort 2) (weekTold s p) (cond (eqb sort 3) (weekdaysTold s p) (spanTold s p))))
+-- by the sort's number
+abbrev pub itemTold : ℕ → List ℕ → ℕ → Tale
+itemTold = ofSort (told yearText (λ y. false)) (told monthText monthdayStops) (told weekText (λ w. false)) (told weekdayText weekdayStops)
+    (told spanText (λ x. not (isPlain x)))

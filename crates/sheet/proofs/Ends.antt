@@ -1,40 +1,17 @@
--- Where items end: a sort's layout, how far it goes, and a row of items one by one.
+-- Where items end: how far each goes, and a row of items one by one.
 use mathlib.Core.Path.{_≡_, refl, sym, ap, _∙_, subst}
 use mathlib.Core.List.{List}
-use mathlib.Core.Bool.{Bool, true, false, cond}
 use Prim.Native.Nat.{ℕ, zero, suc, _+_, _*_, _≤_, _<_}
 use native.Mathlib.Omega.{arith}
-use lib.Dec.{eqb}
 use Rattle.definition.specs.Field.{Read, got, refused, andThen, Layout}
 use Rattle.definition.specs.Sheet.{yearRange, monthdayRange, weekRange, weekDayRange, span}
 use Rattle.definition.proofs.Faithful.{clash}
 use Rattle.definition.proofs.Reading.{Short}
 use Rattle.definition.proofs.Lengths.{years-short, monthdays-short, weeks-short, weekdays-short, span-short}
+use Rattle.item.proofs.Sorts.{of-each}
 use Rattle.sheet.specs.declared.end.Step.{Step}
 use Rattle.sheet.specs.declared.end.Step.the-variants.{At, Refused}
 use Rattle.sheet.specs.End.{End, ends, asStep, itemEnds, skipAll}
-
--- ## An item's layout, once its sort is known
-module _ (sort : ℕ) (s : List ℕ) (p : ℕ) where
-  pub as-years : eqb sort 0 ≡ true → ends (yearRange .read s p) ≡ itemEnds sort s p
-  unfolding itemEnds
-  as-years a = rw a
-
-  pub as-monthdays : eqb sort 0 ≡ false → eqb sort 1 ≡ true → ends (monthdayRange .read s p) ≡ itemEnds sort s p
-  unfolding itemEnds
-  as-monthdays a b = rw (a, b)
-
-  pub as-weeks : eqb sort 0 ≡ false → eqb sort 1 ≡ false → eqb sort 2 ≡ true → ends (weekRange .read s p) ≡ itemEnds sort s p
-  unfolding itemEnds
-  as-weeks a b c = rw (a, b, c)
-
-  pub as-weekdays : eqb sort 0 ≡ false → eqb sort 1 ≡ false → eqb sort 2 ≡ false → eqb sort 3 ≡ true → ends (weekDayRange .read s p) ≡ itemEnds sort s p
-  unfolding itemEnds
-  as-weekdays a b c d = rw (a, b, c, d)
-
-  pub as-spans : eqb sort 0 ≡ false → eqb sort 1 ≡ false → eqb sort 2 ≡ false → eqb sort 3 ≡ false → ends (span .read s p) ≡ itemEnds sort s p
-  unfolding itemEnds
-  as-spans a b c d = rw (a, b, c, d)
 
 -- what is known to end was read
 pub ends-got : {A : Type 0} (w : Read A) (q : ℕ) → ends w ≡ got tt q → (x : A) × (w ≡ got x q)
@@ -46,16 +23,10 @@ end-short : {A : Type 0} (L : Layout A) (n : ℕ) → Short L n → n ≤ 52 →
 end-short L n a l s p q e = let w = ends-got (L .read s p) q e in omega (arith, a s p (w .0) q (w .1))
 
 pub item-short : (sort : ℕ) (s : List ℕ) (p q : ℕ) → itemEnds sort s p ≡ got tt q → q ≤ p + 52
-unfolding itemEnds
-item-short sort s p q e = go (eqb sort 0) (eqb sort 1) (eqb sort 2) (eqb sort 3) e
-  where
-    go : (a b c d : Bool) → cond a (ends (yearRange .read s p)) (cond b (ends (monthdayRange .read s p)) (cond c (ends (weekRange .read s p))
-        (cond d (ends (weekDayRange .read s p)) (ends (span .read s p))))) ≡ got tt q → q ≤ p + 52
-    go true b c d h = end-short yearRange 44 years-short (omega arith) s p q h
-    go false true c d h = end-short monthdayRange 34 monthdays-short (omega arith) s p q h
-    go false false true d h = end-short weekRange 20 weeks-short (omega arith) s p q h
-    go false false false true h = end-short weekDayRange 33 weekdays-short (omega arith) s p q h
-    go false false false false h = end-short span 52 span-short (omega arith) s p q h
+item-short sort s p q =
+    of-each _ _ _ _ _ sort s p (λ (w : End). w ≡ got tt q → q ≤ p + 52) (end-short yearRange 44 years-short (omega arith) s p q)
+    (end-short monthdayRange 34 monthdays-short (omega arith) s p q) (end-short weekRange 20 weeks-short (omega arith) s p q)
+    (end-short weekDayRange 33 weekdays-short (omega arith) s p q) (end-short span 52 span-short (omega arith) s p q)
 
 -- ## A row of items, one by one
 pub went : {r : End} (t : Step) (q : ℕ) → asStep t ≡ r → t ≡ At q → r ≡ got tt q

@@ -5,6 +5,7 @@ use Prim.Native.Nat.{ℕ, zero, suc, _+_, _*_, _≤_}
 use Rattle.definition.specs.Field.{Read, got, refused, andThen, readAll, Layout, _then_, several}
 use Rattle.definition.specs.Sheet.{yearRange, monthdayRange, weekRange, weekDayRange, span}
 use Rattle.definition.proofs.Faithful.{clash}
+use Rattle.item.specs.Sort.{ofSort}
 use Rattle.sheet.specs.End.{ends, itemEnds, skipAll}
 use Rattle.sheet.proofs.Ends.{item-short, skip-short}
 
@@ -25,23 +26,23 @@ ends-all {A} r (suc n) s p = go (r s p) (λ q. ends-all r n s q)
 
 module _ (n : ℕ) (s : List ℕ) (p : ℕ) where
   pub years-row : ends ((several n yearRange) .read s p) ≡ skipAll (itemEnds 0) n s p
-  unfolding several itemEnds
+  unfolding several ofSort
   years-row = ends-all (yearRange .read) n s p
 
   pub monthdays-row : ends ((several n monthdayRange) .read s p) ≡ skipAll (itemEnds 1) n s p
-  unfolding several itemEnds
+  unfolding several ofSort
   monthdays-row = ends-all (monthdayRange .read) n s p
 
   pub weeks-row : ends ((several n weekRange) .read s p) ≡ skipAll (itemEnds 2) n s p
-  unfolding several itemEnds
+  unfolding several ofSort
   weeks-row = ends-all (weekRange .read) n s p
 
   pub weekdays-row : ends ((several n weekDayRange) .read s p) ≡ skipAll (itemEnds 3) n s p
-  unfolding several itemEnds
+  unfolding several ofSort
   weekdays-row = ends-all (weekDayRange .read) n s p
 
   pub spans-row : ends ((several n span) .read s p) ≡ skipAll (itemEnds 4) n s p
-  unfolding several itemEnds
+  unfolding several ofSort
   spans-row = ends-all (span .read) n s p
 
 -- a row takes at most 52 bits for each item

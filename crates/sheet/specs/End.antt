@@ -1,10 +1,8 @@
 -- Where readings end: a reading without its values, just the bit after it, or the refusal.
 use mathlib.Core.List.{List}
-use mathlib.Core.Bool.{cond}
 use Prim.Native.Nat.{ℕ, zero, suc}
-use lib.Dec.{eqb}
 use Rattle.definition.specs.Field.{Read, got, refused, andThen}
-use Rattle.definition.specs.Sheet.{yearRange, monthdayRange, weekRange, weekDayRange, span}
+use Rattle.item.specs.Sort.{ofSort}
 use Rattle.sheet.specs.declared.end.Step.{Step}
 use Rattle.sheet.specs.declared.end.Step.the-variants.{At, Refused}
 
@@ -20,10 +18,9 @@ abbrev pub asStep : Step → End
 asStep (At q) = got tt q
 asStep (Refused c p) = refused c p
 
--- an item of a sort: 0 years, 1 monthdays, 2 weeks, 3 weekdays, else spans
-unfoldable pub itemEnds : ℕ → List ℕ → ℕ → End
-itemEnds sort s p = cond (eqb sort 0) (ends (yearRange .read s p)) (cond (eqb sort 1) (ends (monthdayRange .read s p))
-    (cond (eqb sort 2) (ends (weekRange .read s p)) (cond (eqb sort 3) (ends (weekDayRange .read s p)) (ends (span .read s p)))))
+-- an item of a sort
+abbrev pub itemEnds : ℕ → List ℕ → ℕ → End
+itemEnds = ofSort (λ p. ends) (λ p. ends) (λ p. ends) (λ p. ends) (λ p. ends)
 
 -- n of them, one behind the other
 unfoldable pub skipAll : (List ℕ → ℕ → End) → ℕ → List ℕ → ℕ → End

@@ -1,116 +1,38 @@
 -- `rule_text::shown::show_item` meets its contract, sort by sort.
-use mathlib.Core.Path.{ap}
+use mathlib.Core.Path.{_≡_, sym, subst}
+use Prim.Native.Nat.{ℕ}
 use native.Mathlib.Omega.{arith}
-use lib.ListN.{length}
 use borrow.Author.Needs.{needs}
-use borrow.Author.Tests.{eq-eqb, ne-eqb}
-use Rattle.definition.specs.Field.{sheetBits}
+use Rattle.item.proofs.Sorts.{of-years, of-monthdays, of-weeks, of-weekdays, of-spans}
+use Rattle.text.specs.Put.{Within}
 use Rattle.rule_text.specs.Tale.{Tale}
-use Rattle.rule_text.proofs.Telling.{shows-as, as-years, as-months, as-weeks, as-weekdays, as-spans}
+use Rattle.rule_text.proofs.Telling.{shows-as}
 use Rattle.rule_text.proofs.shown.show_item.Statement.{statement}
 use Rattle.rule_text.proofs.shown.show_item.Tie as tie
 
-show-year-requires : tie.Need-show-year-requires
-show-year-requires c κs =
-    let entry = c .before .before .before .before in
-    let args = entry .args in
-    let sort = args .sort in
-    let pre = entry .pre in (
-      omega (arith, pre .0),
-      omega (
-        arith,
-        pre .1,
-        ap (λ x. length (x .text)) (as-years sort (sheetBits (args .sheet .now)) (args .at) (eq-eqb sort 0 (omega arith))),
-      ),
-    )
-
-show-months-requires : tie.Need-show-months-requires
-show-months-requires c κs =
-    let entry = c .before .before .before .before in
-    let args = entry .args in
-    let sort = args .sort in
-    let pre = entry .pre in (
-      omega (arith, pre .0),
-      omega (
-        arith,
-        pre .1,
-        ap (λ x. length (x .text))
-            (as-months sort (sheetBits (args .sheet .now)) (args .at) (ne-eqb sort 0 (omega arith)) (eq-eqb sort 1 (omega arith))),
-      ),
-    )
-
-show-week-requires : tie.Need-show-week-requires
-show-week-requires c κs =
-    let entry = c .before .before .before .before in
-    let args = entry .args in
-    let sort = args .sort in
-    let pre = entry .pre in (
-      omega (arith, pre .0),
-      omega (
-        arith,
-        pre .1,
-        ap (λ x. length (x .text))
-            (as-weeks sort (sheetBits (args .sheet .now)) (args .at) (ne-eqb sort 0 (omega arith)) (ne-eqb sort 1 (omega arith))
-            (eq-eqb sort 2 (omega arith))),
-      ),
-    )
-
-show-weekdays-requires : tie.Need-show-weekdays-requires
-show-weekdays-requires c κs =
-    let entry = c .before .before .before .before in
-    let args = entry .args in
-    let sort = args .sort in
-    let pre = entry .pre in (
-      omega (arith, pre .0),
-      omega (
-        arith,
-        pre .1,
-        ap (λ x. length (x .text))
-            (as-weekdays sort (sheetBits (args .sheet .now)) (args .at) (ne-eqb sort 0 (omega arith)) (ne-eqb sort 1 (omega arith))
-            (ne-eqb sort 2 (omega arith)) (eq-eqb sort 3 (omega arith))),
-      ),
-    )
-
-show-span-requires : tie.Need-show-span-requires
-show-span-requires c κs =
-    let entry = c .before .before .before .before in
-    let args = entry .args in
-    let sort = args .sort in
-    let pre = entry .pre in (
-      omega (arith, pre .0),
-      omega (
-        arith,
-        pre .1,
-        ap (λ x. length (x .text))
-            (as-spans sort (sheetBits (args .sheet .now)) (args .at) (ne-eqb sort 0 (omega arith)) (ne-eqb sort 1 (omega arith))
-            (ne-eqb sort 2 (omega arith)) (ne-eqb sort 3 (omega arith))),
-      ),
-    )
+-- the same tale takes the same room
+within-as : {x y : Tale} (place : ℕ) → x ≡ y → Within place (y .text) → Within place (x .text)
+within-as place e h = subst (λ (z : Tale). Within place (z .text)) (sym e) h
 
 pub show-item-spec : {M : Type 1} → statement M
 show-item-spec =
     tie.close
-    (tie.spec show-year-requires show-months-requires show-week-requires show-weekdays-requires show-span-requires
+    (tie.spec
+    (λ c κs. let pre = c .before .before .before .before .pre in (omega (arith, pre .0), within-as _ (of-years _ _ _ _ _ _ _ _ (omega arith)) (pre .1)))
+    (λ c κs. let pre = c .before .before .before .before .pre in (omega (arith, pre .0), within-as _ (of-monthdays _ _ _ _ _ _ _ _ (omega arith) (omega arith)) (pre .1)))
+    (λ c κs.
+    let pre = c .before .before .before .before .pre in
+    (omega (arith, pre .0), within-as _ (of-weeks _ _ _ _ _ _ _ _ (omega arith) (omega arith) (omega arith)) (pre .1)))
+    (λ c κs.
+    let pre = c .before .before .before .before .pre in
+    (omega (arith, pre .0), within-as _ (of-weekdays _ _ _ _ _ _ _ _ (omega arith) (omega arith) (omega arith) (omega arith)) (pre .1)))
+    (λ c κs.
+    let pre = c .before .before .before .before .pre in
+    (omega (arith, pre .0), within-as _ (of-spans _ _ _ _ _ _ _ _ (omega arith) (omega arith) (omega arith) (omega arith)) (pre .1)))
+    (λ c. search needs) (λ c. shows-as (of-years _ _ _ _ _ _ _ _ (omega arith)) (c .before .before .show-year .ensures))
+    (λ c. search needs) (λ c. shows-as (of-monthdays _ _ _ _ _ _ _ _ (omega arith) (omega arith)) (c .before .before .show-months .ensures))
+    (λ c. search needs) (λ c. shows-as (of-weeks _ _ _ _ _ _ _ _ (omega arith) (omega arith) (omega arith)) (c .before .before .show-week .ensures))
     (λ c. search needs)
-    (λ c.
-    let sort = c .before .before .before .before .before .before .before .args .sort in
-    shows-as (as-years _ _ _ (eq-eqb sort 0 (omega arith))) (c .before .before .show-year .ensures))
+    (λ c. shows-as (of-weekdays _ _ _ _ _ _ _ _ (omega arith) (omega arith) (omega arith) (omega arith)) (c .before .before .show-weekdays .ensures))
     (λ c. search needs)
-    (λ c.
-    let sort = c .before .before .before .before .before .before .before .args .sort in
-    shows-as (as-months _ _ _ (ne-eqb sort 0 (omega arith)) (eq-eqb sort 1 (omega arith))) (c .before .before .show-months .ensures))
-    (λ c. search needs)
-    (λ c.
-    let sort = c .before .before .before .before .before .before .before .args .sort in
-    shows-as (as-weeks _ _ _ (ne-eqb sort 0 (omega arith)) (ne-eqb sort 1 (omega arith)) (eq-eqb sort 2 (omega arith)))
-    (c .before .before .show-week .ensures))
-    (λ c. search needs)
-    (λ c.
-    let sort = c .before .before .before .before .before .before .before .args .sort in
-    shows-as (as-weekdays _ _ _ (ne-eqb sort 0 (omega arith)) (ne-eqb sort 1 (omega arith)) (ne-eqb sort 2 (omega arith)) (eq-eqb sort 3 (omega arith)))
-    (c .before .before .show-weekdays .ensures))
-    (λ c. search needs)
-    (λ c.
-    let sort = c .before .before .before .before .before .before .before .args .sort in
-    shows-as (as-spans _ _ _ (ne-eqb sort 0 (omega arith)) (ne-eqb sort 1 (omega arith)) (ne-eqb sort 2 (omega arith)) (ne-eqb sort 3 (omega arith)))
-    (c .before .before .show-span .ensures)))
+    (λ c. shows-as (of-spans _ _ _ _ _ _ _ _ (omega arith) (omega arith) (omega arith) (omega arith)) (c .before .before .show-span .ensures)))
