@@ -7,7 +7,7 @@ cd "$(dirname "$0")/.."
 strict=(-Wall -Wextra -Wpedantic -Werror -Iinclude)
 manifest=bindings/rust/Cargo.toml
 programs=target/bindings
-folded='code 0 drained 1 emitted 1 left 0 bytes 15 place 0
+folded='code 0 drained 1 emitted 1 left 0 bytes 15 place 0 why 0
 00010000000000000000040005A000'
 line='Mo,We-Fr 10:00-18:00; Tu 10:00-12:00,13:00-18:00'
 

@@ -39,6 +39,7 @@ TITLES = {  # the chapters in their order: no file stands before one that it res
     "definition/specs/Worked": "Worked days",
     "definition/specs/WorkedLines": "Worked lines",
     "definition/specs/WorkedDates": "Worked dates",
+    "definition/specs/WorkedReasons": "Worked reasons",
     "definition/specs/OverBoxes": "What computes: no promise speaks of it",
 }
 CRATES = ("definition", "grid")

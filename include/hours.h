@@ -53,6 +53,19 @@ enum hours_kind {
     HOURS_UNKNOWN = 2
 };
 
+/* Why a fold stopped: of the first rule left, the first reason that applies in this order. */
+enum hours_why {
+    HOURS_WHY_NOTHING = 0,        /* no rule is left, or the fold is refused */
+    HOURS_WHY_FALLBACK = 1,       /* the operator is Fallback */
+    HOURS_WHY_TIME = 2,           /* a span may reach tomorrow */
+    HOURS_WHY_YEAR_STEP = 3,      /* a step of years other than 1 */
+    HOURS_WHY_MONTHDAY = 4,       /* a month range of a year, or a reference to a dated range */
+    HOURS_WHY_WEEK_STEP = 5,      /* a step of weeks other than 1 */
+    HOURS_WHY_HOLIDAY = 6,        /* a holiday, with an offset or without */
+    HOURS_WHY_WEEKDAY_OFFSET = 7, /* a weekday offset other than 0 */
+    HOURS_WHY_NTH = 8             /* an unset nth bit of a weekday */
+};
+
 /* The numbers of a fold, and how many they are. */
 enum hours_fold_number {
     HOURS_FOLD_CODE,    /* an hours_code: 0 to 7 */
@@ -61,6 +74,7 @@ enum hours_fold_number {
     HOURS_FOLD_LEFT,    /* rules copied as they came, from the first one that can't be folded on */
     HOURS_FOLD_BYTES,   /* bytes written */
     HOURS_FOLD_PLACE,   /* the code's place */
+    HOURS_FOLD_WHY,     /* an hours_why */
     HOURS_FOLD_NUMBERS
 };
 

@@ -2,7 +2,7 @@
 
 All answers are the reference's. Folds inside the Rust's domain are held against the built oracle while the lists are
 made. A case is a line, its fields separated by a space, bytes in upper-case hex and `-` for none; lines that start with
-`#` are remarks. Rests on `reference`, on `cases` and `line_cases` for the sheets and on `compare` for the oracle.
+`#` are remarks. Rests on `reference`, on `cases`, `line_cases` and `why_cases` for the sheets and on `compare` for the oracle.
 """
 
 from __future__ import annotations
@@ -26,6 +26,7 @@ from reference.line import NO_LINE, line, reasons_against
 from reference.lookup import lookup
 from reference.sheet import read_sheet, write_sheet
 from reference.worked import EXAMPLE, FOLDS, NUMBERED_WEEKS, ROOM, check_worked
+from why_cases import each_why
 
 DATA = Path(__file__).parent.parent / "crates" / "replay" / "data"
 
@@ -98,6 +99,8 @@ def fold_lines(seed: int) -> list[str]:
     met = set(sheets_in(lines))
     lines += ["# without day items, so that the fold is the day of one list"]
     lines += [fold_in_some_room(sheet, random) for sheet in dict.fromkeys(sheets_of_lists(seed)) if sheet not in met]
+    for name, stopped in each_why().items():
+        lines += [f"# {name}", *(fold_case(write_sheet(rules), ROOM) for rules in stopped)]
     return lines
 
 
@@ -194,10 +197,11 @@ def held_against_oracle(lines: list[str]) -> str:
     return f"# of {len(given)} different sheets, beside the Rust oracle: {told}"
 
 
-def codes_remark(lines: list[str], layout: str) -> str:
-    column = layout.split().index("CODE")
+def counts_remark(lines: list[str], layout: str, field: str) -> str:
+    column = layout.split().index(field)
     counts = Counter(int(line.split()[column]) for line in lines if not line.startswith("#"))
-    return "# answers by code: " + ", ".join(f"{code}: {number}" for code, number in sorted(counts.items()))
+    told = ", ".join(f"{value}: {number}" for value, number in sorted(counts.items()))
+    return f"# answers by {field.lower()}: {told}"
 
 
 def sorts_remarks(lines: list[str]) -> list[str]:
@@ -233,16 +237,16 @@ def main() -> None:
     check_worked()
     DATA.mkdir(parents=True, exist_ok=True)
     coded = (
-        ("fold.txt", "SHEET ROOM CODE DRAINED EMITTED LEFT BYTES PLACE RESULT", fold_lines(seed)),
+        ("fold.txt", "SHEET ROOM CODE DRAINED EMITTED LEFT BYTES PLACE WHY RESULT", fold_lines(seed)),
         ("lookup.txt", "SHEET YEAR MONTH DAY MINUTE CODE KIND COMMENT PLACE", lookup_lines(seed)),
         ("back.txt", "SHEET ROOM CODE BYTES PLACE RESULT", back_lines(seed)),
         ("line.txt", "SHEET ROOM CODE BYTES PLACE RESULT", line_lines(seed)),
         ("read.txt", "SHEET CODE PLACE RULES", read_lines(seed)),
     )
     for name, layout, lines in coded:
-        remarks = [codes_remark(lines, layout), *sorts_remarks(lines)]
+        remarks = [counts_remark(lines, layout, "CODE"), *sorts_remarks(lines)]
         if name == "fold.txt":
-            remarks.append(held_against_oracle(lines))
+            remarks += [held_against_oracle(lines), counts_remark(lines, layout, "WHY")]
         if name == "line.txt":
             remarks.append(reasons_remark(lines))
         write_list(name, seed, layout, remarks, lines)

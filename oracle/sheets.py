@@ -13,7 +13,7 @@ replays them takes no text apart. The two numbers are the sheet's length, and th
     a reading      CODE PLACE RULES END, and the place of each rule's first bit in three bytes
     a write-back   CODE BYTES PLACE ROOM, and the bytes that stand at the front of the buffer
     a line         the same
-    a fold         CODE DRAINED EMITTED LEFT BYTES PLACE ROOM, and the bytes that stand at the front of the buffer
+    a fold         CODE DRAINED EMITTED LEFT BYTES PLACE WHY ROOM, and the bytes that stand at the front of the buffer
     a lookup       YEAR MONTH DAY MINUTE in eight bytes each, CODE KIND COMMENT PLACE
 
 END is the place of the first bit after the rules, 0 where the sheet is refused; ROOM is the buffer's length. Rests on
@@ -22,11 +22,13 @@ END is the place of the first bit after the rules, 0 where the sheet is refused;
 
 from __future__ import annotations
 
+from functools import partial
 from typing import Callable, Iterable
 
 from answers import DATA, back_case, line_case, read_case, sheets_in
 from cases import ALL_FIELDS, damaged, is_accepted
 from generate import fields_met
+from reference.fold import Folded, Written
 from reference.line import line
 from reference.sheet import read_sheet
 from reference.worked import ROOM
@@ -89,12 +91,12 @@ def reading(case: str) -> bytes:
     return record(sheet, numbers((code, place, rules, end, *begins)))
 
 
-def written(case: str) -> bytes:
-    """A write-back, a line or a fold: the room stands first in the case and last in the record."""
-    given, room, *answer, told = case.split()
-    result = unhexed(told)
-    assert len(result) == int(answer[-2]), case
-    return record(unhexed(given), numbers(map(int, (*answer, room))) + result)
+def written(answer_of: type[Folded | Written], case: str) -> bytes:
+    """A fold, or a write-back or line: the room stands first in the case and last in the record."""
+    given, room, *told, stands = case.split()
+    answer, result = answer_of(*map(int, told)), unhexed(stands)
+    assert len(result) == answer.bytes, case
+    return record(unhexed(given), numbers((*answer, int(room))) + result)
 
 
 def lookup(case: str) -> bytes:
@@ -115,9 +117,9 @@ def main() -> None:
     read = cases_in("read.txt") + [read_case(sheet) for sheet in sheets]
     back = cases_in("back.txt") + [back_case(sheet, len(sheet) + 1) for sheet in sheets]
     write_records("readings", map(reading, read))
-    write_records("write_backs", map(written, back))
-    write_records("lines", map(written, lines))
-    write_records("folds", map(written, cases_in("fold.txt")))
+    write_records("write_backs", map(partial(written, Written), back))
+    write_records("lines", map(partial(written, Written), lines))
+    write_records("folds", map(partial(written, Folded), cases_in("fold.txt")))
     write_records("lookups", map(lookup, cases_in("lookup.txt")))
 
 

@@ -24,9 +24,10 @@ int main(void)
         return EXIT_FAILURE;
     }
 
-    printf("code %" PRIu64 " drained %" PRIu64 " emitted %" PRIu64 " left %" PRIu64 " bytes %" PRIu64 " place %" PRIu64 "\n",
+    printf("code %" PRIu64 " drained %" PRIu64 " emitted %" PRIu64 " left %" PRIu64 " bytes %" PRIu64 " place %" PRIu64
+           " why %" PRIu64 "\n",
            numbers[HOURS_FOLD_CODE], numbers[HOURS_FOLD_DRAINED], numbers[HOURS_FOLD_EMITTED], numbers[HOURS_FOLD_LEFT],
-           numbers[HOURS_FOLD_BYTES], numbers[HOURS_FOLD_PLACE]);
+           numbers[HOURS_FOLD_BYTES], numbers[HOURS_FOLD_PLACE], numbers[HOURS_FOLD_WHY]);
 
     if (numbers[HOURS_FOLD_CODE] == HOURS_DONE) {
         print_hex(out, numbers[HOURS_FOLD_BYTES]);

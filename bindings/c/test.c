@@ -35,7 +35,8 @@ static bool painted(const void *memory, size_t length)
 /* One Normal Open rule, 00:00-24:00. */
 static const uint8_t always[] = {0x00, 0x01, 0x00, 0x00, 0x00, 0x00, 0x00, 0x00, 0x00, 0x00, 0x04, 0x00, 0x05, 0xA0, 0x00};
 
-static uint8_t out[sizeof always + 1];
+/* Longer than any sheet here, so that bytes are left after every result. */
+static uint8_t out[32];
 static uint64_t numbers[HOURS_FOLD_NUMBERS + 1];
 
 static void paint(void)
@@ -59,6 +60,7 @@ static void test_fold(void)
     CHECK(numbers[HOURS_FOLD_LEFT] == 0);
     CHECK(numbers[HOURS_FOLD_BYTES] == sizeof always);
     CHECK(numbers[HOURS_FOLD_PLACE] == 0);
+    CHECK(numbers[HOURS_FOLD_WHY] == HOURS_WHY_NOTHING);
     CHECK(numbers_painted_from(HOURS_FOLD_NUMBERS));
     CHECK(memcmp(out, always, sizeof always) == 0);
     CHECK(out[sizeof always] == PAINT);
@@ -70,8 +72,57 @@ static void test_fold(void)
     CHECK(painted(out, sizeof out));
 
     paint();
-    CHECK(!hours_fold(always, sizeof always, out, sizeof out, numbers, HOURS_FOLD_NUMBERS - 1));
+    CHECK(HOURS_FOLD_NUMBERS == 7);
+    CHECK(!hours_fold(always, sizeof always, out, sizeof out, numbers, 6));
     CHECK(painted(out, sizeof out) && numbers_painted_from(0));
+}
+
+/* A sheet of one rule that stops, so that its fold is the sheet itself. */
+struct stopped {
+    enum hours_why why;
+    const char *sheet;
+    size_t length;
+};
+
+/* A string literal ends in a zero byte that is not the sheet's. */
+#define STOPPED(why, sheet) {why, sheet, sizeof sheet - 1}
+
+static void test_why(void)
+{
+    static const struct stopped each[] = {
+        STOPPED(HOURS_WHY_FALLBACK, "\x00\x01\x80\x00\x00\x00\x00\x00\x00\x00\x04\x4B\x04\x38\x00"),
+        STOPPED(HOURS_WHY_TIME, "\x00\x01\x00\x00\x00\x00\x00\x00\x00\x00\x04\x87\x05\xA1\x00"),
+        STOPPED(HOURS_WHY_YEAR_STEP, "\x00\x01\x00\x00\x00\x04\x00\x00\x00\x00\x04\x7D\x01\xF6\x80\x00\x84\xB0\x43\x80"),
+        /* of a year */
+        STOPPED(HOURS_WHY_MONTHDAY, "\x00\x01\x00\x00\x00\x00\x01\x00\x00\x00\x05\x12\x1F\xA8\x4B\x04\x38\x00"),
+        /* by reference */
+        STOPPED(HOURS_WHY_MONTHDAY, "\x00\x01\x00\x00\x00\x00\x01\x00\x00\x00\x06\x00\x00\x00\x00\x12\xC1\x0E\x00"),
+        STOPPED(HOURS_WHY_WEEK_STEP, "\x00\x01\x00\x00\x00\x00\x00\x00\x40\x00\x04\x1D\x40\x84\xB0\x43\x80"),
+        STOPPED(HOURS_WHY_HOLIDAY, "\x00\x01\x00\x00\x00\x00\x00\x00\x00\x10\x07\x00\x00\x12\xC1\x0E\x00"),
+        /* with an offset */
+        STOPPED(HOURS_WHY_HOLIDAY, "\x00\x01\x00\x00\x00\x00\x00\x00\x00\x10\x06\xFF\xFF\x12\xC1\x0E\x00"),
+        STOPPED(HOURS_WHY_WEEKDAY_OFFSET, "\x00\x01\x00\x00\x00\x00\x00\x00\x00\x10\x04\x00\x00\x0F\xFE\x25\x82\x1C\x00"),
+        STOPPED(HOURS_WHY_NTH, "\x00\x01\x00\x00\x00\x00\x00\x00\x00\x10\x04\x00\x00\x07\xC2\x25\x82\x1C\x00"),
+        /* before a year step */
+        STOPPED(HOURS_WHY_TIME, "\x00\x01\x00\x00\x00\x04\x00\x00\x00\x00\x08\x7D\x01\xF6\x80\x00\x84\xB0\x43\x80\x87\x05\xA1\x00"),
+    };
+
+    for (size_t i = 0; i < sizeof each / sizeof each[0]; i++) {
+        const uint8_t *sheet = (const uint8_t *)each[i].sheet;
+        const size_t length = each[i].length;
+
+        paint();
+        CHECK(hours_fold(sheet, length, out, sizeof out, numbers, HOURS_FOLD_NUMBERS));
+        CHECK(numbers[HOURS_FOLD_CODE] == HOURS_DONE);
+        CHECK(numbers[HOURS_FOLD_LEFT] == 1);
+        CHECK(numbers[HOURS_FOLD_WHY] == (uint64_t)each[i].why);
+        CHECK(numbers_painted_from(HOURS_FOLD_NUMBERS));
+        CHECK(memcmp(out, sheet, length) == 0);
+
+        CHECK(hours_fold(sheet, length, out, length - 1, numbers, HOURS_FOLD_NUMBERS));
+        CHECK(numbers[HOURS_FOLD_CODE] == HOURS_NO_ROOM);
+        CHECK(numbers[HOURS_FOLD_WHY] == HOURS_WHY_NOTHING);
+    }
 }
 
 static void test_lookup(void)
@@ -170,6 +221,7 @@ static void test_null(void)
 int main(void)
 {
     test_fold();
+    test_why();
     test_lookup();
     test_write_back();
     test_line();

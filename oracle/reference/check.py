@@ -14,8 +14,8 @@ from .day import Day, PLAIN_CLOSED, StatedSpan, day_of, flatten, is_simple
 from .fold import days_of_lists, fold_drained
 from .groups import folded_rules, number_of
 from .lookup import last_covering
-from .points import DIMENSIONS, MIDNIGHT, Dimension, Point, cuts_of, list_at, lists_of_boxes, shape_of
-from .sheet import Rule
+from .points import DIMENSIONS, Dimension, Point, cuts_of, list_at, lists_of_boxes, shape_of
+from .sheet import MIDNIGHT, Rule
 
 POINTS, MINUTES, EXTRA_CUTS = 40, 5, 2
 

@@ -1,6 +1,6 @@
 """From a list to a day: painting, groups, and their order.
 
-A day is a tuple of entries, each a state with its spans. Rests on `sheet` for rules and spans, on `points` for 24:00.
+A day is a tuple of entries, each a state with its spans. Rests on `sheet` for rules and spans.
 """
 
 from __future__ import annotations
@@ -9,8 +9,7 @@ from itertools import groupby
 from operator import itemgetter
 from typing import Iterable, NamedTuple
 
-from .points import MIDNIGHT
-from .sheet import ADDITIONAL, CLOSED, NO_REPEATS, NORMAL, OPEN, UNKNOWN, Rule, Span, Time
+from .sheet import ADDITIONAL, CLOSED, MIDNIGHT, NO_REPEATS, NORMAL, OPEN, UNKNOWN, Rule, Span, Time
 
 
 class State(NamedTuple):

@@ -1,6 +1,6 @@
 """The fold and the write-back: the numbers of the answer, the refusals in their order, the bytes.
 
-Rests on `sheet`, `points`, `day` and `groups`.
+The last number, why the fold stopped, is document 02's (M-105). Rests on `sheet`, `points`, `why`, `day` and `groups`.
 """
 
 from __future__ import annotations
@@ -11,6 +11,7 @@ from .day import Day, day_of
 from .groups import folded_rules
 from .points import List, check_boxes, cuts_of, drained_of, lists_of_boxes
 from .sheet import RULE_COUNT, Refusal, Rule, field_bits, pack, read_sheet, rule_bits, unpack, write_sheet
+from .why import NOTHING, why_stopped
 
 BUFFER_TOO_SHORT = 7
 
@@ -22,6 +23,7 @@ class Folded(NamedTuple):
     left: int
     bytes: int
     place: int
+    why: int
 
 
 class Written(NamedTuple):
@@ -31,18 +33,18 @@ class Written(NamedTuple):
 
 
 def fold(sheet: bytes, room: int) -> tuple[Folded, bytes]:
-    """The six numbers, and the bytes that then stand at the front of a buffer of `room` bytes."""
+    """The seven numbers, and the bytes that then stand at the front of a buffer of `room` bytes."""
     try:
         rules, places = read_sheet(sheet)
         drained = drained_of(rules)
         emitted = fold_drained(drained)
-        left = len(rules) - len(drained)
+        left = rules[len(drained) :]
         copied = unpack(sheet, places[len(drained)], places[-1])
-        count = field_bits(RULE_COUNT, len(emitted) + left)
+        count = field_bits(RULE_COUNT, len(emitted) + len(left))
         result = checked_room(pack(count + "".join(map(rule_bits, emitted)) + copied), room)
     except Refusal as refusal:
-        return Folded(refusal.code, 0, 0, 0, 0, refusal.place), b""
-    return Folded(0, len(drained), len(emitted), left, len(result), 0), result
+        return Folded(refusal.code, 0, 0, 0, 0, refusal.place, NOTHING), b""
+    return Folded(0, len(drained), len(emitted), len(left), len(result), 0, why_stopped(left)), result
 
 
 def write_back(sheet: bytes, room: int) -> tuple[Written, bytes]:

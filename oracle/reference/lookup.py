@@ -9,8 +9,8 @@ from datetime import MAXYEAR, date
 from typing import NamedTuple
 
 from .day import PLAIN_CLOSED, State, StatedSpan, flatten, is_simple
-from .points import MIDNIGHT, Point, check_boxes, cuts_of, drained_of, list_at, lists_of_boxes
-from .sheet import Refusal, read_sheet
+from .points import Point, check_boxes, cuts_of, drained_of, list_at, lists_of_boxes
+from .sheet import MIDNIGHT, Refusal, read_sheet
 
 FIRST_YEAR = 1900
 NO_SUCH_DATE, NOT_ANSWERABLE = 8, 9

@@ -1,7 +1,8 @@
-"""From rules to points: ranges, stoppers, draining, the count of boxes (code 5), the list at each point (code 6).
+"""From rules to points: ranges, draining, the count of boxes (code 5), the list at each point (code 6).
 
 A list is a tuple of indexes of drained rules. `list_at` says it literally, for one point; `lists_of_boxes` computes it
-once for each box between cuts, where no range begins or ends. Rests on `sheet` for the rules.
+once for each box between cuts, where no range begins or ends. Rests on `sheet` for the rules and on `why` for
+those that stop.
 """
 
 from __future__ import annotations
@@ -10,11 +11,11 @@ from itertools import product
 from math import prod
 from typing import NamedTuple
 
-from .sheet import ALL_NTH, CLOSED, FALLBACK, NORMAL, Months, Refusal, Rule, Span, Weekdays
+from .sheet import CLOSED, NORMAL, Refusal, Rule
+from .why import stops
 
 BOX_LIMIT, LIST_LIMIT = 1024, 32
 TOO_MANY_BOXES, LIST_TOO_LONG = 5, 6
-MIDNIGHT = 1440
 
 Range = tuple[int, int]  # start, and the end excluded
 Point = tuple[int, int, int, int]  # weekday, week, month, year
@@ -55,43 +56,13 @@ def ranges_of(rule: Rule, dimension: Dimension) -> list[Range]:
     return [part for item in items for part in split(item.start, item.end, dimension)]
 
 
-# Stoppers
-
-
-def stops(rule: Rule) -> bool:
-    return (
-        rule.operator == FALLBACK
-        or any(item.step != 1 for item in rule.years + rule.weeks)
-        or not all(isinstance(item, Months) for item in rule.monthdays)
-        or not all(map(is_plain_weekday, rule.weekdays))
-        or any(map(may_reach_tomorrow, rule.spans))
-    )
-
-
-def is_plain_weekday(item: tuple) -> bool:
-    return (
-        isinstance(item, Weekdays)
-        and item.offset == 0
-        and item.nth_from_start == ALL_NTH
-        and item.nth_from_end == ALL_NTH
-    )
-
-
-def may_reach_tomorrow(span: Span) -> bool:
-    if span.end.tag == 1:
-        return True
-    if span.start.tag == 1:
-        return span.end.minutes != MIDNIGHT
-    return not span.start.minutes < span.end.minutes <= MIDNIGHT
+# Draining
 
 
 def drained_of(rules: list[Rule]) -> list[Rule]:
     """The rules before the first stopper."""
     first_stopper = next((index for index, rule in enumerate(rules) if stops(rule)), len(rules))
     return rules[:first_stopper]
-
-
-# Draining
 
 
 def replaces(rule: Rule) -> bool:

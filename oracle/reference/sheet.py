@@ -12,6 +12,7 @@ OPEN, CLOSED, UNKNOWN = 0, 1, 2
 RULE_LIMIT, ITEM_LIMIT = 64, 16
 NO_REPEATS = -1  # below every number of minutes, so that the order of tuples is the order of spans
 ALL_NTH = 0b11111
+MIDNIGHT = 1440  # minutes of 24:00
 
 PAST_THE_END, UNLAWFUL, PADDING, PAST_ITS_LIMIT = 1, 2, 3, 4
 

@@ -1,8 +1,8 @@
 """The worked days of document 01, and the cases it says to run, as rules that go in and what comes out.
 
 `FOLDS` holds those whose folded rules the document tells; `RUNS` those of which it tells only code and place, or what
-drains. `LINES` and `NO_LINES` are worked by hand from 02's words on the line (M-100). Rests on `build`; `check_worked`
-holds the fold, the lookup and the line against them.
+drains. `LINES` and `NO_LINES` are worked by hand from 02's words on the line (M-100), `WHYS` from those on why the fold
+stopped (M-105). Rests on `build`; `check_worked` holds the fold, the lookup and the line against them.
 """
 
 from __future__ import annotations
@@ -12,8 +12,10 @@ from .fold import fold
 from .line import NO_LINE, line
 from .lookup import lookup
 from .sheet import (
-    ADDITIONAL, CLOSED, FALLBACK, NO_REPEATS, OPEN, UNKNOWN, Holiday, Months, Rule, Span, Time, Week, Year, write_sheet,
+    ADDITIONAL, ALL_NTH, CLOSED, FALLBACK, NO_REPEATS, OPEN, UNKNOWN, DatedRange, Holiday, Months, MonthsOfYear, Rule, Span,
+    Time, Week, Weekdays, Year, write_sheet,
 )
+from .why import NOTHING
 
 MO, TU, WE, TH, FR, SA, SU = range(7)
 ROOM = 65536
@@ -110,6 +112,41 @@ RUNS: dict[str, tuple[list[Rule], tuple[int, int, int]]] = {
     "33 entries": ([additional()] * 33, (6, 0, 32)),
 }
 
+LATE, YEARS_BY_2, WEEKS_BY_2 = fixed(1080, 1441), Year(2000, 2010, 2), Week(1, 53, 2)
+OFFSET, LAST_OF_MONTH = Weekdays(MO, MO, 1, ALL_NTH, ALL_NTH), Weekdays(MO, MO, 0, ALL_NTH, 0b00001)
+EVERY_REASON = plain_rule(
+    operator=FALLBACK, years=(YEARS_BY_2,), monthdays=(DatedRange(1),), weeks=(WEEKS_BY_2,),
+    weekdays=(LAST_OF_MONTH, OFFSET, Holiday(0, 0)), spans=(LATE,),
+)
+
+# Name: the rules that go in, and why their fold stopped.
+WHYS: dict[str, tuple[list[Rule], int]] = {
+    "nothing": ([plain_rule(weekdays=(weekdays(FR, MO),))], 0),
+    "Fallback": ([plain_rule(operator=FALLBACK)], 1),
+    "time": ([plain_rule(spans=(LATE,))], 2),
+    "year step": ([plain_rule(years=(YEARS_BY_2,))], 3),
+    "monthday of a year": ([plain_rule(monthdays=(MonthsOfYear(1, 2, 2026),))], 4),
+    "monthday by reference": ([plain_rule(monthdays=(DatedRange(0),))], 4),
+    "week step": ([plain_rule(weeks=(WEEKS_BY_2,))], 5),
+    "holiday": ([plain_rule(weekdays=(Holiday(1, 0),))], 6),
+    "weekday offset": ([plain_rule(weekdays=(OFFSET,))], 7),
+    "nth": ([plain_rule(weekdays=(LAST_OF_MONTH,))], 8),
+    "Fallback before all": ([EVERY_REASON], 1),
+    "time before all others": ([EVERY_REASON._replace(operator=ADDITIONAL)], 2),
+    "time before years": ([plain_rule(years=(YEARS_BY_2,), spans=(hours(10, 18), LATE))], 2),
+    "years before monthdays": ([plain_rule(years=(YEARS_BY_2,), monthdays=(DatedRange(0),))], 3),
+    "monthdays before weeks": ([plain_rule(monthdays=(Months(1, 2), DatedRange(0)), weeks=(WEEKS_BY_2,))], 4),
+    "weeks before weekdays": ([plain_rule(weeks=(Week(1, 2, 1), WEEKS_BY_2), weekdays=(Holiday(0, 0),))], 5),
+    "a holiday behind an nth bit": ([plain_rule(weekdays=(LAST_OF_MONTH, Holiday(0, 0)))], 6),
+    "a holiday behind an offset": ([plain_rule(weekdays=(OFFSET, Holiday(0, 0)))], 6),
+    "a holiday with an offset": ([plain_rule(weekdays=(Holiday(0, -1),))], 6),
+    "an offset behind an nth bit": ([plain_rule(weekdays=(LAST_OF_MONTH, OFFSET))], 7),
+    "an offset and an nth bit of one item": ([plain_rule(weekdays=(LAST_OF_MONTH._replace(offset=-1),))], 7),
+    "the first rule left": ([plain_rule(), plain_rule(weekdays=(LAST_OF_MONTH,)), EVERY_REASON], 8),
+    "the first rule left, the last plain": ([plain_rule(weeks=(WEEKS_BY_2,)), plain_rule()], 5),
+    "refused": ([boxes_rule((1, 9, 8, 16)), EVERY_REASON], 0),
+}
+
 # A date at noon, and the code of its lookup in the example sheet, which is Open all day.
 LOOKUPS = (((2000, 2, 29, 720), 0), ((1900, 2, 29, 720), 8))
 
@@ -184,7 +221,11 @@ def check_worked() -> None:
         answer, _ = fold(write_sheet(given), ROOM)
         assert (answer.code, answer.drained, answer.place) == wanted, name
     answer, result = fold(EXAMPLE, ROOM)
-    assert (answer, result) == ((0, 1, 1, 0, 15, 0), EXAMPLE)
+    assert (answer, result) == ((0, 1, 1, 0, 15, 0, 0), EXAMPLE)
+    for name, (given, why) in WHYS.items():
+        answer, _ = fold(write_sheet(given), ROOM)
+        short, _ = fold(write_sheet(given), 0)
+        assert (answer.why, short.why) == (why, NOTHING), name
     for date, code in LOOKUPS:
         assert lookup(EXAMPLE, *date) == (code, 0, 0, 0), date
     for date, week in ISO_WEEKS:

@@ -44,7 +44,7 @@ unsafe extern "C" {
     ) -> bool;
 }
 
-/// Code, drained, emitted, left, bytes, place.
+/// Code, drained, emitted, left, bytes, place, why.
 pub fn fold(sheet: &[u8], out: &mut [u8], numbers: &mut [u64]) -> bool {
     lend(hours_fold, sheet, out, numbers)
 }
@@ -102,7 +102,7 @@ mod tests {
     #[test]
     fn too_few_numbers_are_answered_no_and_nothing_is_written() {
         let mut out = [PAINT; 4];
-        let mut numbers = [NUMBER; 5];
+        let mut numbers = [NUMBER; 6];
 
         assert!(!fold(&EMPTY_SHEET, &mut out, &mut numbers));
         assert!(!lookup(&EMPTY_SHEET, [2000, 2, 29, 0], &mut numbers[..3]));
@@ -111,7 +111,7 @@ mod tests {
         assert!(!fold(&EMPTY_SHEET, &mut out, &mut []));
 
         assert_eq!(out, [PAINT; 4]);
-        assert_eq!(numbers, [NUMBER; 5]);
+        assert_eq!(numbers, [NUMBER; 6]);
     }
 
     #[test]
@@ -127,7 +127,7 @@ mod tests {
         assert!(lookup(&EMPTY_SHEET, [2000, 2, 29, 0], &mut numbers));
         assert_eq!(numbers[..5], [0, 1, 0, 0, NUMBER]);
         assert!(fold(&EMPTY_SHEET, &mut out, &mut numbers));
-        assert_eq!(numbers, [0, 0, 0, 0, 2, 0, NUMBER, NUMBER]);
+        assert_eq!(numbers, [0, 0, 0, 0, 2, 0, 0, NUMBER]);
         assert_eq!(out, [0, 0, PAINT, PAINT]);
     }
 }

@@ -28,8 +28,10 @@
 
 #[allow(unsafe_code)]
 mod archive;
+mod reason;
 mod refusal;
 
+pub use reason::Reason;
 pub use refusal::Refusal;
 
 /// Bytes of stack for a call: more than twice what the deepest call of the bench took (oracle/README.md). That a stack is deep enough is
@@ -47,6 +49,8 @@ pub struct Folded {
     pub left: usize,
     /// Bytes written.
     pub bytes: usize,
+    /// Why the first rule left can't be folded exactly; none where no rule is left.
+    pub why: Option<Reason>,
 }
 
 /// A Gregorian date, from year 1900 to 9999. Months and days count from 1.
@@ -101,7 +105,7 @@ pub struct State {
 ///
 /// Any refusal by codes 1 to 7, the first reason met. `out` is then unchanged.
 pub fn fold(sheet: &[u8], out: &mut [u8]) -> Result<Folded, Refusal> {
-    let [code, drained, emitted, left, bytes, place] =
+    let [code, drained, emitted, left, bytes, place, why] =
         numbers(|lent| archive::fold(sheet, out, lent));
 
     done(code, place)?;
@@ -110,6 +114,7 @@ pub fn fold(sheet: &[u8], out: &mut [u8]) -> Result<Folded, Refusal> {
         emitted: size(emitted),
         left: size(left),
         bytes: size(bytes),
+        why: Reason::of(why),
     })
 }
 

@@ -6,7 +6,7 @@ use std::path::Path;
 use std::{fs, thread};
 
 use common::bytes;
-use hours::{Date, Refusal, STACK, fold, line, lookup, write_back};
+use hours::{Date, Folded, Reason, Refusal, STACK, fold, line, lookup, write_back};
 
 /// The fields of each stored case, `-` as no bytes.
 fn check_cases(file: &str, check: fn(&[&str])) {
@@ -70,13 +70,17 @@ fn written(done: Result<usize, Refusal>) -> Answer {
 fn folds() {
     check_cases("fold.txt", |fields| {
         check_writing(fields, |sheet, out| match fold(sheet, out) {
-            Ok(done) => {
-                let answer = vec![0, done.drained, done.emitted, done.left, done.bytes, 0];
-                (answer, done.bytes)
-            }
-            Err(refusal) => (refused(refusal, 4), 0),
+            Ok(done) => (folded(done), done.bytes),
+            Err(refusal) => ([refused(refusal, 4), vec![0]].concat(), 0),
         });
     });
+}
+
+/// Code, drained, emitted, left, bytes, place, why.
+fn folded(done: Folded) -> Vec<usize> {
+    let why = done.why.map_or(0, Reason::number);
+    let counts = [done.drained, done.emitted, done.left, done.bytes];
+    [&[0], &counts[..], &[0, why.into()]].concat()
 }
 
 #[test]

@@ -1,10 +1,10 @@
-//! Document 01's worked days, their lines by 02, and a refusal by each code. The sheets of the days are those of
+//! Document 01's worked days, their lines by 02, a stopped fold for each of its reasons, and a refusal by each code. The sheets of the days are those of
 //! crates/definition/specs/Worked.antt.
 
 mod common;
 
 use common::bytes;
-use hours::{Date, Folded, Kind, Refusal, State, fold, line, lookup, write_back};
+use hours::{Date, Folded, Kind, Reason, Refusal, State, fold, line, lookup, write_back};
 
 const PAINT: u8 = 0xC3;
 const ROOM: usize = 256;
@@ -39,7 +39,7 @@ const LEAP_DAY: Date = Date {
 };
 
 /// A fold that is done, with bytes to spare, exactly enough, and one too few.
-fn folds(sheet: &str, result: &str, [drained, emitted, left]: [usize; 3]) {
+fn folds(sheet: &str, result: &str, [drained, emitted, left]: [usize; 3], why: Option<Reason>) {
     let (sheet, result) = (bytes(sheet), bytes(result));
     let needed = result.len();
 
@@ -49,6 +49,7 @@ fn folds(sheet: &str, result: &str, [drained, emitted, left]: [usize; 3]) {
         emitted,
         left,
         bytes: needed,
+        why,
     };
     assert_eq!(fold(&sheet, &mut out), Ok(folded));
     assert_eq!(out[..needed], result);
@@ -106,10 +107,49 @@ fn writes(writing: Writing, sheet: &[u8], result: &[u8]) {
 
 #[test]
 fn worked_days_fold() {
-    folds("0000", "0000", [0, 0, 0]);
-    folds(ALWAYS, ALWAYS, [1, 1, 0]);
-    folds(P2, P2_FOLDED, [2, 2, 0]);
-    folds(LEAVES, LEAVES_FOLDED, [1, 1, 1]);
+    folds("0000", "0000", [0, 0, 0], None);
+    folds(ALWAYS, ALWAYS, [1, 1, 0], None);
+    folds(P2, P2_FOLDED, [2, 2, 0], None);
+    folds(LEAVES, LEAVES_FOLDED, [1, 1, 1], Some(Reason::WeekStep));
+}
+
+#[test]
+fn a_stopped_fold_tells_the_first_reason() {
+    // Each sheet is one rule, so that its fold is the sheet itself.
+    for (reason, number, sheet) in [
+        (Reason::Fallback, 1, "00018000000000000000044B043800"),
+        (Reason::Time, 2, "00010000000000000000048705A100"),
+        (
+            Reason::YearStep,
+            3,
+            "00010000000400000000047D01F6800084B04380",
+        ),
+        // A month range of a year, then a reference to a dated range.
+        (Reason::Monthday, 4, "0001000000000100000005121FA84B043800"),
+        (
+            Reason::Monthday,
+            4,
+            "00010000000001000000060000000012C10E00",
+        ),
+        (Reason::WeekStep, 5, "00010000000000004000041D4084B04380"),
+        // Without an offset, with one, and behind an unset nth bit.
+        (Reason::Holiday, 6, "0001000000000000001007000012C10E00"),
+        (Reason::Holiday, 6, "0001000000000000001006FFFF12C10E00"),
+        (
+            Reason::Holiday,
+            6,
+            "0001000000000000002004000007C3000009608700",
+        ),
+        (
+            Reason::WeekdayOffset,
+            7,
+            "000100000000000000100400000FFE25821C00",
+        ),
+        (Reason::Nth, 8, "0001000000000000001004000007C225821C00"),
+    ] {
+        assert_eq!(reason.number(), number);
+        folds(sheet, sheet, [0, 0, 1], Some(reason));
+    }
 }
 
 #[test]

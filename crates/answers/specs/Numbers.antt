@@ -1,4 +1,4 @@
--- The numbers of each answer, in 01's order, as contracts and promises compare them.
+-- The numbers of each answer, in their order, as contracts and promises compare them.
 use mathlib.Core.List.{List, [], _∷_}
 use Prim.Native.Nat.{ℕ}
 use Rattle.definition.specs.Lookup.{Looked}
@@ -6,9 +6,9 @@ use Rattle.answers.specs.declared.Folded.{Folded}
 use Rattle.answers.specs.declared.Answer.{Answer}
 use Rattle.answers.specs.declared.Written.{Written}
 
--- code, drained, emitted, left, bytes and place
+-- code, drained, emitted, left, bytes, place and why
 abbrev pub foldNumbers : Folded → List ℕ
-foldNumbers r = r .code ∷ r .drained ∷ r .emitted ∷ r .left ∷ r .bytes ∷ r .place ∷ []
+foldNumbers r = r .code ∷ r .drained ∷ r .emitted ∷ r .left ∷ r .bytes ∷ r .place ∷ r .why ∷ []
 
 -- code, kind, comment and place, as the definition looks a state up
 abbrev pub lookedUp : Answer → Looked

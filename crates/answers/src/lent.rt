@@ -1,4 +1,4 @@
-// An answer's numbers, in 01's order, at the front of a lent slice of 64-bit numbers; its later numbers stay.
+// An answer's numbers, in their order, at the front of a lent slice of 64-bit numbers; its later numbers stay.
 use crate::Answer;
 use crate::Folded;
 use crate::Written;
@@ -20,9 +20,9 @@ fn put_numbers(numbers: &[u64], lent: &mut [u64])
     }
 }
 
-// Code, drained, emitted, left, bytes, place.
+// Code, drained, emitted, left, bytes, place, why.
 pub fn put_folded(folded: Folded, lent: &mut [u64])
-    requires { ⌜ 6 ≤ length (now lent) ⌝ }
+    requires { ⌜ 7 ≤ length (now lent) ⌝ }
     ensures { λ _. ⌜ now (lent .exit) ≡ buffer (foldNumbers folded) (now (lent .entry)) ⌝ }
 {
     let numbers = [
@@ -32,6 +32,7 @@ pub fn put_folded(folded: Folded, lent: &mut [u64])
         folded.left,
         folded.bytes,
         folded.place,
+        folded.why,
     ];
     put_numbers(&numbers, lent);
 }

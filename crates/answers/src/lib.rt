@@ -6,7 +6,8 @@ ghost use Rattle.definition.specs.Fold.{numbers, refusal};
 ghost use Rattle.definition.specs.Lookup as state;
 ghost use Rattle.answers.specs.Numbers.{foldNumbers, lookedUp};
 
-// "The fold answers code, drained, emitted (folded rules only), left (rules copied), bytes written, place."
+// "The fold answers code, drained, emitted (folded rules only), left (rules copied), bytes written, place." And 02: why it stopped, "0 if nothing
+// stopped".
 pub struct Folded {
     pub code: u64,
     pub drained: u64,
@@ -14,6 +15,7 @@ pub struct Folded {
     pub left: u64,
     pub bytes: u64,
     pub place: u64,
+    pub why: u64,
 }
 
 // The lookup "answers code, kind, comment and the table's place".
@@ -42,6 +44,7 @@ pub fn fold_refused(code: u64, place: u64) -> Folded
         left: 0,
         bytes: 0,
         place,
+        why: 0,
     }
 }
 

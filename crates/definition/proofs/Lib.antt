@@ -25,5 +25,7 @@ pub mod Writing
 pub mod Worked
 pub mod WorkedLines
 pub mod WorkedDates
+pub mod WorkedReasons
 pub mod Drained
+pub mod Why
 pub mod FoldCases

@@ -16,7 +16,7 @@ use Rattle.definition.specs.Field.{bits, number, sheetBits, bytes, packe
 use Rattle.definition.specs.Rule.{notAbove, insertSpan, sorted, sameTime}
 use Rattle.definition.specs.Sheet.{yearRange, monthdayOf, monthdayRange, weekRange, weekdayOf, weekDayRange, timeOf, time, repeatsOf, repeatsLayout, span, title, counts, head, body, rule, rules, firstSet, ended, decode, encode}
 use Rattle.definition.specs.Range.{split, ranges}
-use Rattle.definition.specs.Stop.{stops, drained, left}
+use Rattle.definition.specs.Stop.{stops, firstThatApplies, reason, drained, left, why}
 use Rattle.definition.specs.Point.{selector, combinations, after, listFrom, tooLong}
 use Rattle.definition.specs.Box.{boxCount}
 use Rattle.definition.specs.Day.{simple, flattened, runOf, afterRun, painting, joinGroup, byState, grouped, lastOver}
@@ -38,7 +38,7 @@ computed : every agrees cases ≡ true
 unfolding agrees flatMap from firstOf every anyOf count keep sameList sameOption size somewhere agree grow pop clear takeOut sweepFor sweep groups
     cutAt cuts between intervals boxes glue joined bits number sheetBits bytes packed fieldAt readField readAll field noBits _then_ via tagged several
     notAbove insertSpan sorted sameTime yearRange monthdayOf monthdayRange weekRange weekdayOf weekDayRange timeOf time repeatsOf repeatsLayout span
-    title counts head body rule rules firstSet ended decode encode split ranges stops drained left selector combinations after listFrom tooLong boxCount
+    title counts head body rule rules firstSet ended decode encode split ranges stops firstThatApplies reason drained left why selector combinations after listFrom tooLong boxCount
     simple flattened runOf afterRun painting joinGroup byState grouped lastOver itemsOf laidOver rulesOf judged fitted foldRules paintedOverIntervals
     dayOverIntervals firstTooLongOverBoxes pagesOverBoxes foldedOverBoxes foldOverBoxes
 computed = refl

@@ -1,6 +1,7 @@
 -- 01, "Numbers of the answer": "The fold answers code, drained, emitted (folded rules only), left (rules copied), bytes written, place. On a
 -- refusal every number but code and place is 0." Order: "1, 2 and 4 as met from the first bit on; then 3, 8, 5, 6, 9, 7". "On code 0
 -- the result stands at the front of the buffer and later bytes are unchanged." "The rules left are copied bit by bit after them."
+-- 02, M-105: why the fold stopped "passes through the drain into the fold's answer as a seventh number, 0 on refusals".
 use mathlib.Core.List.{List, [], _∷_, _++_}
 use mathlib.Core.Option.{Option, none, some}
 use mathlib.Core.Bool.{true, false}
@@ -10,13 +11,13 @@ use lib.ListN.{length, drop}
 use Rattle.definition.specs.Field.{got, refused, manyBoxes, longList, noRoom}
 use Rattle.definition.specs.Rule.{Rule}
 use Rattle.definition.specs.Sheet.{Form, Limits, decode, encode}
-use Rattle.definition.specs.Stop.{drained, left}
+use Rattle.definition.specs.Stop.{drained, left, why}
 use Rattle.definition.specs.Point.{dimensions, firstTooLong}
 use Rattle.definition.specs.Box.{boxCount}
 use Rattle.definition.specs.Group.{folded}
 
 -- ## Answers of the entries that write
--- six numbers, and the bytes that it writes
+-- seven numbers, and the bytes that it writes
 pub record Folded : Type 0 where
   pub code : ℕ
   pub drained : ℕ
@@ -24,14 +25,15 @@ pub record Folded : Type 0 where
   pub left : ℕ
   pub bytes : ℕ
   pub place : ℕ
+  pub why : ℕ
   pub result : List ℕ
 
--- the numbers in 01's order
+-- the numbers in 01's order, then 02's
 abbrev pub numbers : Folded → List ℕ
-numbers f = f .code ∷ f .drained ∷ f .emitted ∷ f .left ∷ f .bytes ∷ f .place ∷ []
+numbers f = f .code ∷ f .drained ∷ f .emitted ∷ f .left ∷ f .bytes ∷ f .place ∷ f .why ∷ []
 
 abbrev pub refusal : ℕ → ℕ → Folded
-refusal c p = record { code = c; drained = 0; emitted = 0; left = 0; bytes = 0; place = p; result = [] }
+refusal c p = record { code = c; drained = 0; emitted = 0; left = 0; bytes = 0; place = p; why = 0; result = [] }
 
 -- a buffer after a result was written to its front; nothing is written where the result is empty, as on every refusal
 abbrev pub buffer : List ℕ → List ℕ → List ℕ
@@ -86,6 +88,7 @@ module _ (form : Form) (limits : Limits) where
       left = length (left rs);
       bytes = length result;
       place = 0;
+      why = why rs;
       result = result;
     }
   ]

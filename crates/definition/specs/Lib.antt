@@ -18,3 +18,4 @@ pub mod Show
 pub mod Worked
 pub mod WorkedLines
 pub mod WorkedDates
+pub mod WorkedReasons

@@ -8,7 +8,7 @@ use Rattle.definition.specs.Field.{bits, bytes}
 use Rattle.definition.specs.Sheet.{form1, limits1}
 use Rattle.definition.specs.Fold.{numbers, fold}
 
--- a sheet; code, drained, emitted, left, bytes and place of its fold; and the bytes written
+-- a sheet; code, drained, emitted, left, bytes, place and why of its fold; and the bytes written
 pub record Case : Type 0 where
   pub sheet : List ℕ
   pub answer : List ℕ
@@ -30,7 +30,7 @@ Worked c = (numbers (fold form1 limits1 room (c .sheet)) ≡ c .answer) × ((fol
 abbrev pub p1 : Case
 p1 = record {
   sheet = hex 2 0x0000;
-  answer = 0 ∷ 0 ∷ 0 ∷ 0 ∷ 2 ∷ 0 ∷ [];
+  answer = 0 ∷ 0 ∷ 0 ∷ 0 ∷ 2 ∷ 0 ∷ 0 ∷ [];
   written = hex 2 0x0000;
 }
 
@@ -38,7 +38,7 @@ p1 = record {
 abbrev pub p2 : Case
 p2 = record {
   sheet = hex 35 0x0002000000000000001004200007FE25821C020000000000000200890000FFC5A030C0;
-  answer = 0 ∷ 2 ∷ 2 ∷ 0 ∷ 43 ∷ 0 ∷ [];
+  answer = 0 ∷ 2 ∷ 2 ∷ 0 ∷ 43 ∷ 0 ∷ 0 ∷ [];
   written = hex 43 0x0002000000000000002004000007FE500003FF12C10E0000000000000001008480007FE258168030C21C00;
 }
 
@@ -46,7 +46,7 @@ p2 = record {
 abbrev pub p4 : Case
 p4 = record {
   sheet = hex 19 0x0001000000000000001005000007FE25821C00;
-  answer = 0 ∷ 1 ∷ 1 ∷ 0 ∷ 23 ∷ 0 ∷ [];
+  answer = 0 ∷ 1 ∷ 1 ∷ 0 ∷ 23 ∷ 0 ∷ 0 ∷ [];
   written = hex 23 0x0001000000000000002004000007FE980003FF12C10E00;
 }
 
@@ -54,7 +54,7 @@ p4 = record {
 abbrev pub p5 : Case
 p5 = record {
   sheet = hex 19 0x0001000000000000001005180007FE25821C00;
-  answer = 0 ∷ 1 ∷ 1 ∷ 0 ∷ 15 ∷ 0 ∷ [];
+  answer = 0 ∷ 1 ∷ 1 ∷ 0 ∷ 15 ∷ 0 ∷ 0 ∷ [];
   written = hex 15 0x00010000000000000000044B043800;
 }
 
@@ -62,7 +62,7 @@ p5 = record {
 abbrev pub p6 : Case
 p6 = record {
   sheet = hex 17 0x0001000000000000400007208044B04380;
-  answer = 0 ∷ 1 ∷ 1 ∷ 0 ∷ 20 ∷ 0 ∷ [];
+  answer = 0 ∷ 1 ∷ 1 ∷ 0 ∷ 20 ∷ 0 ∷ 0 ∷ [];
   written = hex 20 0x0001000000000000800004108072D4044B043800;
 }
 
@@ -70,7 +70,7 @@ p6 = record {
 abbrev pub p7 : Case
 p7 = record {
   sheet = hex 17 0x00010000000000004000075D4044B04380;
-  answer = 0 ∷ 1 ∷ 1 ∷ 0 ∷ 17 ∷ 0 ∷ [];
+  answer = 0 ∷ 1 ∷ 1 ∷ 0 ∷ 17 ∷ 0 ∷ 0 ∷ [];
   written = hex 17 0x00010000000000004000075D4044B04380;
 }
 
@@ -78,7 +78,7 @@ p7 = record {
 abbrev pub p9 : Case
 p9 = record {
   sheet = hex 23 0x0001400000000000002004100007FE2C0003FF12C0B420;
-  answer = 0 ∷ 1 ∷ 2 ∷ 0 ∷ 43 ∷ 0 ∷ [];
+  answer = 0 ∷ 1 ∷ 2 ∷ 0 ∷ 43 ∷ 0 ∷ 0 ∷ [];
   written = hex 43 0x0002000000000000002004000007FE6C0003FF12C0B42000000000000001008500007FE258168425816840;
 }
 
@@ -87,7 +87,7 @@ p9 = record {
 abbrev pub p10 : Case
 p10 = record {
   sheet = hex 39 0x00030000000000000000043C043818000000000000000112C0A526000000000000000045A030C0;
-  answer = 0 ∷ 3 ∷ 3 ∷ 0 ∷ 43 ∷ 0 ∷ [];
+  answer = 0 ∷ 3 ∷ 3 ∷ 0 ∷ 43 ∷ 0 ∷ 0 ∷ [];
   written = hex 43 0x00030000000000000000083C02D006184381800000000000000011680C306000000000000000044B029480;
 }
 
@@ -95,7 +95,7 @@ p10 = record {
 abbrev pub p11 : Case
 p11 = record {
   sheet = hex 15 0x00011000000000000000040005A000;
-  answer = 0 ∷ 1 ∷ 0 ∷ 0 ∷ 2 ∷ 0 ∷ [];
+  answer = 0 ∷ 1 ∷ 0 ∷ 0 ∷ 2 ∷ 0 ∷ 0 ∷ [];
   written = hex 2 0x0000;
 }
 
@@ -103,7 +103,7 @@ p11 = record {
 abbrev pub growing : Case
 growing = record {
   sheet = hex 46 0x00020000000400000010047D01F440004000007FE25821C0000000080000002008FA03E80000890000FFC4B04380;
-  answer = 0 ∷ 2 ∷ 2 ∷ 0 ∷ 46 ∷ 0 ∷ [];
+  answer = 0 ∷ 2 ∷ 2 ∷ 0 ∷ 46 ∷ 0 ∷ 0 ∷ [];
   written = hex 46 0x00020000000400000010047D01F440004000007FE25821C0000000080000002008FA03E80000890000FFC4B04380;
 }
 
@@ -111,7 +111,7 @@ growing = record {
 abbrev pub pushes : Case
 pushes = record {
   sheet = hex 25 0x000140000000020000200411044480007FE240003FF12C0B42;
-  answer = 0 ∷ 1 ∷ 1 ∷ 0 ∷ 31 ∷ 0 ∷ [];
+  answer = 0 ∷ 1 ∷ 1 ∷ 0 ∷ 31 ∷ 0 ∷ 0 ∷ [];
   written = hex 31 0x000100000000010000101011120001FF89605A109605A109605A109605A100;
 }
 
@@ -119,7 +119,7 @@ pushes = record {
 abbrev pub leaves : Case
 leaves = record {
   sheet = hex 34 0x0002000000000000001005180007FE25821C00000000000008000082181096087000;
-  answer = 0 ∷ 1 ∷ 1 ∷ 1 ∷ 29 ∷ 0 ∷ [];
+  answer = 0 ∷ 1 ∷ 1 ∷ 1 ∷ 29 ∷ 0 ∷ 5 ∷ [];
   written = hex 29 0x00020000000000000000044B04380000000000001000010430212C10E0;
 }
 
@@ -127,7 +127,7 @@ leaves = record {
 abbrev pub staysGrouped : Case
 staysGrouped = record {
   sheet = hex 39 0x00030000000000000000044B02D09800000000000000011680C304000000000000000046183480;
-  answer = 0 ∷ 3 ∷ 3 ∷ 0 ∷ 39 ∷ 0 ∷ [];
+  answer = 0 ∷ 3 ∷ 3 ∷ 0 ∷ 39 ∷ 0 ∷ 0 ∷ [];
   written = hex 39 0x00030000000000000000044B02D09800000000000000011680C304000000000000000046183480;
 }
 
@@ -135,7 +135,7 @@ staysGrouped = record {
 abbrev pub entries32 : Case
 entries32 = record {
   sheet = hex 43 0x00014000000010000020041104411044110441104411044110441104411044480007FE240003FF12C10E00;
-  answer = 0 ∷ 1 ∷ 1 ∷ 0 ∷ 20 ∷ 0 ∷ [];
+  answer = 0 ∷ 1 ∷ 1 ∷ 0 ∷ 20 ∷ 0 ∷ 0 ∷ [];
   written = hex 20 0x000100000000010000100411120001FF89608700;
 }
 
@@ -143,7 +143,7 @@ entries32 = record {
 abbrev pub entries33 : Case
 entries33 = record {
   sheet = hex 57 0x0002000000000000001004000007FE25821C0800000001600006008220882208822088220882208822240003FF120001FF890000FFC4B04380;
-  answer = 6 ∷ 0 ∷ 0 ∷ 0 ∷ 0 ∷ 1 ∷ [];
+  answer = 6 ∷ 0 ∷ 0 ∷ 0 ∷ 0 ∷ 1 ∷ 0 ∷ [];
   written = [];
 }
 
@@ -151,7 +151,7 @@ entries33 = record {
 abbrev pub boxes1152 : Case
 boxes1152 = record {
   sheet = hex 74 0x000100000020040100000476C1DB0000476E1DB800047701DC000047721DC800047741DD000047761DD800047781DE0000477A1DE80004110CC551DC208044100461804820044B043800;
-  answer = 5 ∷ 0 ∷ 0 ∷ 0 ∷ 0 ∷ 1152 ∷ [];
+  answer = 5 ∷ 0 ∷ 0 ∷ 0 ∷ 0 ∷ 1152 ∷ 0 ∷ [];
   written = [];
 }
 
@@ -159,7 +159,7 @@ boxes1152 = record {
 abbrev pub fieldPastEnd : Case
 fieldPastEnd = record {
   sheet = hex 1 0x00;
-  answer = 1 ∷ 0 ∷ 0 ∷ 0 ∷ 0 ∷ 0 ∷ [];
+  answer = 1 ∷ 0 ∷ 0 ∷ 0 ∷ 0 ∷ 0 ∷ 0 ∷ [];
   written = [];
 }
 
@@ -167,7 +167,7 @@ fieldPastEnd = record {
 abbrev pub unlawfulOperator : Case
 unlawfulOperator = record {
   sheet = hex 12 0x0001C0000000000000000000;
-  answer = 2 ∷ 0 ∷ 0 ∷ 0 ∷ 0 ∷ 16 ∷ [];
+  answer = 2 ∷ 0 ∷ 0 ∷ 0 ∷ 0 ∷ 16 ∷ 0 ∷ [];
   written = [];
 }
 
@@ -175,7 +175,7 @@ unlawfulOperator = record {
 abbrev pub paddingSet : Case
 paddingSet = record {
   sheet = hex 15 0x00010000000000000000040005A001;
-  answer = 3 ∷ 0 ∷ 0 ∷ 0 ∷ 0 ∷ 119 ∷ [];
+  answer = 3 ∷ 0 ∷ 0 ∷ 0 ∷ 0 ∷ 119 ∷ 0 ∷ [];
   written = [];
 }
 
@@ -183,7 +183,7 @@ paddingSet = record {
 abbrev pub bytesFollow : Case
 bytesFollow = record {
   sheet = hex 3 0x000000;
-  answer = 3 ∷ 0 ∷ 0 ∷ 0 ∷ 0 ∷ 16 ∷ [];
+  answer = 3 ∷ 0 ∷ 0 ∷ 0 ∷ 0 ∷ 16 ∷ 0 ∷ [];
   written = [];
 }
 
@@ -191,7 +191,7 @@ bytesFollow = record {
 abbrev pub rules65 : Case
 rules65 = record {
   sheet = hex 2 0x0041;
-  answer = 4 ∷ 0 ∷ 0 ∷ 0 ∷ 0 ∷ 0 ∷ [];
+  answer = 4 ∷ 0 ∷ 0 ∷ 0 ∷ 0 ∷ 0 ∷ 0 ∷ [];
   written = [];
 }
 

@@ -10,9 +10,10 @@ use borrow.Author.Count.{below-more}
 use Rattle.laws.proofs.Flags.{split-or}
 use Rattle.laws.specs.Lists.{anyOf}
 use Rattle.definition.specs.Rule.{Rule, noRule}
-use Rattle.definition.specs.Stop.{spanStops, stops, drained}
+use Rattle.definition.specs.Stop.{spanStops, stops, reason, drained, why}
 use Rattle.definition.proofs.Bits.{Bytes}
 use Rattle.definition.proofs.Drained.{drained-fewer, drained-each}
+use Rattle.definition.proofs.Why.{why-none, why-first}
 use Rattle.sheet.specs.Begin.{ruleReadAt, Readable}
 use Rattle.tables.specs.Ranges.{tableRow}
 use Rattle.tables.specs.Rules.{TimesAt, DaysHeld}
@@ -103,6 +104,16 @@ module _ (s begins : List ℕ) where
   unfolding rulesFrom drained
   drained-end n i z = rw (z, rulesFrom, drained)
 
+  -- why the drain ends: the rule behind the drained ones tells, where there is one
+  pub why-ends : (n : ℕ) → n ≡ length (drained (rulesFrom s begins 0 n)) → 0 ≡ why (rulesFrom s begins 0 n)
+  why-ends n e = sym (why-none (rulesFrom s begins 0 n) (sym e ∙ sym (rules-length n 0)))
+
+  pub why-halts : (n i v : ℕ) → i < n → i ≡ length (drained (rulesFrom s begins 0 n)) → v ≡ reason (ruleReadAt s (getD begins i 0)) → v ≡ why (rulesFrom s begins 0 n)
+  why-halts n i v l e told =
+      let rs = rulesFrom s begins 0 n in
+      let z : 0 + i ≡ i = omega arith in
+      told ∙ ap reason (sym (rules-at n 0 i l ∙ ap (λ j. ruleReadAt s (getD begins j 0)) z)) ∙ ap (λ k. reason (getD rs k noRule)) e ∙ sym (why-first rs (omega (arith, e, rules-length n 0)))
+
   -- rows for each rule below the number of drained rules are the tables of the drained rules
   pub tabled : (n i : ℕ) (st co sp re cn ra : List ℕ) → i ≡ length (drained (rulesFrom s begins 0 n)) → ((k : ℕ) → k < i → TabledAt st co sp re cn ra k (ruleReadAt s (getD begins k 0)))
       → Tabled st co sp re cn ra (drained (rulesFrom s begins 0 n))
@@ -128,11 +139,11 @@ module _ (s begins : List ℕ) (n : ℕ) (st co sp re cn ra : List ℕ) where
   }
 
   pub drain-ends : (i : ℕ) → n ≤ i → Draining s begins n st co sp re cn ra i
-      → (n ≡ length (drained (rulesFrom s begins 0 n))) × Tabled st co sp re cn ra (drained (rulesFrom s begins 0 n))
+      → (n ≡ length (drained (rulesFrom s begins 0 n))) × (0 ≡ why (rulesFrom s begins 0 n)) × Tabled st co sp re cn ra (drained (rulesFrom s begins 0 n))
   drain-ends i l w =
       let z : i ≡ n = omega (arith, w .within) in
       let e : i ≡ length (drained (rulesFrom s begins 0 n)) = omega (arith, w .number, drained-end s begins (n - i) i (omega arith)) in
-      (sym z ∙ e, tabled s begins n i st co sp re cn ra e (w .rows))
+      (sym z ∙ e, why-ends s begins n (sym z ∙ e), tabled s begins n i st co sp re cn ra e (w .rows))
 
 -- rule i, with its own row of the ranges and of their counts written anew
 module _ (sheet : List ℕ) (bytes : Bytes sheet) (begins : List ℕ) (n : ℕ) (st co sp re cn ra : List ℕ) (i : ℕ) (l : i < n) (w : Draining (sheetBits sheet) begins n st co sp re cn ra i)
@@ -173,11 +184,12 @@ module _ (sheet : List ℕ) (bytes : Bytes sheet) (begins : List ℕ) (n : ℕ) 
           },
         )
 
-    pub drain-halts : t ≡ true → (i ≡ length (drained (rulesFrom s begins 0 n))) × Tabled st′ co′ sp′ re′ cn′ ra′ (drained (rulesFrom s begins 0 n))
-    drain-halts f =
+    pub drain-halts : t ≡ true → (v : ℕ) → v ≡ reason r
+        → (i ≡ length (drained (rulesFrom s begins 0 n))) × (v ≡ why (rulesFrom s begins 0 n)) × Tabled st′ co′ sp′ re′ cn′ ra′ (drained (rulesFrom s begins 0 n))
+    drain-halts f v told =
         let none = drained-none s begins (n - i) (n - suc i) i (omega arith) (sym h ∙ f) in
         let e : i ≡ length (drained (rulesFrom s begins 0 n)) = omega (arith, w .number, none) in
-        (e, tabled s begins n i st′ co′ sp′ re′ cn′ ra′ e kept)
+        (e, why-halts s begins n i v l e told, tabled s begins n i st′ co′ sp′ re′ cn′ ra′ e kept)
 
     pub drain-next : t ≡ false → Readable s (getD begins i 0) → getD begins i 0 < 2 ^ 25 → i < length st → i < length co → i * 16 + 16 ≤ length sp → i < length re
         → length counts ≡ 4 → length ranges ≡ 256 → (j : ℕ) → j ≡ i + 1 → Draining s begins n st′ co′ sp′ re′ cn′ ra′ j

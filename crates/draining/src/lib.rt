@@ -1,5 +1,5 @@
-// Draining: "Rules before the first stopper, in order", each with its state, its spans, its ranges and whether it replaces, in tables. What
-// comes after the draining reads the tables and no sheet.
+// Draining: "Rules before the first stopper, in order", each with its state, its spans, its ranges and whether it replaces, in tables; and why
+// the first stopper stops. What comes after the draining reads the tables and no sheet.
 pub mod rule;
 pub mod span;
 
@@ -7,11 +7,17 @@ ghost use mathlib.Core.Path.{_≡_};
 ghost use Prim.Native.Nat.{_*_, _≤_};
 ghost use lib.ListN.{length};
 ghost use Rattle.definition.specs.Field.{sheetBits};
-ghost use Rattle.definition.specs.Stop.{drained};
+ghost use Rattle.definition.specs.Stop.{drained, why};
 ghost use Rattle.sheet.specs.Rules.{AllBegin};
 ghost use Rattle.draining.specs.Table.{Tabled, rulesFrom};
 
-// How many rules are drained, of those that begin at the noted bits; the tables then hold them.
+// How many rules were drained, and why the next one stopped, 0 where there is none.
+pub struct Drained {
+    pub rules: usize,
+    pub why: u64,
+}
+
+// Drains the rules that begin at the noted bits; the tables then hold them.
 pub fn drain(
     sheet: &[u8],
     begins: &[usize],
@@ -22,11 +28,12 @@ pub fn drain(
     replacing: &mut [u8],
     range_counts: &mut [u16],
     ranges: &mut [u16],
-) -> usize
+) -> Drained
     requires { ⌜ AllBegin (sheetBits (now sheet)) (now begins) count ⌝ }
     requires { ⌜ (count ≤ length (now begins)) × (count ≤ length (now states)) × (count ≤ length (now «span_counts»)) × (count * 16 ≤ length (now spans)) × (count ≤ length (now replacing)) ⌝ }
     requires { ⌜ (count * 4 ≤ length (now «range_counts»)) × (count * 256 ≤ length (now ranges)) ⌝ }
-    ensures { λ r. ⌜ (r ≡ length (drained (rulesFrom (sheetBits (now (sheet .entry))) (now (begins .entry)) 0 count)))
+    ensures { λ r. ⌜ (r .rules ≡ length (drained (rulesFrom (sheetBits (now (sheet .entry))) (now (begins .entry)) 0 count)))
+        × (r .why ≡ why (rulesFrom (sheetBits (now (sheet .entry))) (now (begins .entry)) 0 count))
         × Tabled (now (states .exit)) (now («span_counts» .exit)) (now (spans .exit)) (now (replacing .exit)) (now («range_counts» .exit)) (now (ranges .exit))
         (drained (rulesFrom (sheetBits (now (sheet .entry))) (now (begins .entry)) 0 count)) ⌝ }
 {
@@ -48,9 +55,15 @@ pub fn drain(
             &mut range_counts[from..to],
             &mut ranges[first..end],
         ) {
-            return i;
+            return Drained {
+                rules: i,
+                why: stopping::rule::reason_at(sheet, at),
+            };
         }
         i += 1;
     }
-    count
+    Drained {
+        rules: count,
+        why: 0,
+    }
 }

@@ -10,7 +10,7 @@ use Rattle.laws.proofs.Spread.{flatMap-append}
 use Rattle.definition.specs.Field.{bits, bytesFor, packed, noRoom}
 use Rattle.definition.specs.Rule.{Rule}
 use Rattle.definition.specs.Sheet.{form1, limits1, rule, encode}
-use Rattle.definition.specs.Stop.{drained, left}
+use Rattle.definition.specs.Stop.{drained, left, why}
 use Rattle.definition.specs.Group.{folded}
 use Rattle.definition.specs.Fold.{Folded, numbers, refusal, fitted, buffer}
 use Rattle.definition.proofs.Bits.{length-bytes}
@@ -29,7 +29,7 @@ packed-length ws = length-bytes (bytesFor (length ws)) _
 
 -- ## The definition's two answers
 abbrev accepted : List Rule → List Rule → List ℕ → Folded
-accepted rs page result = record { code = 0; drained = length (drained rs); emitted = length page; left = length (left rs); bytes = length result; place = 0; result = result }
+accepted rs page result = record { code = 0; drained = length (drained rs); emitted = length page; left = length (left rs); bytes = length result; place = 0; why = why rs; result = result }
 
 module _ (room : ℕ) (rs page : List Rule) (result : List ℕ) where
   over : room < length result → fitted form1 limits1 room rs page result ≡ refusal noRoom (length result)
@@ -41,8 +41,8 @@ module _ (room : ℕ) (rs page : List Rule) (result : List ℕ) where
   within h = rw (le-ltb room (length result) h, fitted)
 
 -- ## What was measured
-module _ {sheet states counts spans lists pages : List ℕ} {count start end drainedRules leftRules : ℕ} {rs : List Rule}
-    (paged : Paged states counts spans lists pages count (drained rs)) (leaving : Leaving sheet rs start end drainedRules leftRules) where
+module _ {sheet states counts spans lists pages : List ℕ} {count start end drainedRules leftRules reason : ℕ} {rs : List Rule}
+    (paged : Paged states counts spans lists pages count (drained rs)) (leaving : Leaving sheet rs start end drainedRules leftRules reason) where
   abbrev page : List Rule
   page = pagedRules states counts spans lists pages count
 
@@ -79,17 +79,18 @@ module _ {sheet states counts spans lists pages : List ℕ} {count start end dra
 
     -- 7, and nothing written
     pub no-room : (out : List ℕ) → length out < bytes
-        → (7 ∷ 0 ∷ 0 ∷ 0 ∷ 0 ∷ bytes ∷ [] ≡ numbers (emission (length out) rs)) × (out ≡ buffer (emission (length out) rs .result) out)
+        → (7 ∷ 0 ∷ 0 ∷ 0 ∷ 0 ∷ bytes ∷ 0 ∷ [] ≡ numbers (emission (length out) rs)) × (out ≡ buffer (emission (length out) rs .result) out)
     no-room out h =
         let answer = sym (over (length out) rs (folded (drained rs)) result (omega (arith, h, result-length))) in
         (ap (λ n. numbers (refusal noRoom n)) (sym result-length) ∙ ap numbers answer, ap (λ f. buffer (f .result) out) answer)
 
     -- written
     pub with-room : (out new : List ℕ) → bytes ≤ length out → new ≡ buffer (packed row) out
-        → (0 ∷ drainedRules ∷ many ∷ leftRules ∷ bytes ∷ 0 ∷ [] ≡ numbers (emission (length out) rs)) × (new ≡ buffer (emission (length out) rs .result) out)
+        → (0 ∷ drainedRules ∷ many ∷ leftRules ∷ bytes ∷ 0 ∷ reason ∷ [] ≡ numbers (emission (length out) rs)) × (new ≡ buffer (emission (length out) rs .result) out)
     with-room out new h e =
         let answer = sym (within (length out) rs (folded (drained rs)) result (omega (arith, h, result-length))) in (
-          ap₂ (λ d m. 0 ∷ d ∷ m ∷ leftRules ∷ bytes ∷ 0 ∷ []) (sym (leaving .drained-many)) (sym emitted-many)
-              ∙ ap₂ (λ l n. 0 ∷ length (drained rs) ∷ length (folded (drained rs)) ∷ l ∷ n ∷ 0 ∷ []) (sym (leaving .left-many)) (sym result-length) ∙ ap numbers answer,
+          ap₂ (λ d m. 0 ∷ d ∷ m ∷ leftRules ∷ bytes ∷ 0 ∷ reason ∷ []) (sym (leaving .drained-many)) (sym emitted-many)
+              ∙ ap₂ (λ l n. 0 ∷ length (drained rs) ∷ length (folded (drained rs)) ∷ l ∷ n ∷ 0 ∷ reason ∷ []) (sym (leaving .left-many)) (sym result-length)
+              ∙ ap (λ w. 0 ∷ length (drained rs) ∷ length (folded (drained rs)) ∷ length (left rs) ∷ length result ∷ 0 ∷ w ∷ []) (sym (leaving .told)) ∙ ap numbers answer,
           e ∙ ap (λ w. buffer w out) (sym encoded) ∙ ap (λ f. buffer (f .result) out) answer,
         )

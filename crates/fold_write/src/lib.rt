@@ -24,29 +24,32 @@ ghost use Rattle.sheet.specs.Parts.{Leaving};
 ghost use Rattle.fold_write.specs.Emission.{resultBits, emission};
 ghost use Rattle.answers.specs.Numbers.{foldNumbers};
 
-// The rules left, where they stand in the sheet: from a bit up to another, and how many they are.
+// The rules left, where they stand in the sheet: from a bit up to another, how many they are, and why the first of them stopped the fold.
 pub struct Left {
     pub start: usize,
     pub end: usize,
     pub rules: usize,
+    pub why: u64,
 }
 
 // The rules left: from the first of them on, or from the end where there is none.
-pub fn rules_left(begins: &[usize], rules: usize, count: usize, end: usize) -> Left
+pub fn rules_left(begins: &[usize], rules: usize, count: usize, end: usize, why: u64) -> Left
     requires { ⌜ (count ≤ length (now begins)) × (rules ≤ count) ⌝ }
-    ensures { λ r. ⌜ (r .start ≡ cond (ltb rules count) (getD (now (begins .entry)) rules 0) end) × (r .end ≡ end) × (r .rules ≡ count - rules) ⌝ }
+    ensures { λ r. ⌜ (r .start ≡ cond (ltb rules count) (getD (now (begins .entry)) rules 0) end) × (r .end ≡ end) × (r .rules ≡ count - rules) × (r .why ≡ why) ⌝ }
 {
     if rules < count {
         return Left {
             start: begins[rules],
             end,
             rules: count - rules,
+            why,
         };
     }
     Left {
         start: end,
         end,
         rules: 0,
+        why,
     }
 }
 
@@ -92,10 +95,10 @@ pub fn emit(
     count: usize,
 ) -> Folded
     requires { ⌜ ((rs : List Rule) × Paged (now states) (now «span_counts») (now spans) (now lists) (now pages) count (drained rs)
-        × Leaving (now sheet) rs (left .start) (left .end) (length (now states)) (left .rules)) ⌝ }
+        × Leaving (now sheet) rs (left .start) (left .end) (length (now states)) (left .rules) (left .why)) ⌝ }
     ensures { λ r. ⌜ ((rs : List Rule)
         → Paged (now (states .entry)) (now («span_counts» .entry)) (now (spans .entry)) (now (lists .entry)) (now (pages .entry)) count (drained rs)
-        → Leaving (now (sheet .entry)) rs (left .start) (left .end) (length (now (states .entry))) (left .rules)
+        → Leaving (now (sheet .entry)) rs (left .start) (left .end) (length (now (states .entry))) (left .rules) (left .why)
         → (foldNumbers r ≡ numbers (emission (length (now (out .entry))) rs)) × (now (out .exit) ≡ buffer (emission (length (now (out .entry))) rs .result) (now (out .entry)))) ⌝ }
 {
     let measured = measure_pages(states, span_counts, spans, lists, pages, count);
@@ -125,5 +128,6 @@ pub fn emit(
         left: left.rules as u64,
         bytes: bytes as u64,
         place: 0,
+        why: left.why,
     }
 }

@@ -1,4 +1,4 @@
-// foldsheet: folds the sheet on standard input and prints the six numbers under their names, then the result in upper-case hex, or `-` on a
+// foldsheet: folds the sheet on standard input and prints the seven numbers under their names, then the result in upper-case hex, or `-` on a
 // refusal. A sheet has at most 65,536 bytes, else `too long` is printed.
 use answers::Folded;
 use libc::STDIN_FILENO;
@@ -35,6 +35,7 @@ fn print_numbers(folded: Folded) {
     print_number(b" left ", folded.left);
     print_number(b" bytes ", folded.bytes);
     print_number(b" place ", folded.place);
+    print_number(b" why ", folded.why);
     io::write_all(STDOUT_FILENO, b"\n");
 }
 

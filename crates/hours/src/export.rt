@@ -13,14 +13,14 @@ ghost use Rattle.definition.specs.Show.{showLine};
 ghost use Rattle.definition.specs.Lookup as state;
 ghost use Rattle.hours.specs.Export.{put};
 
-// Code, drained, emitted, left, bytes, place.
+// Code, drained, emitted, left, bytes, place, why.
 #[no_mangle]
 pub extern "C" fn hours_fold(sheet: &[u8], out: &mut [u8], lent: &mut [u64]) -> bool
-    ensures { λ r. ⌜ (r ≡ leb 6 (length (now (lent .entry))))
+    ensures { λ r. ⌜ (r ≡ leb 7 (length (now (lent .entry))))
         × (now (lent .exit) ≡ put r (numbers (fold form1 limits1 (length (now (out .entry))) (now (sheet .entry)))) (now (lent .entry)))
         × (now (out .exit) ≡ put r ((fold form1 limits1 (length (now (out .entry))) (now (sheet .entry))) .result) (now (out .entry))) ⌝ }
 {
-    if lacks_room(lent.len(), 6) {
+    if lacks_room(lent.len(), 7) {
         return false;
     }
     put_folded(crate::fold(sheet, out), lent);

@@ -16,8 +16,8 @@ ghost use Rattle.definition.specs.Show.{showLine};
 ghost use Rattle.definition.specs.Lookup.{lookup};
 ghost use Rattle.answers.specs.Numbers.{foldNumbers, lookedUp, writeNumbers};
 
-// "The fold answers code, drained, emitted (folded rules only), left (rules copied), bytes written, place." The result stands at the front of
-// `out`; a refused fold changes no byte.
+// "The fold answers code, drained, emitted (folded rules only), left (rules copied), bytes written, place", and why it stopped. The result stands
+// at the front of `out`; a refused fold changes no byte.
 pub fn fold(sheet: &[u8], out: &mut [u8]) -> Folded
     ensures { λ r. ⌜ (foldNumbers r ≡ numbers (fold form1 limits1 (length (now (out .entry))) (now (sheet .entry))))
         × (now (out .exit) ≡ buffer ((fold form1 limits1 (length (now (out .entry))) (now (sheet .entry))) .result) (now (out .entry))) ⌝ }

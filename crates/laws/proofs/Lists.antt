@@ -102,6 +102,17 @@ unfolding anyOf
 anyOf-append t [] ys = refl
 anyOf-append t (x ∷ xs) ys = rw (anyOf-append t xs ys) (sym (or-assoc (t x) (anyOf t xs) (anyOf t ys)))
 
+pub anyOf-either : {A : Type 0} (t u : A → Bool) (xs : List A) → anyOf (λ x. t x || u x) xs ≡ anyOf t xs || anyOf u xs
+unfolding anyOf
+anyOf-either t u [] = refl
+anyOf-either t u (x ∷ xs) = rw (anyOf-either t u xs) (go (t x) (u x) (anyOf t xs) (anyOf u xs))
+  where
+    go : (a b c d : Bool) → a || b || (c || d) ≡ a || c || (b || d)
+    go true b c d = refl
+    go false true true d = refl
+    go false true false d = refl
+    go false false c d = refl
+
 -- ## The elements that pass
 pub keep-append : {A : Type 0} (t : A → Bool) (xs ys : List A) → keep t (xs ++ ys) ≡ keep t xs ++ keep t ys
 unfolding keep

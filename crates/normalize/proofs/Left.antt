@@ -13,7 +13,7 @@ use Rattle.laws.proofs.Spread.{flatMap-length}
 use Rattle.definition.specs.Field.{bits, bytesFor, packed, sheetBits}
 use Rattle.definition.specs.Rule.{Rule}
 use Rattle.definition.specs.Sheet.{form1, limits1, rule, rules, encode}
-use Rattle.definition.specs.Stop.{drained, left}
+use Rattle.definition.specs.Stop.{drained, left, why}
 use Rattle.definition.proofs.Bits.{Bytes, length-bits, length-bytes}
 use Rattle.definition.proofs.Faithful.{Stand}
 use Rattle.definition.proofs.Drained.{left-behind}
@@ -60,7 +60,7 @@ module _ (sheet : List ℕ) (bytes : Bytes sheet) (begins : List ℕ) (rs : List
 
   -- THE RULES LEFT from the first of them on; where none is left, from the end on
   leaving-at : (start : ℕ) → Stand (flatMap ((rule form1 limits1) .write) (left rs)) (sheetBits sheet) start end
-      → Leaving sheet rs start end (length (drained rs)) (length rs - length (drained rs))
+      → Leaving sheet rs start end (length (drained rs)) (length rs - length (drained rs)) (why rs)
   leaving-at start s =
       let ws = flatMap ((rule form1 limits1) .write) (left rs) in
       let many : end - start ≡ length ws = omega (arith, s .ends) in
@@ -72,14 +72,15 @@ module _ (sheet : List ℕ) (bytes : Bytes sheet) (begins : List ℕ) (rs : List
         drained-many = refl;
         left-many = omega (arith, left-behind rs .1);
         left-few = omega (arith, rules-limited);
+        told = refl;
       }
 
   drained-leaving : (start : ℕ) → start ≡ cond (ltb (length (drained rs)) (length rs)) (getD begins (length (drained rs)) 0) end
-      → Leaving sheet rs start end (length (drained rs)) (length rs - length (drained rs))
+      → Leaving sheet rs start end (length (drained rs)) (length rs - length (drained rs)) (why rs)
   unfolding flatMap
   drained-leaving start e = go (ltb (length (drained rs)) (length rs)) refl
     where
-      go : (b : Bool) → ltb (length (drained rs)) (length rs) ≡ b → Leaving sheet rs start end (length (drained rs)) (length rs - length (drained rs))
+      go : (b : Bool) → ltb (length (drained rs)) (length rs) ≡ b → Leaving sheet rs start end (length (drained rs)) (length rs - length (drained rs)) (why rs)
       go true l =
           let at : start ≡ getD begins (length (drained rs)) 0 = e ∙ ap (λ b. cond b (getD begins (length (drained rs)) 0) end) l in
           leaving-at start
@@ -92,11 +93,12 @@ module _ (sheet : List ℕ) (bytes : Bytes sheet) (begins : List ℕ) (rs : List
           leaving-at start (subst (λ qs. Stand (flatMap ((rule form1 limits1) .write) qs) (sheetBits sheet) start end) (sym none)
           (record { ends = omega (arith, at); stands = ap (λ p. drop p (sheetBits sheet)) at }))
 
-  -- told by how many rules were drained, of how many
-  pub rules-leaving : (n many : ℕ) → n ≡ length (drained rs) → many ≡ length rs → (start stop rules k : ℕ) → start ≡ cond (ltb n many) (getD begins n 0) end → stop ≡ end
-      → rules ≡ many - n → k ≡ n → Leaving sheet rs start stop k rules
-  rules-leaving n many en em start stop rules k es ee er ek =
-      subst (λ a. Leaving sheet rs start a k rules) (sym ee)
-      (subst (λ a. Leaving sheet rs start end a rules) (sym (ek ∙ en))
-      (subst (Leaving sheet rs start end (length (drained rs))) (sym (er ∙ ap₂ _-_ em en))
-      (drained-leaving start (es ∙ ap₂ (λ a b. cond (ltb a b) (getD begins a 0) end) en em))))
+  -- told by how many rules were drained, of how many, and why the drain ended
+  pub rules-leaving : (n many : ℕ) → n ≡ length (drained rs) → many ≡ length rs → (start stop rules k v : ℕ) → start ≡ cond (ltb n many) (getD begins n 0) end → stop ≡ end
+      → rules ≡ many - n → k ≡ n → v ≡ why rs → Leaving sheet rs start stop k rules v
+  rules-leaving n many en em start stop rules k v es ee er ek ev =
+      subst (λ a. Leaving sheet rs start a k rules v) (sym ee)
+      (subst (λ a. Leaving sheet rs start end a rules v) (sym (ek ∙ en))
+      (subst (λ a. Leaving sheet rs start end (length (drained rs)) a v) (sym (er ∙ ap₂ _-_ em en))
+      (subst (Leaving sheet rs start end (length (drained rs)) (length rs - length (drained rs))) (sym ev)
+      (drained-leaving start (es ∙ ap₂ (λ a b. cond (ltb a b) (getD begins a 0) end) en em)))))

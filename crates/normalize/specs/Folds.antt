@@ -22,9 +22,9 @@ Readings sheet begins many end = (rs : List Rule) × (SheetRead sheet begins rs 
 pub record Foldable (sheet : List ℕ) (left : Left) (states counts spans replacing rangeCounts ranges rows sizes cuts : List ℕ) (rs : List Rule) : Type 0 where
   pub end : ℕ
   pub read : decode form1 limits1 sheet ≡ got rs end
-  pub leaving : Leaving sheet rs (left .start) (left .end) (length states) (left .rules)
+  pub leaving : Leaving sheet rs (left .start) (left .end) (length states) (left .rules) (left .why)
   pub to-draw : ToDraw states counts spans replacing rangeCounts ranges rows sizes cuts (drained rs)
 
--- the six numbers, and the buffer `out` afterwards
+-- the seven numbers, and the buffer `out` afterwards
 abbrev pub Folds : List ℕ → List ℕ → Folded → List ℕ → Type 0
 Folds sheet out r after = (foldNumbers r ≡ numbers (fold form1 limits1 (length out) sheet)) × (after ≡ buffer ((fold form1 limits1 (length out) sheet) .result) out)

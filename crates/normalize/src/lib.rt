@@ -54,7 +54,7 @@ fn fold_rules_in(
     }
     let rules = drained.rules;
     let places = rules * 16;
-    let left = rules_left(begins, rules, count, end);
+    let left = rules_left(begins, rules, count, end, drained.why);
     fold_boxes(
         sheet,
         left,

@@ -64,6 +64,7 @@ module _ (sheet out : List ℕ) (x : Folded × List ℕ) (p : FoldPromise sheet 
           drained-counted = told 1 ∙ counts .drained-counted;
           emitted-counted = told 2 ∙ counts .emitted-counted ∙ ap length (sym (folded-drained rs));
           left-counted = told 3 ∙ counts .left-counted;
+          why-told = told 6 ∙ counts .why-told;
           within-room = subst (_≤ length out) (sym (told 4)) (accepted-counts form1 limits1 (length out) sheet code .3);
           later-bytes = ap₂ drop size (p .1) ∙ drop-append-seam (answer .result) later ∙ ap (λ n. drop n out) (sym size);
         },
@@ -75,6 +76,7 @@ module _ (sheet out : List ℕ) (x : Folded × List ℕ) (p : FoldPromise sheet 
         none-drained = told 1 ∙ nothing .none-drained;
         none-emitted = told 2 ∙ nothing .none-emitted;
         none-left = told 3 ∙ nothing .none-left;
+        no-reason = told 6 ∙ nothing .no-reason;
         no-bytes = told 4 ∙ nothing .no-bytes;
         untouched = p .1 ∙ ap (λ l. buffer l out) (nothing .none-written);
       }

@@ -28,7 +28,7 @@ pair = ap₂ (λ a c. (a, c))
 
 -- ## Answers are known by their numbers
 foldedFrom : List ℕ → Folded
-foldedFrom n = record { code = getD n 0 0; drained = getD n 1 0; emitted = getD n 2 0; left = getD n 3 0; bytes = getD n 4 0; place = getD n 5 0 }
+foldedFrom n = record { code = getD n 0 0; drained = getD n 1 0; emitted = getD n 2 0; left = getD n 3 0; bytes = getD n 4 0; place = getD n 5 0; why = getD n 6 0 }
 
 one-folded : (n : List ℕ) → OneAnswer (λ r. foldNumbers r ≡ n)
 unfolding foldedFrom
@@ -68,7 +68,7 @@ one-told {A} told slices x y p q = settled x p ∙ sym (settled y q)
 pub one-exported-fold : (sheet out lent : List ℕ) → OneAnswer (ExportedFoldPromise sheet out lent)
 one-exported-fold sheet out lent x y p q =
     let f = fold form1 limits1 (length out) sheet in
-    one-told (leb 6 (length lent)) (λ b. (put b (numbers f) lent, put b (f .result) out)) x y (p .0, pair (p .1) (p .2)) (q .0, pair (q .1) (q .2))
+    one-told (leb 7 (length lent)) (λ b. (put b (numbers f) lent, put b (f .result) out)) x y (p .0, pair (p .1) (p .2)) (q .0, pair (q .1) (q .2))
 
 -- an entry that writes and answers w
 one-exported : (w : Written) (out lent : List ℕ)

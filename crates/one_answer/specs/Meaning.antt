@@ -1,13 +1,13 @@
 -- THE PROMISES IN ONE PIECE, of the entries themselves. Of the fold: what it leaves in the buffer, read again, means what the sheet means, in
--- groups that share no point, with the same rules left, whatever minutes are chosen for spans that aren't simple; and its numbers are
--- counts. Of the lookup: what it tells is what the rules in that buffer say at that moment.
+-- groups that share no point, with the same rules left, whatever minutes are chosen for spans that aren't simple; its numbers are counts, and
+-- the last of them says why it stopped. Of the lookup: what it tells is what the rules in that buffer say at that moment.
 use mathlib.Core.Path.{_≡_}
 use mathlib.Core.List.{List}
 use Prim.Native.Nat.{ℕ, _≤_}
 use lib.ListN.{length, take, drop}
 use Rattle.definition.specs.Rule.{Rule}
 use Rattle.definition.specs.Sheet.{form1, limits1}
-use Rattle.definition.specs.Stop.{drained, left}
+use Rattle.definition.specs.Stop.{drained, left, why}
 use Rattle.definition.specs.Date.{pointOf}
 use Rattle.definition.specs.Saying.{Cover, says}
 use Rattle.answers.specs.Numbers.{lookedUp}
@@ -32,6 +32,7 @@ module _ (sheet out : List ℕ) (x : Folded × List ℕ) where
     pub drained-counted : x .0 .drained ≡ length (drained rs)
     pub emitted-counted : x .0 .emitted ≡ length (drained ws)
     pub left-counted : x .0 .left ≡ length (left rs)
+    pub why-told : x .0 .why ≡ why rs
     pub within-room : x .0 .bytes ≤ length out
     pub later-bytes : drop (x .0 .bytes) (x .1) ≡ drop (x .0 .bytes) out
 
@@ -40,6 +41,7 @@ module _ (sheet out : List ℕ) (x : Folded × List ℕ) where
     pub none-drained : x .0 .drained ≡ 0
     pub none-emitted : x .0 .emitted ≡ 0
     pub none-left : x .0 .left ≡ 0
+    pub no-reason : x .0 .why ≡ 0
     pub no-bytes : x .0 .bytes ≡ 0
     pub untouched : x .1 ≡ out
 

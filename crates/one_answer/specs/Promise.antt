@@ -37,7 +37,7 @@ module _ (sheet out : List ℕ) where
   -- exported: whether there is an answer; the lent numbers and the buffer after the call
   module _ (lent : List ℕ) where
     abbrev pub ExportedFoldPromise : Bool × (List ℕ × List ℕ) → Type 0
-    ExportedFoldPromise x = (x .0 ≡ leb 6 (length lent))
+    ExportedFoldPromise x = (x .0 ≡ leb 7 (length lent))
         × (x .1 .0 ≡ put (x .0) (numbers (fold form1 limits1 (length out) sheet)) lent)
         × (x .1 .1 ≡ put (x .0) ((fold form1 limits1 (length out) sheet) .result) out)
 

@@ -10,7 +10,7 @@ use Rattle.laws.proofs.Lists.{every-all}
 use Rattle.definition.specs.Field.{sheetBits}
 use Rattle.definition.specs.Rule.{Rule}
 use Rattle.definition.specs.Sheet.{form1, limits1, rule}
-use Rattle.definition.specs.Stop.{drained}
+use Rattle.definition.specs.Stop.{drained, why}
 use Rattle.definition.specs.Point.{dimensions}
 use Rattle.definition.specs.Box.{boxCount}
 use Rattle.definition.proofs.Bits.{Bytes}
@@ -45,6 +45,10 @@ module _ (sheet : List ℕ) (bytes : Bytes sheet) (begins : List ℕ) (rs : List
 
   fits : AllFit (drained rs)
   fits = drained-all _ rs (every-all _ ((rule form1 limits1) .fits) (λ r e. e) rs (rules-each form1 limits1 rs (encode-decoded form1 limits1 sheet bytes rs end (reading .read) .0)))
+
+  -- ## Why it ended
+  pub why-read : (v : ℕ) → v ≡ why (rulesFrom (sheetBits sheet) begins 0 count) → v ≡ why rs
+  why-read v e = e ∙ ap why same
 
   -- ## What it leaves
   module _ (n : ℕ) (states counts spans replacing rangeCounts ranges : List ℕ) (e : n ≡ length (drained (rulesFrom (sheetBits sheet) begins 0 count)))
@@ -89,9 +93,9 @@ module _ (sheet : List ℕ) (bytes : Bytes sheet) (begins : List ℕ) (rs : List
         }
 
         -- THE TABLES AND THE CUTS are those of the drained rules
-        pub sheet-prepared : (boxes : ℕ) (rows sizes cuts : List ℕ) → boxes ≡ boxCount dimensions (drained rs) → Cut rows sizes cuts (drained rs)
-            → Prepared states counts spans replacing rangeCounts ranges rows sizes cuts (drained rs) (record { rules = n; boxes = boxes })
-        sheet-prepared boxes rows sizes cuts b c = record {
+        pub sheet-prepared : (boxes reason : ℕ) (rows sizes cuts : List ℕ) → boxes ≡ boxCount dimensions (drained rs) → Cut rows sizes cuts (drained rs)
+            → Prepared states counts spans replacing rangeCounts ranges rows sizes cuts (drained rs) (record { rules = n; boxes = boxes; why = reason })
+        sheet-prepared boxes reason rows sizes cuts b c = record {
           rules-many = drained-many;
           boxes-many = b;
           times = drained-times;

@@ -3,14 +3,15 @@
 ghost use mathlib.Core.Path.{_≡_};
 ghost use Prim.Native.Nat.{_*_, _≤_};
 ghost use lib.ListN.{length};
-ghost use Rattle.definition.specs.Stop.{drained};
+ghost use Rattle.definition.specs.Stop.{drained, why};
 ghost use Rattle.tables.specs.Sizes.{rowPlaces};
 ghost use Rattle.prepare.specs.Prepared.{RulesRead, EachReading, Prepared};
 
-// How many rules were drained, and how many boxes there are between their cuts.
+// How many rules were drained, how many boxes there are between their cuts, and why the next rule stopped.
 pub struct Drained {
     pub rules: usize,
     pub boxes: u64,
+    pub why: u64,
 }
 
 // The drained rules of a sheet that was read, in tables, and the rows of their cuts.
@@ -34,9 +35,9 @@ pub fn prepare(
     requires { ⌜ (length (now «row_starts») ≡ 4) × (length (now sizes) ≡ 4) × (4 * rowPlaces count ≤ length (now cuts)) ⌝ }
     ensures { λ r. ⌜ EachReading (now (sheet .entry)) (now (begins .entry)) count
         (λ rs. Prepared (now (states .exit)) (now («span_counts» .exit)) (now (spans .exit)) (now (replacing .exit)) (now («range_counts» .exit)) (now (ranges .exit))
-        (now («row_starts» .exit)) (now (sizes .exit)) (now (cuts .exit)) (drained rs) r) ⌝ }
+        (now («row_starts» .exit)) (now (sizes .exit)) (now (cuts .exit)) (drained rs) r × (r .why ≡ why rs)) ⌝ }
 {
-    let rules = draining::drain(
+    let drained = draining::drain(
         sheet,
         begins,
         count,
@@ -47,6 +48,11 @@ pub fn prepare(
         range_counts,
         ranges,
     );
+    let rules = drained.rules;
     let boxes = cutting::cut_all(cuts, sizes, row_starts, range_counts, ranges, rules);
-    Drained { rules, boxes }
+    Drained {
+        rules,
+        boxes,
+        why: drained.why,
+    }
 }

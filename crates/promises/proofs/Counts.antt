@@ -26,6 +26,7 @@ module _ (form : Form) (limits : Limits) (room : ℕ) (sheet : List ℕ) where
     left-counted = refl;
     all-counted = left-behind (d .0) .1;
     emitted-counted = refl;
+    why-told = refl;
     written = refl;
     bytes-counted = refl;
   })
@@ -49,7 +50,7 @@ module _ (form : Form) (limits : Limits) (room : ℕ) (sheet : List ℕ) where
   -- A REFUSED FOLD DOES NOTHING
   pub refused-nothing : RefusedNothing form limits room sheet
   refused-nothing h = subst Nothing (sym (refused-whole form limits room sheet h))
-      (record { none-drained = refl; none-emitted = refl; none-left = refl; no-bytes = refl; none-written = refl })
+      (record { none-drained = refl; none-emitted = refl; none-left = refl; no-reason = refl; no-bytes = refl; none-written = refl })
 
 -- THE SAME DRAINED RULES, THE SAME FOLDED RULES
 pub same-folded : (form : Form) (limits : Limits) (room : ℕ) (sheet : List ℕ) (place : ℕ) (other : List ℕ) → SameFolded form limits room sheet place other

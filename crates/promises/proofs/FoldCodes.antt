@@ -11,7 +11,7 @@ use borrow.Author.Tests.{eqb-true, ltb-true, ltb-false, lt-ltb, le-ltb}
 use Rattle.definition.specs.Field.{Read, got, refused, manyBoxes, longList, noRoom}
 use Rattle.definition.specs.Rule.{Rule}
 use Rattle.definition.specs.Sheet.{Form, Limits, decode}
-use Rattle.definition.specs.Stop.{drained, left}
+use Rattle.definition.specs.Stop.{drained, left, why}
 use Rattle.definition.specs.Point.{dimensions}
 use Rattle.definition.specs.Box.{boxCount}
 use Rattle.definition.specs.Group.{folded}
@@ -61,6 +61,7 @@ module _ (form : Form) (limits : Limits) (room : ℕ) (sheet : List ℕ) where
     left = length (left rs);
     bytes = length (result form limits rs);
     place = 0;
+    why = why rs;
     result = result form limits rs;
   }
 

@@ -16,6 +16,7 @@ pub mod BackCodes
 pub mod LineCodes
 pub mod LookupCodes
 pub mod Counts
+pub mod Why
 pub mod Looking
 pub mod Fitting
 pub mod ReadBack

@@ -8,7 +8,7 @@ use lib.ListN.{length}
 use Rattle.laws.specs.Lists.{All}
 use Rattle.definition.specs.Rule.{Rule}
 use Rattle.definition.specs.Sheet.{Form, Limits, encode}
-use Rattle.definition.specs.Stop.{drained, left}
+use Rattle.definition.specs.Stop.{drained, left, why}
 use Rattle.definition.specs.Group.{folded}
 use Rattle.definition.specs.Fold.{Folded, Written, fold, writeBack}
 use Rattle.definition.specs.Line.{line}
@@ -21,6 +21,7 @@ pub record Counted (form : Form) (limits : Limits) (rs : List Rule) (f : Folded)
   pub left-counted : f .left ≡ length (left rs)
   pub all-counted : f .drained + f .left ≡ length rs
   pub emitted-counted : f .emitted ≡ length (folded (drained rs))
+  pub why-told : f .why ≡ why rs
   pub written : f .result ≡ encode form limits (folded (drained rs) ++ left rs)
   pub bytes-counted : f .bytes ≡ length (f .result)
 
@@ -28,6 +29,7 @@ pub record Nothing (f : Folded) : Type 0 where
   pub none-drained : f .drained ≡ 0
   pub none-emitted : f .emitted ≡ 0
   pub none-left : f .left ≡ 0
+  pub no-reason : f .why ≡ 0
   pub no-bytes : f .bytes ≡ 0
   pub none-written : f .result ≡ []
 

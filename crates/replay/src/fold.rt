@@ -1,4 +1,5 @@
-// Does the fold of a sheet do what a record tells? Told: CODE DRAINED EMITTED LEFT BYTES PLACE ROOM, and the bytes at the front of the buffer.
+// Does the fold of a sheet do what a record tells? Told: CODE DRAINED EMITTED LEFT BYTES PLACE WHY ROOM, and the bytes at the front
+// of the buffer.
 use crate::buffer;
 use crate::record::number;
 ghost use Prim.Native.Nat.{_≤_};
@@ -6,7 +7,7 @@ ghost use lib.ListN.{length};
 
 // Are the numbers and every byte of the buffer those of the record?
 fn folded_so(sheet: &[u8], told: &[u8], out: &mut [u8]) -> bool
-    requires { ⌜ 21 ≤ length (now told) ⌝ }
+    requires { ⌜ 24 ≤ length (now told) ⌝ }
 {
     buffer::fill(out);
     let folded = hours::fold(sheet, out);
@@ -15,15 +16,16 @@ fn folded_so(sheet: &[u8], told: &[u8], out: &mut [u8]) -> bool
         && number(told, 6) as u64 == folded.emitted
         && number(told, 9) as u64 == folded.left
         && number(told, 12) as u64 == folded.bytes
-        && number(told, 15) as u64 == folded.place;
-    numbers && buffer::holds(out, &told[21..])
+        && number(told, 15) as u64 == folded.place
+        && number(told, 18) as u64 == folded.why;
+    numbers && buffer::holds(out, &told[24..])
 }
 
 pub fn agrees(sheet: &[u8], told: &[u8], out: &mut [u8]) -> bool {
-    if told.len() < 21 {
+    if told.len() < 24 {
         return false;
     }
-    let room = number(told, 18);
+    let room = number(told, 21);
     if out.len() < room {
         return false;
     }

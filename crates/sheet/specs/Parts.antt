@@ -6,7 +6,7 @@ use lib.ListN.{length, take, drop}
 use Rattle.definition.specs.Field.{got, sheetBits}
 use Rattle.definition.specs.Rule.{Rule}
 use Rattle.definition.specs.Sheet.{form1, limits1, rule, decode}
-use Rattle.definition.specs.Stop.{drained, left}
+use Rattle.definition.specs.Stop.{drained, left, why}
 use Rattle.sheet.specs.Rules.{begun}
 
 -- the rules of a sheet, the bit after them, and where each begins
@@ -16,8 +16,8 @@ pub record SheetRead (sheet begins : List ℕ) (rs : List Rule) (end : ℕ) : Ty
   pub room : 64 ≤ length before
   pub noted : begins ≡ begun sheet before
 
--- the bits of the rules left stand in the sheet between two places; and how many rules were drained and are left
-pub record Leaving (sheet : List ℕ) (rs : List Rule) (start end drainedRules leftRules : ℕ) : Type 0 where
+-- the bits of the rules left stand in the sheet between two places; how many rules were drained and are left; and why the first of these stops
+pub record Leaving (sheet : List ℕ) (rs : List Rule) (start end drainedRules leftRules reason : ℕ) : Type 0 where
   pub ordered : start ≤ end
   pub inside : end ≤ 8 * length sheet
   pub low : end < 2 ^ 25
@@ -25,3 +25,4 @@ pub record Leaving (sheet : List ℕ) (rs : List Rule) (start end drainedRules l
   pub drained-many : length (drained rs) ≡ drainedRules
   pub left-many : length (left rs) ≡ leftRules
   pub left-few : leftRules ≤ limits1 .rules
+  pub told : why rs ≡ reason

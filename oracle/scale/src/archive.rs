@@ -32,7 +32,7 @@ unsafe extern "C" {
 /// A function of the archive that writes a sheet or text.
 pub type Writing = fn(&[u8], &mut [u8], &mut [u64]) -> bool;
 
-/// Code, drained, emitted, left, bytes and place go into `numbers`; no where it is too short for them.
+/// Code, drained, emitted, left, bytes, place and why go into `numbers`; no where it is too short for them.
 pub fn fold(sheet: &[u8], out: &mut [u8], numbers: &mut [u64]) -> bool {
     lend(hours_fold, sheet, out, numbers)
 }
@@ -82,5 +82,26 @@ pub fn lookup(sheet: &[u8], [year, month, day, minute]: [u64; 4], numbers: &mut 
             numbers,
             count,
         )
+    }
+}
+
+#[cfg(test)]
+mod tests {
+    use super::*;
+
+    const EMPTY_SHEET: [u8; 2] = [0; 2];
+    const BYTE: u8 = 0xA5;
+    const NUMBER: u64 = u64::MAX;
+
+    #[test]
+    fn a_fold_takes_seven_numbers_and_writes_nothing_into_six() {
+        let mut out = [BYTE; 3];
+        let mut six = [NUMBER; 6];
+        assert!(!fold(&EMPTY_SHEET, &mut out, &mut six));
+        assert_eq!((out, six), ([BYTE; 3], [NUMBER; 6]));
+
+        let mut seven = [NUMBER; 7];
+        assert!(fold(&EMPTY_SHEET, &mut out, &mut seven));
+        assert_eq!((out, seven), ([0, 0, BYTE], [0, 0, 0, 0, 2, 0, 0]));
     }
 }

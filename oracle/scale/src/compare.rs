@@ -1,8 +1,9 @@
 //! One sheet given to the archive, in buffers of several lengths, and held against what is expected of it.
 
+use crate::answer::{Answer, FOLD_NUMBERS, LOOKUP_NUMBERS, Numbers, WRITTEN_NUMBERS};
 use crate::archive::{self, Writing};
 use crate::dates::moment;
-use crate::expected::{Answer, FOLD_NUMBERS, LOOKUP_NUMBERS, Sheet, WRITTEN_NUMBERS};
+use crate::expected::Sheet;
 use crate::random::Random;
 use crate::tally::Tally;
 
@@ -29,6 +30,7 @@ pub fn compare(bytes: &[u8], random: &mut Random, tally: &mut Tally) -> Result<(
         && let Some(extent) = accepted.extent()
     {
         tally.accepted_fold(accepted.rules(), extent, sheet.is_inside());
+        tally.stopped(accepted.reasons());
     }
 
     compare_rooms("fold", archive::fold, bytes, &folded, random, tally)?;
@@ -122,7 +124,7 @@ fn compare_writing(
 }
 
 fn compare_lookup(sheet: &[u8], moment: [u64; 4], expected: &Answer) -> Result<(), Difference> {
-    let mut numbers = vec![NUMBER_FILL; LOOKUP_NUMBERS + NUMBERS_MORE];
+    let mut numbers = vec![NUMBER_FILL; LOOKUP_NUMBERS.count + NUMBERS_MORE];
     let answered = archive::lookup(sheet, moment, &mut numbers);
 
     held(
@@ -132,9 +134,9 @@ fn compare_lookup(sheet: &[u8], moment: [u64; 4], expected: &Answer) -> Result<(
     )
 }
 
-/// A slice too short for the numbers is answered no, with nothing written anywhere.
+/// A slice too short for the numbers is answered no, with nothing written anywhere. Most lack the last number alone.
 fn compare_short_numbers(sheet: &[u8], random: &mut Random) -> Result<(), Difference> {
-    let writings: [(Writing, usize); 3] = [
+    let writings: [(Writing, Numbers); 3] = [
         (archive::fold, FOLD_NUMBERS),
         (archive::write_back, WRITTEN_NUMBERS),
         (archive::line, WRITTEN_NUMBERS),
@@ -142,10 +144,10 @@ fn compare_short_numbers(sheet: &[u8], random: &mut Random) -> Result<(), Differ
     let room = sheet.len();
     let untouched = |length| (false, vec![NUMBER_FILL; length], vec![FILLS[0]; room]);
 
-    for (function, count) in writings {
-        let (_, mut numbers, mut out) = untouched(random.below(count));
+    for (function, all) in writings {
+        let (_, mut numbers, mut out) = untouched(too_few(random, all));
         let answered = function(sheet, &mut out, &mut numbers);
-        let call = || format!("{} numbers of {count}", numbers.len());
+        let call = || format!("{} numbers of {}", numbers.len(), all.count);
         held(
             call,
             untouched(numbers.len()),
@@ -153,7 +155,7 @@ fn compare_short_numbers(sheet: &[u8], random: &mut Random) -> Result<(), Differ
         )?;
     }
 
-    let (_, mut numbers, out) = untouched(random.below(LOOKUP_NUMBERS));
+    let (_, mut numbers, out) = untouched(too_few(random, LOOKUP_NUMBERS));
     let answered = archive::lookup(sheet, [2000, 2, 29, 720], &mut numbers);
     let call = || format!("lookup with {} numbers", numbers.len());
     held(
@@ -161,6 +163,11 @@ fn compare_short_numbers(sheet: &[u8], random: &mut Random) -> Result<(), Differ
         untouched(numbers.len()),
         (answered, numbers.clone(), out),
     )
+}
+
+fn too_few(random: &mut Random, all: Numbers) -> usize {
+    let any = random.below(all.count);
+    random.of(&[any, all.count - 1])
 }
 
 fn with_more(numbers: &[u64]) -> Vec<u64> {

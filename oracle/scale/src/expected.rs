@@ -1,4 +1,5 @@
-//! What documents 01 and 02 expect of a sheet: refusals, lookups and lines by the modules beside this one, folds by the Rust.
+//! What documents 01 and 02 expect of a sheet: refusals, lookups, lines and why a fold stopped by the modules beside this one, folds by the
+//! Rust.
 //!
 //! Where the sheet stands for a value of the Rust, the Rust folds it whole. It has no years and weeks that wrap, and turns some steps into
 //! 1 (docs/DIFFERENCES.md). Where a sheet has such items, the Rust folds the drained rules alone, those that wrap as their two halves, and
@@ -7,62 +8,16 @@
 use oracle::bits::{BitReader, BitWriter};
 use oracle::fold::{Folded, fold_sheet, read_expression};
 
+use crate::answer::{Answer, FOLD_NUMBERS, LOOKUP_NUMBERS};
 use crate::calendar::point_of;
 use crate::layout::Refusal;
 use crate::line::{Unsaid, first_unsaid, line_of};
 use crate::points::{
-    DIMENSIONS, Extent, Selector, check_limits, is_simple, list_at, selector_of, split, stops,
+    DIMENSIONS, Extent, Selector, check_limits, is_simple, list_at, selector_of, split,
 };
 use crate::rule::{CLOSED, MIDNIGHT, Rule, Stepped};
 use crate::sheet::{Read, read_sheet, write_sheet};
-
-/// The numbers of an answer, and the bytes that then stand at the front of the buffer.
-#[derive(Clone, Debug, PartialEq, Eq)]
-pub struct Answer {
-    pub numbers: Vec<u64>,
-    pub result: Vec<u8>,
-}
-
-/// How many numbers a fold, a write-back or line, and a lookup answer. Code comes first and place last.
-pub const FOLD_NUMBERS: usize = 6;
-pub const WRITTEN_NUMBERS: usize = 3;
-pub const LOOKUP_NUMBERS: usize = 4;
-
-impl Answer {
-    fn refused(refusal: Refusal, count: usize) -> Self {
-        let mut numbers = vec![0; count];
-        numbers[0] = refusal.code;
-        numbers[count - 1] = refusal.place;
-
-        Self {
-            numbers,
-            result: Vec::new(),
-        }
-    }
-
-    fn of(outcome: Result<Self, Refusal>, count: usize) -> Self {
-        outcome.unwrap_or_else(|refusal| Self::refused(refusal, count))
-    }
-
-    /// Code, bytes and place of a sheet or text that was written.
-    fn written(outcome: Result<Vec<u8>, Refusal>) -> Self {
-        let done = outcome.map(|result| Self {
-            numbers: vec![0, result.len() as u64, 0],
-            result,
-        });
-
-        Self::of(done, WRITTEN_NUMBERS)
-    }
-
-    /// The answer where the buffer has so many bytes.
-    pub fn in_room(&self, room: usize) -> Self {
-        if room < self.result.len() {
-            Self::refused(Refusal::at(7, self.result.len()), self.numbers.len())
-        } else {
-            self.clone()
-        }
-    }
-}
+use crate::why::{Reasons, reasons_of, stops};
 
 /// A sheet as it was read, with what all answers about it rest on.
 pub struct Sheet<'a> {
@@ -102,6 +57,12 @@ impl Accepted {
         &self.read.rules
     }
 
+    /// What stopped the fold: the reasons of the first rule left, none where no rule is.
+    pub fn reasons(&self) -> Reasons {
+        let first_left = self.rules().get(self.drained().len());
+        first_left.map(reasons_of).unwrap_or_default()
+    }
+
     /// The boxes and lists of an accepted fold.
     pub fn extent(&self) -> Option<Extent> {
         self.extent.ok()
@@ -131,7 +92,7 @@ impl<'a> Sheet<'a> {
         Answer::of(self.folded(), FOLD_NUMBERS)
     }
 
-    fn folded(&self) -> Result<Answer, Refusal> {
+    fn folded(&self) -> Result<(Vec<u64>, Vec<u8>), Refusal> {
         let accepted = self.accepted().inspect_err(|refusal| {
             let read = read_expression(self.bytes);
             let unreadable = read.is_err_and(|reason| reason.is_unreadable());
@@ -161,12 +122,10 @@ impl<'a> Sheet<'a> {
             folded.left,
             result.len(),
             0,
+            accepted.reasons().first(),
         ];
 
-        Ok(Answer {
-            numbers: counts.map(|count| count as u64).into(),
-            result,
-        })
+        Ok((counts.map(|count| count as u64).into(), result))
     }
 
     /// The sheet written back into an ample buffer: reading and writing are inverse.
@@ -190,9 +149,9 @@ impl<'a> Sheet<'a> {
 
     /// The lookup at a year, month, day and minute; it writes no bytes.
     pub fn lookup(&self, moment: [u64; 4]) -> Answer {
-        let found = self.state_at(moment).map(|(kind, comment)| Answer {
-            numbers: vec![0, kind.into(), comment.into(), 0],
-            result: Vec::new(),
+        let found = self.state_at(moment).map(|(kind, comment)| {
+            let numbers = vec![0, kind.into(), comment.into(), 0];
+            (numbers, Vec::new())
         });
 
         Answer::of(found, LOOKUP_NUMBERS)

@@ -1,11 +1,12 @@
 //! The archive of crates/hours held against the Rust oracle, sheet for sheet, in one program.
 //!
-//! What a fold gives is the Rust's to say (`oracle::fold`). Where a sheet is refused, what a lookup finds, and what a sheet's line is, the
-//! Rust has no say: that is document 01 written plainly (`sheet`, `points`, `calendar`, `expected`), and 02's M-100 (`line`) and M-104
-//! (`calendar`), as in oracle/reference.
+//! What a fold gives is the Rust's to say (`oracle::fold`). Where a sheet is refused, what a lookup finds, what a sheet's line is, and why a
+//! fold stopped, the Rust has no say: that is document 01 written plainly (`sheet`, `points`, `calendar`, `expected`), and 02's M-100
+//! (`line`), M-104 (`calendar`) and M-105 (`why`), as in oracle/reference.
 //!
 //! For oracle/public, where a public evaluator is asked, there are sheets and moments (`public_sheets`, `public_moments`).
 
+mod answer;
 pub mod archive;
 pub mod arguments;
 pub mod bench_sheets;
@@ -34,3 +35,4 @@ mod stoppers;
 mod stored;
 mod tally;
 mod telling;
+mod why;

@@ -1,12 +1,11 @@
-//! From rules to points: ranges, stoppers, draining, the count of boxes (code 5), the lengths of the lists (code 6), the list at a point.
+//! From rules to points: ranges, draining, the count of boxes (code 5), the lengths of the lists (code 6), the list at a point.
 
 use std::iter;
 use std::ops::Range;
 
 use crate::layout::Refusal;
-use crate::rule::{
-    ALL_NTH, CLOSED, FALLBACK, MIDNIGHT, MONTHS, NORMAL, Rule, Span, Stepped, Weekday,
-};
+use crate::rule::{CLOSED, NORMAL, Rule, Span};
+use crate::why::may_reach_tomorrow;
 
 pub const BOX_LIMIT: usize = 1024;
 pub const LIST_LIMIT: usize = 32;
@@ -55,34 +54,6 @@ fn ranges_of<T>(dimension: &Dimension, items: &[T], ends: fn(&T) -> (u32, u32)) 
         .map(ends)
         .flat_map(|(start, end)| split(start, end, dimension))
         .collect()
-}
-
-pub fn stops(rule: &Rule) -> bool {
-    let stepped = |range: &Stepped| range.step != 1;
-
-    rule.operator == FALLBACK
-        || rule.years.iter().any(stepped)
-        || rule.weeks.iter().any(stepped)
-        || rule.monthdays.iter().any(|item| item.tag != MONTHS)
-        || !rule.weekdays.iter().all(is_plain_weekday)
-        || rule.spans.iter().any(may_reach_tomorrow)
-}
-
-pub fn is_plain_weekday(item: &Weekday) -> bool {
-    (
-        item.tag,
-        item.offset,
-        item.nth_from_start,
-        item.nth_from_end,
-    ) == (0, 0, ALL_NTH, ALL_NTH)
-}
-
-fn may_reach_tomorrow(span: &Span) -> bool {
-    match (span.start.tag, span.end.tag) {
-        (0, 0) => span.start.minutes >= span.end.minutes || span.end.minutes > MIDNIGHT,
-        (_, 0) => span.end.minutes != MIDNIGHT,
-        _ => true,
-    }
 }
 
 pub fn is_simple(span: &Span) -> bool {

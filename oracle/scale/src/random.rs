@@ -53,6 +53,12 @@ impl Random {
         unreachable!("the rest is below the sum of the weights")
     }
 
+    /// One more item, at any place.
+    pub fn insert<T>(&mut self, items: &mut Vec<T>, item: impl FnOnce(&mut Self) -> T) {
+        let place = self.below(items.len() + 1);
+        items.insert(place, item(self));
+    }
+
     pub fn bytes(&mut self, count: usize) -> Vec<u8> {
         (0..count).map(|_| self.next() as u8).collect()
     }

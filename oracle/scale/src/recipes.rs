@@ -38,7 +38,7 @@ fn drained(stock: &mut Stock) -> Vec<Rule> {
     stock.rules()
 }
 
-/// Stoppers first, in the middle, last, or at several places.
+/// Stoppers first, in the middle, last, at several places, or from one place on.
 fn stopped(stock: &mut Stock) -> Vec<Rule> {
     let mut rules = stock.rules();
     let last = rules.len() - 1;
@@ -49,6 +49,7 @@ fn stopped(stock: &mut Stock) -> Vec<Rule> {
         vec![last],
         vec![0, last],
         vec![anywhere],
+        (anywhere..=last).collect(),
     ];
 
     for place in stock.random.of(&places) {
@@ -203,4 +204,53 @@ fn filled<T>(random: &mut Random, item: fn(&mut Random) -> T) -> Vec<T> {
 fn rising(random: &mut Random, lowest: u32, highest: u32) -> Stepped {
     let start = random.within(lowest, highest);
     range(start, start + random.within(10, 19))
+}
+
+#[cfg(test)]
+mod tests {
+    use std::collections::HashSet;
+
+    use super::*;
+    use crate::why::{WHYS, reasons_of, stops};
+
+    const SHEETS: u64 = 100_000;
+
+    #[derive(Clone, Copy, Debug, PartialEq, Eq, Hash)]
+    enum Place {
+        First,
+        Between,
+        Last,
+    }
+
+    fn place(index: usize, length: usize) -> Place {
+        match index {
+            0 => Place::First,
+            _ if index + 1 == length => Place::Last,
+            _ => Place::Between,
+        }
+    }
+
+    /// The reasons of the first rule that stops, and where it stands.
+    fn stopped(rules: &[Rule]) -> Option<(Vec<usize>, Place)> {
+        let index = rules.iter().position(stops)?;
+        let reasons = reasons_of(&rules[index]).numbers();
+        Some((reasons, place(index, rules.len())))
+    }
+
+    #[test]
+    fn rules_stop_for_each_reason_and_for_each_two_at_each_place() {
+        let met: HashSet<_> = (0..SHEETS)
+            .filter_map(|number| stopped(&rules(&mut Random::new(1, number))))
+            .collect();
+
+        for place in [Place::First, Place::Between, Place::Last] {
+            for reason in 1..WHYS {
+                assert!(met.contains(&(vec![reason], place)), "{reason} {place:?}");
+                for later in reason + 1..WHYS {
+                    let both = (vec![reason, later], place);
+                    assert!(met.contains(&both), "{both:?}");
+                }
+            }
+        }
+    }
 }

@@ -1,4 +1,4 @@
-//! Stoppers: each makes a draining rule into one that stops.
+//! Stoppers: they make a draining rule into one that stops, for one reason or for several, by items at any place among its own.
 
 use crate::random::Random;
 use crate::rule::{
@@ -8,34 +8,37 @@ use crate::rule::{
 use crate::stock::{MINUTES, Stock, YEAR_VALUES, variable_time};
 
 pub fn stop(rule: &mut Rule, stock: &mut Stock) {
-    match stock.random.below(7) {
-        0 => rule.operator = FALLBACK,
-        1 => {
-            let item = stepped(stock, 1900, 9000, 9999, &[2, 3, 400]);
-            rule.years.push(item);
-        }
-        2 => {
-            let item = stepped(stock, 1, 40, 53, &[2, 3, 10]);
-            rule.weeks.push(item);
-        }
-        3 => rule.monthdays.insert(0, stopping_monthday(stock.random)),
-        4 => rule.weekdays.push(stopping_weekday(stock.random)),
-        _ => {
-            let place = stock.random.below(rule.spans.len() + 1);
-            rule.spans.insert(place, stopping_span(stock));
-        }
+    for _ in 0..stock.random.weighed(&[(50, 1), (30, 2), (20, 3)]) {
+        add_stopper(rule, stock);
     }
 }
 
-/// A range with a step. One that the Rust's constructors are to keep rises by the step at least.
+fn add_stopper(rule: &mut Rule, stock: &mut Stock) {
+    let (rising, random) = (stock.rising, &mut *stock.random);
+
+    match random.below(10) {
+        0 => rule.operator = FALLBACK,
+        1 => random.insert(&mut rule.years, |random| {
+            stepped(random, rising, [1900, 9000, 9999], &[2, 3, 400])
+        }),
+        2 => random.insert(&mut rule.weeks, |random| {
+            stepped(random, rising, [1, 40, 53], &[2, 3, 10])
+        }),
+        3 => random.insert(&mut rule.monthdays, stopping_monthday),
+        4..7 => random.insert(&mut rule.weekdays, stopping_weekday),
+        7 => random.insert(&mut rule.weekdays, twice_stopping_weekday),
+        _ => random.insert(&mut rule.spans, stopping_span),
+    }
+}
+
+/// A range with a step, from its lowest value, its last start and its highest value. One that the Rust's constructors are to keep rises by
+/// the step at least.
 fn stepped(
-    stock: &mut Stock,
-    lowest: u32,
-    last_start: u32,
-    highest: u32,
+    random: &mut Random,
+    rising: bool,
+    [lowest, last_start, highest]: [u32; 3],
     steps: &[u32],
 ) -> Stepped {
-    let (rising, random) = (stock.rising, &mut *stock.random);
     let (start, step) = (random.within(lowest, last_start), random.of(steps));
     let end = match rising {
         true => random.within(start + step, highest),
@@ -84,13 +87,23 @@ pub fn stopping_weekday(random: &mut Random) -> Weekday {
     }
 }
 
-fn stopping_span(stock: &mut Stock) -> Span {
-    let minute = stock.random.of(&MINUTES);
-    let later = stock.random.of(&[1441, 1500, 2880]);
-    let no_midnight = stock.random.of(&[0, 1439, 1441, 2880]);
-    let (first_event, second_event) = (variable_time(stock.random), variable_time(stock.random));
+/// An offset, and nth bits missing, in one item.
+fn twice_stopping_weekday(random: &mut Random) -> Weekday {
+    Weekday {
+        offset: random.within(1, 0xFFFF),
+        nth_from_start: random.within(0, ALL_NTH - 1),
+        nth_from_end: random.within(0, ALL_NTH),
+        ..weekdays(random.within(0, 6), random.within(0, 6))
+    }
+}
 
-    match stock.random.below(9) {
+fn stopping_span(random: &mut Random) -> Span {
+    let minute = random.of(&MINUTES);
+    let later = random.of(&[1441, 1500, 2880]);
+    let no_midnight = random.of(&[0, 1439, 1441, 2880]);
+    let (first_event, second_event) = (variable_time(random), variable_time(random));
+
+    match random.below(9) {
         0 => fixed(minute, later),
         1 => fixed(minute, minute),
         2 => fixed(MIDNIGHT, minute),

@@ -5,8 +5,9 @@ use std::path::Path;
 
 use oracle::bits::from_hex;
 
+use crate::answer::{Answer, FOLD_NUMBERS, LOOKUP_NUMBERS, Numbers, WRITTEN_NUMBERS};
 use crate::archive::{self, Writing};
-use crate::expected::{Answer, FOLD_NUMBERS, LOOKUP_NUMBERS, Sheet, WRITTEN_NUMBERS};
+use crate::expected::Sheet;
 
 /// Sheet, numbers and, where the file has one, result of each stored case.
 fn cases(file: &str, numbers: usize) -> Vec<(Vec<u8>, Vec<u64>, Vec<u8>)> {
@@ -39,10 +40,14 @@ fn bytes(hex: &str) -> Vec<u8> {
     }
 }
 
-fn check_writing(file: &str, function: Writing, count: usize, ample: fn(&Sheet) -> Answer) {
-    for (sheet, numbers, result) in cases(file, 1 + count) {
+fn check_writing(file: &str, function: Writing, sort: Numbers, ample: fn(&Sheet) -> Answer) {
+    for (sheet, numbers, result) in cases(file, 1 + sort.count) {
         let (room, numbers) = (numbers[0] as usize, numbers[1..].to_vec());
-        let stored = Answer { numbers, result };
+        let stored = Answer {
+            sort,
+            numbers,
+            result,
+        };
         assert_eq!(
             ample(&Sheet::new(&sheet)).in_room(room),
             stored,
@@ -50,7 +55,8 @@ fn check_writing(file: &str, function: Writing, count: usize, ample: fn(&Sheet) 
         );
 
         let mut given = Answer {
-            numbers: vec![0; count],
+            sort,
+            numbers: vec![0; sort.count],
             result: vec![0; room],
         };
         assert!(function(&sheet, &mut given.result, &mut given.numbers));
@@ -82,7 +88,7 @@ fn lines() {
 
 #[test]
 fn lookups() {
-    for (sheet, numbers, _) in cases("lookup.txt", 4 + LOOKUP_NUMBERS) {
+    for (sheet, numbers, _) in cases("lookup.txt", 4 + LOOKUP_NUMBERS.count) {
         let (moment, stored) = numbers
             .split_first_chunk()
             .expect("a moment has four numbers");
@@ -92,7 +98,7 @@ fn lookups() {
             "expected of {sheet:02X?} at {moment:?}"
         );
 
-        let mut given = vec![0; LOOKUP_NUMBERS];
+        let mut given = vec![0; LOOKUP_NUMBERS.count];
         assert!(archive::lookup(&sheet, *moment, &mut given));
         assert_eq!(given, stored, "given for {sheet:02X?} at {moment:?}");
     }

@@ -5,6 +5,7 @@ use std::fmt::{Display, Formatter, Result};
 use crate::line::{REASONS, Unsaid};
 use crate::points::{BOX_LIMIT, Extent, LIST_LIMIT};
 use crate::rule::{ITEM_LIMIT, RULE_LIMIT, Rule};
+use crate::why::{Reasons, WHYS};
 
 /// Codes go from 0 to 10.
 const CODES: usize = 11;
@@ -76,6 +77,33 @@ fn day_items(rule: &Rule) -> [usize; 4] {
     ]
 }
 
+/// Why accepted folds stopped, and at how many of them the first rule left had more than one reason.
+#[derive(Default)]
+struct Stopped {
+    whys: [u64; WHYS],
+    for_several: u64,
+}
+
+impl Stopped {
+    fn add(&mut self, other: &Self) {
+        add_each(&mut self.whys, &other.whys);
+        self.for_several += other.for_several;
+    }
+}
+
+impl Display for Stopped {
+    fn fmt(&self, f: &mut Formatter<'_>) -> Result {
+        let whys = self.whys.iter().copied().enumerate();
+
+        writeln!(f, "  folds by why: {}", met(whys))?;
+        write!(
+            f,
+            "  folds stopped for two or more reasons: {}",
+            self.for_several
+        )
+    }
+}
+
 /// What lines came out as.
 #[derive(Default)]
 struct Lines {
@@ -116,6 +144,7 @@ pub struct Tally {
     drained: Sizes,
     emitted: Sizes,
     left: Sizes,
+    stopped: Stopped,
 }
 
 impl Tally {
@@ -134,6 +163,12 @@ impl Tally {
     pub fn accepted_fold(&mut self, rules: &[Rule], extent: Extent, inside: bool) {
         self.folded_whole += u64::from(inside);
         self.at_limits.count(rules, extent);
+    }
+
+    /// The reasons of the first rule left by an accepted fold.
+    pub fn stopped(&mut self, reasons: Reasons) {
+        self.stopped.whys[reasons.first()] += 1;
+        self.stopped.for_several += u64::from(reasons.count() > 1);
     }
 
     pub fn lookup(&mut self, numbers: &[u64]) {
@@ -163,6 +198,7 @@ impl Tally {
         add_each(&mut self.drained.0, &other.drained.0);
         add_each(&mut self.emitted.0, &other.emitted.0);
         add_each(&mut self.left.0, &other.left.0);
+        self.stopped.add(&other.stopped);
     }
 }
 
@@ -186,6 +222,7 @@ impl Display for Tally {
         writeln!(f, "  drained {}", self.drained)?;
         writeln!(f, "  emitted {}", self.emitted)?;
         writeln!(f, "  left {}", self.left)?;
+        writeln!(f, "{}", self.stopped)?;
         write!(f, "{}", self.lines)
     }
 }

@@ -1,10 +1,10 @@
 //! Sheets that a line can say: of those made anyhow few have a line, so that some are made to have one, and some all but.
 
-use crate::points::is_plain_weekday;
 use crate::random::Random;
 use crate::rule::{MONTHS, NORMAL, Rule, Span, Stepped, Time, fixed, fixed_time};
 use crate::stock::{MINUTES, variable_time};
 use crate::stoppers::{stopping_monthday, stopping_weekday};
+use crate::why::is_plain_weekday;
 
 /// Takes away all that a line can't say, and adds operators of every sort and numbers of every length.
 pub fn make_sayable(rules: &mut Vec<Rule>, random: &mut Random, rising: bool) {
@@ -81,18 +81,13 @@ pub fn add_unsaid(rules: &mut [Rule], random: &mut Random) {
     let index = random.below(rules.len());
     let rule = &mut rules[index];
     match random.below(7) {
-        0 => insert(random, &mut rule.monthdays, stopping_monthday),
-        1 | 2 => insert(random, &mut rule.weekdays, stopping_weekday),
-        3 => insert(random, &mut rule.spans, variable_span),
-        4 => insert(random, &mut rule.spans, repeated_span),
+        0 => random.insert(&mut rule.monthdays, stopping_monthday),
+        1 | 2 => random.insert(&mut rule.weekdays, stopping_weekday),
+        3 => random.insert(&mut rule.spans, variable_span),
+        4 => random.insert(&mut rule.spans, repeated_span),
         5 => rule.spans.clear(),
         _ => rules[0].operator = random.within(1, 2),
     }
-}
-
-fn insert<T>(random: &mut Random, items: &mut Vec<T>, item: fn(&mut Random) -> T) {
-    let place = random.below(items.len() + 1);
-    items.insert(place, item(random));
 }
 
 fn variable_span(random: &mut Random) -> Span {

@@ -12,12 +12,12 @@ returns : tie.Need-returns
 returns c =
     let branch = c .before in
     let args = branch .before .args in
-    (sym (ap (λ b. cond b (getD (args .begins .now) (args .rules) 0) (args .end)) (lt-ltb _ _ (branch .if1 .taken))), refl, refl)
+    (sym (ap (λ b. cond b (getD (args .begins .now) (args .rules) 0) (args .end)) (lt-ltb _ _ (branch .if1 .taken))), refl, refl, refl)
 
 returns-2 : tie.Need-returns-2
 returns-2 c =
     let args = c .before .args in
-    (sym (ap (λ b. cond b (getD (args .begins .now) (args .rules) 0) (args .end)) (le-ltb _ _ (c .if1 .left))), refl, omega arith)
+    (sym (ap (λ b. cond b (getD (args .begins .now) (args .rules) 0) (args .end)) (le-ltb _ _ (c .if1 .left))), refl, omega arith, refl)
 
 pub rules-left-spec : {M : Type 1} → statement M
 rules-left-spec =

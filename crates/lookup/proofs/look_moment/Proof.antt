@@ -20,7 +20,7 @@ preparing c = c .before .before .before .before .before .before .before .before 
 few : (c : tie.After-prepare) → c .prepare .result .rules ≤ 64
 few c =
     let read = c .before .before .before .before .before .before .before .before .before .before .before .before .pre .0 .1 .1 in
-    c .prepare .ensures _ _ (read .0) (read .1) .drawable .0 .few-rules
+    c .prepare .ensures _ _ (read .0) (read .1) .0 .drawable .0 .few-rules
 
 -- and, where they are looked at, few boxes
 few-boxes : (c : tie.Else1) → preparing (c .before) .prepare .result .boxes ≤ 1024
@@ -44,7 +44,7 @@ prepare-requires c κs =
 returns : tie.Need-returns
 returns c =
     let p = preparing (c .before .before) in λ rs end reading many.
-    boxes-refused rs _ _ _ _ (p .prepare .ensures rs end reading many .boxes-many)
+    boxes-refused rs _ _ _ _ (p .prepare .ensures rs end reading many .0 .boxes-many)
     (ltb-true _ _ (sym (c .before .before .boxes-over .ensures) ∙ c .before .if1 .taken)) (c .lookup-refused .ensures)
 
 mul-places : tie.Need-mul-places
@@ -84,7 +84,7 @@ sub-look-boxes : tie.Need-sub-look-boxes
 sub-look-boxes c =
     let p = preparing (c .before .before .before .before .before .before .before .before .before .before) in
     let read = p .before .before .before .before .before .before .before .before .before .before .before .before .pre .0 .1 .1 in
-    drained-within _ _ _ _ _ _ _ _ _ _ _ (p .prepare .ensures _ _ (read .0) (read .1)) _ (read .1)
+    drained-within _ _ _ _ _ _ _ _ _ _ _ (p .prepare .ensures _ _ (read .0) (read .1) .0) _ (read .1)
 
 look-boxes-requires : tie.Need-look-boxes-requires
 look-boxes-requires c κs =
@@ -94,7 +94,7 @@ look-boxes-requires c κs =
     let read = pre .0 .1 .1 in (
       (
         _,
-        prepared-lookable _ _ _ _ _ _ _ _ _ _ _ (p .prepare .ensures _ _ (read .0) (read .1)) _ (read .1) (few-boxes branch)
+        prepared-lookable _ _ _ _ _ _ _ _ _ _ _ (p .prepare .ensures _ _ (read .0) (read .1) .0) _ (read .1) (few-boxes branch)
             (omega (arith, few p, p .prepare .kept .1 .1 .1 .0)),
       ),
       pre .1,
@@ -105,7 +105,7 @@ returns-2 c =
     let branch = c .before .before .before .before .before .before .before .before .before .before in
     let p = preparing (branch .before) in λ rs end reading many.
     c .look-boxes .ensures rs
-    (prepared-lookable _ _ _ _ _ _ _ _ _ _ _ (p .prepare .ensures rs end reading many) _ many (few-boxes branch) (omega (arith, few p, p .prepare .kept .1 .1 .1 .0)))
+    (prepared-lookable _ _ _ _ _ _ _ _ _ _ _ (p .prepare .ensures rs end reading many .0) _ many (few-boxes branch) (omega (arith, few p, p .prepare .kept .1 .1 .1 .0)))
 
 pub look-moment-spec : {M : Type 1} → statement M
 look-moment-spec =

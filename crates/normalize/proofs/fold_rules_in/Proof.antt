@@ -23,7 +23,7 @@ start c = c .before .before .before .before .before .before .before .before .bef
 within : (c : tie.After-prepare) → c .prepare .result .rules ≤ start c .args .count
 within c =
     let read = start c .pre .0 .1 in
-    drained-within _ _ _ _ _ _ _ _ _ _ _ (c .prepare .ensures _ _ (read .0) (read .1)) _ (read .1)
+    drained-within _ _ _ _ _ _ _ _ _ _ _ (c .prepare .ensures _ _ (read .0) (read .1) .0) _ (read .1)
 
 prepare-requires : tie.Need-prepare-requires
 prepare-requires c κs =
@@ -36,7 +36,7 @@ returns c =
     let p = preparing (c .before .before) in
     let args = start p .args in
     let read = start p .pre .0 .1 in
-    let prepared = p .prepare .ensures _ _ (read .0) (read .1) in
+    let prepared = p .prepare .ensures _ _ (read .0) (read .1) .0 in
     boxes-refused (args .sheet .now) (args .out .now) _ _ _ (read .0 .read) _ (prepared .boxes-many)
     (ltb-true _ _ (sym (c .before .before .boxes-over .ensures) ∙ c .before .if1 .taken)) (c .fold-refused .ensures)
 
@@ -44,7 +44,7 @@ mul-places : tie.Need-mul-places
 mul-places c =
     let p = preparing (c .before) in
     let read = start p .pre .0 .1 in
-    search (needs, p .prepare .ensures _ _ (read .0) (read .1) .drawable .0 .few-rules)
+    search (needs, p .prepare .ensures _ _ (read .0) (read .1) .0 .drawable .0 .few-rules)
 
 rules-left-requires : tie.Need-rules-left-requires
 rules-left-requires c κs =
@@ -93,14 +93,15 @@ fold-boxes-requires c κs =
     let known = p .before .before .before .before .before .before .before .before .before .before .before .before .before .before .before .before .before .before .before .shared-slice-known in
     let bytes = known-bytes sheet (λ j. omega (arith, known .given j)) in
     let read = start p .pre .0 .1 in
-    let prepared = p .prepare .ensures _ _ (read .0) (read .1) in
+    let told = p .prepare .ensures _ _ (read .0) (read .1) in
+    let prepared = told .0 in
     let left = c .before .before .before .before .before .before .before .before .before .before .rules-left .ensures in (
       start p .pre .0 .0,
       record {
         end = start p .args .end;
         read = read .0 .read;
-        leaving = rules-leaving sheet bytes _ _ _ (read .0) _ _ (prepared .rules-many) (read .1) _ _ _ _ (left .0) (left .1) (left .2)
-            (length-take-le _ _ (omega (arith, within p, start p .pre .1 .0 .0, p .prepare .kept .1 .1 .1 .0)));
+        leaving = rules-leaving sheet bytes _ _ _ (read .0) _ _ (prepared .rules-many) (read .1) _ _ _ _ _ (left .0) (left .1) (left .2)
+            (length-take-le _ _ (omega (arith, within p, start p .pre .1 .0 .0, p .prepare .kept .1 .1 .1 .0))) (left .3 ∙ told .1);
         to-draw = prepared-to-draw _ _ _ _ _ _ _ _ _ _ _ prepared (ltb-false _ _ (sym (branch .before .boxes-over .ensures) ∙ branch .if1 .left))
             (omega (arith, within p, start p .pre .1 .0 .0, p .prepare .kept .1 .1 .1 .0));
       },

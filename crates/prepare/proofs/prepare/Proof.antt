@@ -1,7 +1,7 @@
 -- `prepare::prepare` meets its contract: the rules drained are those of the sheet, and their ranges can be cut at.
 use native.Mathlib.Omega.{arith}
 use Rattle.field.proofs.Bytes.{known-bytes}
-use Rattle.prepare.proofs.Reading.{rules-begin, begins-there, drained-few, drained-days, sheet-prepared}
+use Rattle.prepare.proofs.Reading.{rules-begin, begins-there, why-read, drained-few, drained-days, sheet-prepared}
 use Rattle.prepare.proofs.prepare.Statement.{statement}
 use Rattle.prepare.proofs.prepare.Tie as tie
 
@@ -34,9 +34,9 @@ cut-all-requires c κs =
     let read = pre .0 .1 .1 in
     let drain = drain-step .drain in
     let bytes = known-bytes sheet (λ j. omega (arith, known drain-step .shared-slice-known .given j)) in
-    let few = drained-few sheet bytes _ _ _ _ (read .0) (read .1) _ _ _ _ _ _ _ (drain .ensures .0) (drain .ensures .1) in
+    let few = drained-few sheet bytes _ _ _ _ (read .0) (read .1) _ _ _ _ _ _ _ (drain .ensures .0) (drain .ensures .2) in
     let kept = drain .kept .1 .1 .1 .1 .1 .1 .1 in
-    let days = drained-days sheet bytes _ _ _ _ (read .0) (read .1) _ _ _ _ _ _ _ (drain .ensures .0) (drain .ensures .1)
+    let days = drained-days sheet bytes _ _ _ _ (read .0) (read .1) _ _ _ _ _ _ _ (drain .ensures .0) (drain .ensures .2)
     (omega (arith, kept .0, pre .1 .1 .0 .0)) (omega (arith, kept .1 .0, pre .1 .1 .0 .1)) in
     ((_, days), (pre .1 .1 .1 .0, pre .1 .1 .1 .1, omega (arith, few, pre .1 .1 .1 .2)))
 
@@ -50,13 +50,15 @@ returns c =
     let drain = drain-step .drain in
     let kept = drain .kept .1 .1 .1 in
     let bytes = known-bytes sheet (λ j. omega (arith, known drain-step .shared-slice-known .given j)) in
-    λ rs end reading many. let days = drained-days sheet bytes _ rs end _ reading many _ _ _ _ _ _ _ (drain .ensures .0) (drain .ensures .1)
+    λ rs end reading many. let days = drained-days sheet bytes _ rs end _ reading many _ _ _ _ _ _ _ (drain .ensures .0) (drain .ensures .2)
     (omega (arith, kept .1 .1 .1 .1 .0, pre .1 .1 .0 .0)) (omega (arith, kept .1 .1 .1 .1 .1 .0, pre .1 .1 .0 .1)) in
-    let cut = cut-all .cut-all .ensures _ days in
-    sheet-prepared sheet bytes _ rs end _ reading many _ _ _ _ _ _ _ (drain .ensures .0) (drain .ensures .1)
-    (omega (arith, kept .1 .1 .1 .1 .0, pre .1 .1 .0 .0)) (omega (arith, kept .1 .1 .1 .1 .1 .0, pre .1 .1 .0 .1)) (omega (arith, kept .0, pre .1 .0 .0))
-    (omega (arith, kept .1 .0, pre .1 .0 .1)) (omega (arith, kept .1 .1 .0, pre .1 .0 .2)) (omega (arith, kept .1 .1 .1 .0, pre .1 .0 .3)) _ _ _ _
-    (cut .0) (cut .1)
+    let cut = cut-all .cut-all .ensures _ days in (
+      sheet-prepared sheet bytes _ rs end _ reading many _ _ _ _ _ _ _ (drain .ensures .0) (drain .ensures .2)
+          (omega (arith, kept .1 .1 .1 .1 .0, pre .1 .1 .0 .0)) (omega (arith, kept .1 .1 .1 .1 .1 .0, pre .1 .1 .0 .1)) (omega (arith, kept .0, pre .1 .0 .0))
+          (omega (arith, kept .1 .0, pre .1 .0 .1)) (omega (arith, kept .1 .1 .0, pre .1 .0 .2)) (omega (arith, kept .1 .1 .1 .0, pre .1 .0 .3)) _ _ _ _ _
+          (cut .0) (cut .1),
+      why-read sheet bytes _ rs end _ reading many _ (drain .ensures .1),
+    )
 
 pub prepare-spec : {M : Type 1} → statement M
 prepare-spec =

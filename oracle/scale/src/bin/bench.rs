@@ -78,8 +78,8 @@ fn profile(sheets: &[BenchSheet], call: Call, sheet: usize, runs: usize) {
     }
 }
 
-/// The six numbers of a fold.
-fn fold(sheet: &[u8], out: &mut [u8]) -> [u64; 6] {
+/// The seven numbers of a fold.
+fn fold(sheet: &[u8], out: &mut [u8]) -> [u64; 7] {
     numbers(archive::fold, sheet, out)
 }
 

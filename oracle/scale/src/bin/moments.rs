@@ -56,7 +56,7 @@ const ROOM: usize = 1 << 16;
 /// The line of the sheet's fold, where nothing is left and there is one.
 fn line_of_fold(sheet: &[u8]) -> Option<String> {
     let mut folded = vec![0; ROOM];
-    let [code, _, _, left, bytes, _] = archive::numbers(archive::fold, sheet, &mut folded);
+    let [code, _, _, left, bytes, _, _] = archive::numbers(archive::fold, sheet, &mut folded);
     if (code, left) != (0, 0) {
         return None;
     }

@@ -13,14 +13,14 @@ start c = c .before .before .before .before
 put-folded-requires : tie.Need-put-folded-requires
 put-folded-requires c κs =
     let branch = c .before .before .before .before .before in
-    has-room 6 (length (start (branch .before) .args .lent .now)) _ (branch .before .lacks-room .ensures) (branch .if1 .left)
+    has-room 7 (length (start (branch .before) .args .lent .now)) _ (branch .before .lacks-room .ensures) (branch .if1 .left)
 
 returns-2 : tie.Need-returns-2
 returns-2 c =
     let put = c .before .before in
     let branch = put .before .before .before .before .before .before in
     let answer = put .before .before .before .before .fold .ensures in (
-      long-enough 6 (length (start (branch .before) .args .lent .now)) _ (branch .before .lacks-room .ensures) (branch .if1 .left),
+      long-enough 7 (length (start (branch .before) .args .lent .now)) _ (branch .before .lacks-room .ensures) (branch .if1 .left),
       put .put-folded .ensures ∙ ap (λ n. buffer n (start (branch .before) .args .lent .now)) (answer .0),
       answer .1,
     )
@@ -29,5 +29,5 @@ pub hours-fold-spec : {M : Type 1} → statement M
 hours-fold-spec =
     tie.close
     (tie.spec (λ c κs. search needs)
-    (λ c. (too-short 6 (length (start (c .before) .args .lent .now)) _ (c .before .lacks-room .ensures) (c .if1 .taken), refl, refl))
+    (λ c. (too-short 7 (length (start (c .before) .args .lent .now)) _ (c .before .lacks-room .ensures) (c .if1 .taken), refl, refl))
     (λ c κs. search needs) put-folded-requires (λ c. search needs) (λ c. search needs) returns-2)

@@ -1,0 +1,4 @@
+pub mod Items
+pub mod Order
+pub mod Rows
+pub mod Meaning
