@@ -25,7 +25,6 @@ pub mod Writing
 pub mod Worked
 pub mod WorkedLines
 pub mod WorkedDates
-pub mod WorkedReasons
 pub mod Drained
 pub mod Why
 pub mod FoldCases

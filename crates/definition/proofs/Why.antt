@@ -1,5 +1,5 @@
--- WHY THE FOLD STOPPED: a rule stops exactly when it has a reason, and the reason told is that of the first rule left. Rests on the definition
--- and on the laws of draining alone.
+-- WHY THE FOLD STOPPED: the worked reasons, computed; a rule stops exactly when it has a reason; and the reason told is that of the first rule
+-- left. Rests on the definition and on the laws of draining alone.
 use mathlib.Core.Path.{_≡_, refl, ap, _∙_}
 use mathlib.Core.Bool.{Bool, true, false, _||_, not, cond}
 use mathlib.Core.List.{List, [], _∷_}
@@ -7,11 +7,25 @@ use Prim.Native.Nat.{suc, _<_}
 use native.Mathlib.Omega.{arith}
 use lib.Dec.{eqb}
 use lib.ListN.{length, getD}
-use Rattle.laws.specs.Lists.{anyOf}
-use Rattle.laws.proofs.Lists.{anyOf-either}
+use borrow.Author.Tests.{eqb-true}
+use Rattle.laws.specs.Lists.{every, anyOf, All}
+use Rattle.laws.proofs.Lists.{every-all, anyOf-either}
 use Rattle.definition.specs.Rule.{Rule, noRule}
 use Rattle.definition.specs.Stop.{isFallback, spanStops, yearStops, weekStops, monthdayStops, isHoliday, isMoved, lacksNth, stops, firstThatApplies, reason, drained, left, why}
+use Rattle.definition.specs.WorkedReasons.{Case, Worked, cases}
 use Rattle.definition.proofs.Drained.{left-behind}
+
+-- ## The worked reasons
+agrees : Case → Bool
+agrees c = eqb (why (c .rules)) (c .number)
+
+computed : every agrees cases ≡ true
+unfolding agrees every anyOf stops firstThatApplies reason left why
+computed = refl
+
+pub worked : All Worked cases
+unfolding agrees
+worked = every-all Worked agrees (λ c h. eqb-true _ _ h) cases computed
 
 -- A RULE STOPS EXACTLY WHEN IT HAS A REASON
 pub stops-reason : (r : Rule) → stops r ≡ not (eqb (reason r) 0)
