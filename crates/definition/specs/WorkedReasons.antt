@@ -81,7 +81,8 @@ alone =
     ∷ tells (on (firstMonday ∷ []) ∷ []) 8
     ∷ []
 
--- Fallback before all; time, which stands last, before years; and so on, a later item's reason before an earlier one's
+-- Fallback before all; time, which stands last, before years; years before monthdays, these before weeks, weeks before weekdays, each by an item
+-- behind a plain one; a holiday and an offset behind an item whose reason comes later
 abbrev ordered : List Case
 ordered =
     tells (rule Fallback (years 2 ∷ []) (dated 7 ∷ []) (weeks 2 ∷ []) (feast ∷ dayAfter ∷ firstMonday ∷ []) (tonight ∷ []) ∷ []) 1

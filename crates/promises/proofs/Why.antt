@@ -5,16 +5,16 @@ use mathlib.Core.Logic.{inl, inr}
 use mathlib.Core.Bool.{Bool, true, false, not, true≢false, false≢true}
 use Prim.Native.Nat.{ℕ, suc, _≤_, _<_}
 use native.Mathlib.Omega.{arith}
-use lib.Dec.{eqb, ltb}
+use native.Mathlib.Nat.{lt-of-not-le, le-of-suc-le-suc}
+use lib.Dec.{eqb}
 use lib.ListN.{length, drop}
-use borrow.Author.Tests.{ltb-true, ltb-false}
 use Rattle.laws.specs.Lists.{All, Mem}
 use Rattle.definition.specs.Rule.{Rule}
 use Rattle.definition.specs.Sheet.{Form, Limits, encode}
 use Rattle.definition.specs.Stop.{stops, firstThatApplies, reasons, reason, drained, left, why}
 use Rattle.definition.specs.Group.{folded}
 use Rattle.definition.proofs.Drained.{left-behind}
-use Rattle.definition.proofs.Why.{stops-reason}
+use Rattle.definition.proofs.Why.{stops-reason, why-none}
 use Rattle.promises.specs.Why.{FirstReason, FirstStopper, untilReason, WhyTold, WhyNothing, AsBefore}
 use Rattle.promises.proofs.Counts.{counted-rules}
 
@@ -49,12 +49,8 @@ given-first (false ∷ bs) n k e f = let h = given-first bs (suc n) k e f in (in
     later j l (inl z) h = true≢false (ap (λ x. x .1) z)
     later j l (inr m) h = h j l m
 
-not-less : (a b : ℕ) → (a < b → ⊥) → b ≤ a
-not-less a b h = go (ltb a b) refl
-  where
-    go : (t : Bool) → ltb a b ≡ t → b ≤ a
-    go true e = absurd (h (ltb-true a b e))
-    go false e = ltb-false a b e
+not-less : {a b : ℕ} → (a < b → ⊥) → b ≤ a
+not-less h = le-of-suc-le-suc (lt-of-not-le h)
 
 -- ## The reason of a rule
 module _ (r : Rule) where
@@ -70,7 +66,7 @@ module _ (r : Rule) where
   unfolding reason numbered map
   first-reason k h =
       let first = reason-first (reason r) refl (some-given tests 1 k (omega arith) (h .0)) in
-      omega (arith, not-less (reason r) k (λ l. h .1 (reason r) l (first .0)), not-less k (reason r) (λ l. first .1 k l (h .0)))
+      omega (arith, not-less (λ (l : reason r < k). h .1 (reason r) l (first .0)), not-less (λ (l : k < reason r). first .1 k l (h .0)))
 
 stopper-reason : (r : Rule) → stops r ≡ true → reason r ≡ 0 → ⊥
 stopper-reason r s e = false≢true (ap (λ n. not (eqb n 0)) (sym e) ∙ sym (stops-reason r) ∙ s)
@@ -110,14 +106,13 @@ until-drained (r ∷ rs) = go (eqb (reason r) 0) refl (until-drained rs)
     go true e ih = rw (e, stops-reason r ∙ ap not e, untilReason, drained) (ap (r ∷_) ih)
     go false e ih = rw (e, stops-reason r ∙ ap not e, untilReason, drained) refl
 
-why-empty : (rs : List Rule) → left rs ≡ [] → why rs ≡ 0
-unfolding why
-why-empty rs e = rw (e, why) refl
-
 -- ## What was left, and why
 module _ (rs : List Rule) where
+  told-none : length (left rs) ≡ 0 → why rs ≡ 0
+  told-none h = why-none rs (omega (arith, h, left-behind rs .1))
+
   first-told : (k : ℕ) → (k ≡ 0 → ⊥) → (qs : List Rule) → left rs ≡ qs → why rs ≡ k → (r : Rule) × FirstStopper rs r × FirstReason r k
-  first-told k f [] l h = absurd (f (sym h ∙ why-empty rs l))
+  first-told k f [] l h = absurd (f (sym h ∙ told-none (ap length l)))
   first-told k f (r ∷ after) l h = (r, left-first rs r after l, reason-first r k (sym (why-of rs r after l) ∙ h) f)
 
   told-first : (k : ℕ) (r : Rule) → FirstStopper rs r → FirstReason r k → why rs ≡ k
@@ -126,10 +121,6 @@ module _ (rs : List Rule) where
   none-told : (qs : List Rule) → left rs ≡ qs → why rs ≡ 0 → length (left rs) ≡ 0
   none-told [] l h = ap length l
   none-told (r ∷ after) l h = absurd (stopper-reason r ((left-first rs r after l) .halts) (sym (why-of rs r after l) ∙ h))
-
-  told-none : (qs : List Rule) → left rs ≡ qs → length (left rs) ≡ 0 → why rs ≡ 0
-  told-none [] l h = why-empty rs l
-  told-none (r ∷ after) l h = absurd (omega (arith, h, ap length l))
 
 module _ (form : Form) (limits : Limits) (room : ℕ) (sheet : List ℕ) where
   -- THE NUMBER, both ways
@@ -144,7 +135,7 @@ module _ (form : Form) (limits : Limits) (room : ℕ) (sheet : List ℕ) where
       let told = counted-rules form limits room sheet e rs a in
       record {
         only = λ h. told .left-counted ∙ none-told rs (left rs) refl (sym (told .why-told) ∙ h);
-        always = λ h. told .why-told ∙ told-none rs (left rs) refl (sym (told .left-counted) ∙ h);
+        always = λ h. told .why-told ∙ told-none rs (sym (told .left-counted) ∙ h);
       }
 
   -- DRAINED RULES AND BYTES AS BEFORE
