@@ -26,6 +26,7 @@ TITLES = {  # the chapters in their order: no file stands before one that it res
     "definition/specs/Range": "From items to ranges",
     "definition/specs/Stop": "Rules that stop the fold",
     "definition/specs/Point": "From rules to lists at points",
+    "definition/specs/Overlap": "Days typed twice",
     "definition/specs/Day": "From a list to a day",
     "definition/specs/Group": "From points to rules",
     "definition/specs/Box": "The number of boxes",
@@ -37,6 +38,7 @@ TITLES = {  # the chapters in their order: no file stands before one that it res
     "definition/specs/Date": "Dates and their weeks",
     "definition/specs/Lookup": "The state lookup",
     "definition/specs/Worked": "Worked days",
+    "definition/specs/WorkedOverlaps": "Worked overlaps",
     "definition/specs/WorkedLines": "Worked lines",
     "definition/specs/WorkedDates": "Worked dates",
     "definition/specs/WorkedReasons": "Worked reasons",
@@ -103,6 +105,7 @@ tables of worked cases, which are proved of the definition, and last what comput
 | `length xs`, `take n xs`, `drop n xs`, `getD xs n d` | how many; the first n, or all there are; the list without these; the one at place n, from 0, or d where there is none |
 | `map f xs`, `flatMap f xs`, `sum h xs` | f of each; f of each, a list, joined one behind the other; the sum of h of each |
 | `every t xs`, `anyOf t xs`, `count t xs`, `keep t xs` | do all pass the test t; does one at least; how many do; those that do, in order |
+| `anyPair t xs`, `firstIndex t xs` | does one element pass the test t with a later one; `some` index of the first that passes a test, from 0, or `none` |
 | `from s n`, `replicate n x` | the n numbers from s on; n times x |
 | `Option A`, `none`, `some x`, `Option·map f o` | an A or nothing; nothing; the value x; f of the value, if there is one |
 | `onlyIf t x`, `firstOf h xs` | `some x` if t is true, else `none`; the first `some` among h of each, else `none` |

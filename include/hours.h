@@ -26,7 +26,7 @@
 extern "C" {
 #endif
 
-/* The code of an answer: done, or the first reason to refuse, in the order 1, 2 and 4 as met from the first bit on, then 3, 8, 5, 6,
+/* The code of an answer: done, or the first reason to refuse, in the order 1, 2 and 4 as met from the first bit on, then 3, 8, 11, 5, 6,
  * 9, 10, 7. The place that goes with it stands in brackets; bits and rules are counted from 0, bits from the most significant one on. */
 enum hours_code {
     HOURS_DONE = 0,       /* done [0] */
@@ -39,7 +39,9 @@ enum hours_code {
     HOURS_NO_ROOM = 7,    /* `out` is shorter than the result [bytes needed] */
     HOURS_NO_DATE = 8,    /* lookup only: no such date or minute [0] */
     HOURS_UNSETTLED = 9,  /* lookup only: a rule is left, or the point's list holds a span that isn't simple [0] */
-    HOURS_NO_LINE = 10    /* line only: a rule holds what no line says [the first such rule's index] */
+    HOURS_NO_LINE = 10,   /* line only: a rule holds what no line says [the first such rule's index] */
+    HOURS_OVERLAP = 11    /* fold and lookup only: two ranges of one day selector of a drained rule share a value, so that a day is
+                             named twice; ranges that only touch are fine [the first such rule's index] */
 };
 
 /* Bytes of stack: more than twice what the deepest call of the bench took (oracle/README.md). That a stack is deep enough is not
@@ -68,7 +70,7 @@ enum hours_why {
 
 /* The numbers of a fold, and how many they are. */
 enum hours_fold_number {
-    HOURS_FOLD_CODE,    /* an hours_code: 0 to 7 */
+    HOURS_FOLD_CODE,    /* an hours_code: 0 to 7 or 11 */
     HOURS_FOLD_DRAINED, /* rules before the first one that can't be folded exactly */
     HOURS_FOLD_EMITTED, /* rules that these were folded to */
     HOURS_FOLD_LEFT,    /* rules copied as they came, from the first one that can't be folded on */
@@ -80,7 +82,7 @@ enum hours_fold_number {
 
 /* The numbers of a lookup, and how many they are. */
 enum hours_lookup_number {
-    HOURS_LOOKUP_CODE,    /* an hours_code: 0 to 6, 8 or 9 */
+    HOURS_LOOKUP_CODE,    /* an hours_code: 0 to 6, 8, 9 or 11 */
     HOURS_LOOKUP_KIND,    /* an hours_kind */
     HOURS_LOOKUP_COMMENT, /* the comment's number, 0 for none */
     HOURS_LOOKUP_PLACE,   /* the code's place */

@@ -2,7 +2,8 @@
 
 All answers are the reference's. Folds inside the Rust's domain are held against the built oracle while the lists are
 made. A case is a line, its fields separated by a space, bytes in upper-case hex and `-` for none; lines that start with
-`#` are remarks. Rests on `reference`, on `cases`, `line_cases` and `why_cases` for the sheets and on `compare` for the oracle.
+`#` are remarks. Rests on `reference`, on `cases`, `line_cases`, `overlap_cases` and `why_cases` for the sheets and on `compare` for
+the oracle.
 """
 
 from __future__ import annotations
@@ -21,11 +22,12 @@ from cases import (
 )
 from compare import fold_line, oracle_lines, verdict
 from line_cases import each_reason, flipped_lines, long_line, named_lines, with_a_line, without_a_line
+from overlap_cases import each_overlap, refused_by_overlaps_too
 from reference.fold import Folded, Written, fold, write_back
 from reference.line import NO_LINE, line, reasons_against
 from reference.lookup import lookup
 from reference.sheet import read_sheet, write_sheet
-from reference.worked import EXAMPLE, FOLDS, NUMBERED_WEEKS, ROOM, check_worked
+from reference.worked import EXAMPLE, FOLDS, NUMBERED_WEEKS, OVERLAPS, ROOM, check_worked
 from why_cases import each_why
 
 DATA = Path(__file__).parent.parent / "crates" / "replay" / "data"
@@ -85,7 +87,7 @@ def telling_dates(sheet: bytes, random: Random) -> Iterable[tuple[int, int, int,
 def fold_lines(seed: int) -> list[str]:
     random = Random(f"{seed}/rooms of folds")
     lines = []
-    for name, sheet in (named_sheets() | twice_refused()).items():
+    for name, sheet in (named_sheets() | twice_refused() | refused_by_overlaps_too()).items():
         needed = fold(sheet, ROOM)[0].bytes
         rooms = dict.fromkeys((ROOM, needed, max(needed - 1, 0), 0))
         lines += [f"# {name}", *(fold_case(sheet, room) for room in rooms)]
@@ -99,15 +101,15 @@ def fold_lines(seed: int) -> list[str]:
     met = set(sheets_in(lines))
     lines += ["# without day items, so that the fold is the day of one list"]
     lines += [fold_in_some_room(sheet, random) for sheet in dict.fromkeys(sheets_of_lists(seed)) if sheet not in met]
-    for name, stopped in each_why().items():
-        lines += [f"# {name}", *(fold_case(write_sheet(rules), ROOM) for rules in stopped)]
+    for name, sheets in (each_overlap() | each_why()).items():
+        lines += [f"# {name}", *(fold_case(write_sheet(rules), ROOM) for rules in sheets)]
     return lines
 
 
 def lookup_lines(seed: int) -> list[str]:
     random = Random(f"{seed}/dates")
     lines = []
-    for name, sheet in (named_sheets() | twice_refused()).items():
+    for name, sheet in (named_sheets() | twice_refused() | refused_by_overlaps_too()).items():
         dates = ((2000, 2, 29, 720), (1900, 2, 29, 720), (2027, 1, 1, 600))
         lines += [f"# {name}", *(lookup_case(sheet, date) for date in dates)]
     lines += ["# dates, and numbers that are no dates"]
@@ -169,7 +171,7 @@ def read_lines(seed: int) -> list[str]:
     lines = []
     for name, sheet in (named_sheets() | twice_refused()).items():
         lines += [f"# {name}", read_case(sheet)]
-    short = {"the example": EXAMPLE, "P9": write_sheet(FOLDS["P9"][0]), "a rule with every sort of item": EVERY_SORT}
+    short = {"the example": EXAMPLE, "P9": write_sheet(OVERLAPS["P9"][0]), "a rule with every sort of item": EVERY_SORT}
     for name, sheet in short.items():
         lines += [f"# every truncation and every flipped bit of {name}", *map(read_case, damaged(sheet))]
     lines += ["# each sort of refusal in reading", *map(read_case, each_refused_sort(seed, 5))]

@@ -9,8 +9,8 @@ from itertools import count, islice
 from random import Random
 from typing import Callable, Iterator
 
-from generate import MINUTES, YEAR_VALUES, Stock, fields_met, flip, overwrite, sheet_number, stop_by_span
-from reference.build import ITEM_OF_SORT, boxes_rule, fixed, hours, plain_rule, weekdays
+from generate import fields_met, flip, overwrite, sheet_number, stop_by_span
+from reference.build import ITEM_OF_ENDS, ITEM_OF_SORT, boxes_rule, fixed, hours, many, plain_rule, weekdays
 from reference.fold import fold
 from reference.points import DIMENSIONS, LIST_LIMIT, Dimension
 from reference.sheet import (
@@ -18,7 +18,8 @@ from reference.sheet import (
     OPEN_END, PADDING, PAST_THE_END, REPEATS, REPEATS_FLAG, RULE_COUNT, RULE_HEAD, RULE_LIMIT, TIME_TAG,
     DatedRange, Field, Holiday, Months, MonthsOfYear, Refusal, Rule, Span, Time, Week, Year, read_sheet, write_sheet,
 )
-from reference.worked import EXAMPLE, FOLDS, LOOKUPS, ROOM, RUNS
+from reference.worked import EXAMPLE, FOLDS, LOOKUPS, OVERLAPS, ROOM, RUNS
+from stock import MINUTES, YEAR_VALUES, Stock
 
 SHORT = 120  # bytes of a sheet that is stored among many
 LAST_NUMBER = 2**64 - 1
@@ -62,13 +63,13 @@ REFUSED_SORTS: list[Sort] = [
 def named_sheets() -> dict[str, bytes]:
     """The document's own cases, and sheets at the limits and one past them."""
     named = {"the example": EXAMPLE, "no bytes": b"", "every sort of item": EVERY_SORT}
-    named |= {name: write_sheet(given) for name, (given, _) in (FOLDS | RUNS).items()}
+    named |= {name: write_sheet(given) for name, (given, _) in (FOLDS | RUNS | OVERLAPS).items()}
     for above in (0, 1):
         rules = [plain_rule(comment=place) for place in range(RULE_LIMIT + above)]
         named[f"{len(rules)} rules"] = write_sheet(rules)
-        for sort, item in ITEM_OF_SORT.items():
-            repeated = (item,) * (ITEM_LIMIT + above)
-            named[f"{len(repeated)} {sort}"] = write_sheet([plain_rule(**{sort: repeated})])
+        for sort in ITEM_OF_SORT:
+            items = many(sort, ITEM_LIMIT + above)
+            named[f"{len(items)} {sort}"] = write_sheet([plain_rule(**{sort: items})])
     named["1024 boxes, no two alike"] = write_sheet(boxes_all_different(comments=False))
     named["1024 boxes, no two alike, longer than 65536 bytes"] = write_sheet(boxes_all_different(comments=True))
     return named
@@ -89,13 +90,12 @@ def boxes_all_different(comments: bool) -> list[Rule]:
 
 def intervals_with_bit(dimension: Dimension, bits: int, bit: int) -> Iterator[tuple]:
     """Single values from the lowest on, and the rest as the last interval: those whose number has the bit."""
-    make = {"years": Year, "weeks": Week, "monthdays": Months}[dimension.items]
     last = 2**bits - 1
     for interval in range(last + 1):
         start = dimension.lowest + interval
         end = dimension.upper - 1 if interval == last else start
         if interval >> bit & 1:
-            yield make(start, end) if make is Months else make(start, end, 1)
+            yield ITEM_OF_ENDS[dimension.items](start, end)
 
 
 def twice_refused() -> dict[str, bytes]:

@@ -1,10 +1,10 @@
 """The reference held against the Rust oracle: `python3 oracle/compare.py --seed N --count N [--any|--days|--halves]`.
 
 Generated sheets go to both; counts are printed and, where the two differ, the smallest inputs. Exit status 1 on any
-difference. Why a fold stopped isn't compared: the Rust tells no reason. The sheets stay inside the Rust's domain, but with
-`--any`. `--days` compares days of lists in place of folds. `--halves` takes drained rules alone, and the Rust, whose years
-and weeks don't wrap, gets those that do as their two halves. Rests on the built oracle (oracle/target/release/oracle), on
-`generate` and on `reference`.
+difference. Why a fold stopped isn't compared: the Rust tells no reason. Nor is a sheet that code 11 refuses, for ranges that
+overlap: the Rust folds it. The sheets stay inside the Rust's domain, but with `--any`. `--days` compares days of lists in place
+of folds. `--halves` takes drained rules alone, and the Rust, whose years and weeks don't wrap, gets those that do as their two
+halves. Rests on the built oracle (oracle/target/release/oracle), on `generate` and on `reference`.
 """
 
 from __future__ import annotations

@@ -1,9 +1,8 @@
 """A seeded generator of packed sheets: `python3 oracle/generate.py --seed N --count N [--inside]` prints hex lines.
 
-Sheet number i of a seed depends on nothing but the seed, i and `--inside`. Values come from a small stock made for each
-sheet, so that ranges meet and wrap, days repeat and groups grow. `--inside` stays where the Rust's constructors take
-the values as they are: year and week ranges that rise, and steps that they keep. Rests on `reference.sheet` and
-`reference.build`.
+Sheet number i of a seed depends on nothing but the seed, i and `--inside`. Ranges of one selector share values in few
+sheets, and often in rules left. `--inside` stays where the Rust's constructors take the values as they are: year and week
+ranges that rise, and steps that they keep. Rests on `stock`, `reference.sheet`, `reference.build` and `reference.overlap`.
 """
 
 from __future__ import annotations
@@ -12,85 +11,13 @@ import argparse
 from random import Random
 from typing import Iterator
 
-from reference.build import ITEM_OF_SORT, boxes_rule, fixed, weekdays
+from reference.build import ITEM_OF_SORT, boxes_rule, fixed, many
+from reference.overlap import overlaps
 from reference.sheet import (
-    ADDITIONAL, ALL_NTH, CLOSED, FALLBACK, ITEM_LIMIT, NORMAL, NO_REPEATS, OPEN, RULE_LIMIT, UNKNOWN,
-    Cursor, DatedRange, Field, Holiday, Months, MonthsOfYear, Refusal, Rule, Span, Time, Week, Weekdays, Year,
-    bits_at, read_from, write_sheet,
+    ADDITIONAL, ALL_NTH, FALLBACK, ITEM_LIMIT, NO_REPEATS, RULE_LIMIT, Cursor, DatedRange, Field, Holiday, MonthsOfYear,
+    Refusal, Rule, Span, Time, Week, Weekdays, Year, bits_at, read_from, write_sheet,
 )
-
-WEEK_VALUES = (1, 2, 3, 10, 11, 26, 27, 50, 51, 52, 53)
-YEAR_VALUES = (1900, 1901, 1999, 2000, 2001, 2002, 2003, 2024, 2026, 9998, 9999)
-MINUTES = (0, 1, 480, 599, 600, 660, 720, 780, 1080, 1439, 1440)
-COMMENTS, BUSY_COMMENTS = (0, 0, 0, 0, 1, 1, 2, 65535), (0, 1, 2, 3, 4)
-OFFSETS = (0, 0, 30, -30, -1, 32767, -32768)
-
-
-class Stock:
-    """The ranges and spans from which one sheet's rules are put together."""
-
-    def __init__(self, random: Random, inside: bool):
-        self.random = random
-        self.inside = inside
-        years, weeks = random.choice((YEAR_VALUES, range(1900, 10000))), random.choice((WEEK_VALUES, range(1, 54)))
-        self.years = [Year(*self.ends(years, rising=inside), 1) for _ in range(self.variety())]
-        self.months = [Months(*self.ends(range(1, 13))) for _ in range(self.variety())]
-        self.weeks = [Week(*self.ends(weeks, rising=inside), 1) for _ in range(self.variety())]
-        self.weekdays = [weekdays(*self.ends(range(7))) for _ in range(self.variety())]
-        self.comments = COMMENTS
-        self.spans = [self.draining_span() for _ in range(random.randint(1, 5))]
-        if random.random() < 0.4:
-            self.spans += [self.sibling(random.choice(self.spans)) for _ in range(random.randint(1, 3))]
-        if random.random() < 0.2:  # many states painted one over the other
-            self.comments = BUSY_COMMENTS
-            self.spans = [fixed(*sorted(random.sample(MINUTES, 2))) for _ in range(8)] + self.spans[:1]
-
-    def variety(self) -> int:
-        return self.random.choices((0, 1, 2, 3), (20, 30, 30, 20))[0]
-
-    def ends(self, values, rising: bool = False) -> list[int]:
-        ends = self.random.choices(values, k=2)
-        return sorted(ends) if rising else ends
-
-    def draining_span(self) -> Span:
-        random = self.random
-        start, end = sorted(random.sample(MINUTES, 2) if random.random() < 0.7 else random.sample(range(1441), 2))
-        shape = random.choices(("simple", "open_end", "repeats", "both", "variable"), (60, 12, 8, 4, 10))[0]
-        if shape == "variable":
-            return Span(self.variable_time(), Time(0, 0, 1440), random.getrandbits(1), self.some_repeats())
-        open_end = int(shape in ("open_end", "both"))
-        return fixed(start, end, open_end, random.choice((0, 1, 30, 4095)) if shape in ("repeats", "both") else NO_REPEATS)
-
-    def sibling(self, span: Span) -> Span:
-        """A span that differs only in the later parts of the order of spans."""
-        start = span.start if span.start.tag == 0 else span.start._replace(minutes=self.random.choice(OFFSETS))
-        return span._replace(start=start, open_end=self.random.getrandbits(1), repeats=self.some_repeats())
-
-    def variable_time(self) -> Time:
-        return Time(1, self.random.randrange(4), self.random.choice(OFFSETS))
-
-    def some_repeats(self) -> int:
-        return self.random.choice((NO_REPEATS, NO_REPEATS, 0, 1, 90))
-
-    def some(self, items: list) -> tuple:
-        """A few of the items, at times the same one twice."""
-        if not items or self.random.random() < 0.25:
-            return ()
-        return tuple(self.random.choices(items, k=self.random.choices((1, 2, 3), (55, 35, 10))[0]))
-
-    def rule(self) -> Rule:
-        """A rule that drains."""
-        spans = self.random.choices(self.spans, k=self.random.choices((0, 1, 2, 3, 4), (4, 50, 30, 12, 4))[0])
-        return Rule(
-            self.random.choices((NORMAL, ADDITIONAL), (55, 45))[0],
-            self.random.choices((OPEN, CLOSED, UNKNOWN), (50, 25, 25))[0],
-            self.random.choice(self.comments),
-            self.some(self.years), self.some(self.months), self.some(self.weeks), self.some(self.weekdays),
-            tuple(spans),
-        )
-
-    def rules(self) -> list[Rule]:
-        return [self.rule() for _ in range(self.random.choices((1, 2, 4, 7, 12, 20), (6, 14, 30, 30, 15, 5))[0])]
+from stock import MINUTES, YEAR_VALUES, Stock
 
 
 # Stoppers: each makes a draining rule into one that stops.
@@ -158,10 +85,15 @@ def draining(random: Random, inside: bool) -> bytes:
 
 
 def stopped(random: Random, inside: bool) -> bytes:
-    """Stoppers first, in the middle, last, or at several places."""
+    """Stoppers first, in the middle, last, or at several places; often the rules left overlap."""
     stock = Stock(random, inside)
     rules = stock.rules()
-    for place in random.choice(([0], [len(rules) // 2], [-1], [0, -1], [random.randrange(len(rules))])):
+    last = len(rules) - 1
+    places = random.choice(([0], [len(rules) // 2], [last], [0, last], [random.randrange(len(rules))]))
+    if random.random() < 0.5:
+        stock.overlapping = True
+        rules[places[0] :] = [stock.rule() for _ in rules[places[0] :]]
+    for place in places:
         rules[place] = random.choice(STOPPERS)(rules[place], stock)
     return write_sheet(rules)
 
@@ -179,28 +111,28 @@ def boxes_at_the_limit(random: Random, inside: bool) -> bytes:
 
 
 def lists_at_the_limit(random: Random, inside: bool) -> bytes:
-    """Lists of about 32 entries, by single pushes or by ranges that overlap."""
+    """Lists of about 32 entries, at all points or, since the last rules keep their days, at some only."""
     stock = Stock(random, inside)
     length = 32 if inside else random.choice((31, 32, 33, 34))
-    rules = [
-        stock.rule()._replace(operator=ADDITIONAL, years=(), monthdays=(), weeks=(), weekdays=()) for _ in range(length)
-    ]
-    if random.random() < 0.5:
-        overlapping = dict(weekdays=(weekdays(0, 2), weekdays(1, 3)) * 2, weeks=(Week(1, 30, 1), Week(20, 53, 1)))
-        rules[:8] = [stock.rule()._replace(operator=ADDITIONAL, years=(), monthdays=(), **overlapping)]
+    everywhere = length if random.random() < 0.5 else length - random.randint(1, 8)
+    rules = [stock.rule()._replace(operator=ADDITIONAL) for _ in range(length)]
+    rules[:everywhere] = [rule._replace(years=(), monthdays=(), weeks=(), weekdays=()) for rule in rules[:everywhere]]
     return write_sheet(rules)
 
 
 def counts_at_the_limit(random: Random, inside: bool) -> bytes:
-    """64 rules, or 16 items of one sort; without `inside` at times one more."""
+    """64 rules, or 16 items of one sort; without `inside` at times one more. So many months or weekdays overlap: mostly
+    their rule is left."""
     stock = Stock(random, inside)
     above = 0 if inside else random.getrandbits(1)
     if random.random() < 0.2:
         return write_sheet([stock.rule() for _ in range(RULE_LIMIT + above)])
-    sort, item = random.choice(list(ITEM_OF_SORT.items()))
+    sort = random.choice(list(ITEM_OF_SORT))
     rules = stock.rules()
     place = random.randrange(len(rules))
-    rules[place] = rules[place]._replace(**{sort: (item,) * (ITEM_LIMIT + above)})
+    rules[place] = rules[place]._replace(**{sort: many(sort, ITEM_LIMIT + above)})
+    if overlaps(rules[place]) and random.random() < 0.8:
+        rules[place] = stop_by_operator(rules[place], stock)
     return write_sheet(rules)
 
 

@@ -125,6 +125,39 @@ static void test_why(void)
     }
 }
 
+/* Additional Open, 10:00-12:00 with `open_end`: Mo-We,Tu-Th, and Mo-We,Th-Fr, which only touch. */
+static const uint8_t sharing[] = {0x00, 0x01, 0x40, 0x00, 0x00, 0x00, 0x00, 0x00, 0x00, 0x20, 0x04, 0x10,
+                                  0x00, 0x07, 0xFE, 0x2C, 0x00, 0x03, 0xFF, 0x12, 0xC0, 0xB4, 0x20};
+static const uint8_t touching[] = {0x00, 0x01, 0x40, 0x00, 0x00, 0x00, 0x00, 0x00, 0x00, 0x20, 0x04, 0x10,
+                                   0x00, 0x07, 0xFE, 0x70, 0x00, 0x03, 0xFF, 0x12, 0xC0, 0xB4, 0x20};
+
+static void test_overlap(void)
+{
+    paint();
+    CHECK(hours_fold(sharing, sizeof sharing, out, 0, numbers, HOURS_FOLD_NUMBERS));
+    CHECK(numbers[HOURS_FOLD_CODE] == HOURS_OVERLAP);
+    CHECK(HOURS_OVERLAP == 11);
+    CHECK(numbers[HOURS_FOLD_DRAINED] == 0);
+    CHECK(numbers[HOURS_FOLD_PLACE] == 0);
+    CHECK(painted(out, sizeof out) && numbers_painted_from(HOURS_FOLD_NUMBERS));
+
+    CHECK(hours_fold(touching, sizeof touching, out, sizeof out, numbers, HOURS_FOLD_NUMBERS));
+    CHECK(numbers[HOURS_FOLD_CODE] == HOURS_DONE);
+    CHECK(numbers[HOURS_FOLD_EMITTED] == 1);
+
+    CHECK(hours_lookup(sharing, sizeof sharing, 2000, 2, 29, 660, numbers, HOURS_LOOKUP_NUMBERS));
+    CHECK(numbers[HOURS_LOOKUP_CODE] == HOURS_OVERLAP);
+    CHECK(hours_lookup(sharing, sizeof sharing, 1900, 2, 29, 660, numbers, HOURS_LOOKUP_NUMBERS));
+    CHECK(numbers[HOURS_LOOKUP_CODE] == HOURS_NO_DATE);
+    CHECK(hours_lookup(touching, sizeof touching, 2000, 2, 29, 660, numbers, HOURS_LOOKUP_NUMBERS));
+    CHECK(numbers[HOURS_LOOKUP_CODE] == HOURS_UNSETTLED);
+
+    CHECK(hours_write_back(sharing, sizeof sharing, out, sizeof out, numbers, HOURS_WRITE_BACK_NUMBERS));
+    CHECK(numbers[HOURS_WRITE_BACK_CODE] == HOURS_DONE);
+    CHECK(hours_line(sharing, sizeof sharing, out, sizeof out, numbers, HOURS_LINE_NUMBERS));
+    CHECK(numbers[HOURS_LINE_CODE] == HOURS_NO_LINE);
+}
+
 static void test_lookup(void)
 {
     paint();
@@ -222,6 +255,7 @@ int main(void)
 {
     test_fold();
     test_why();
+    test_overlap();
     test_lookup();
     test_write_back();
     test_line();

@@ -5,6 +5,9 @@ Rests on `sheet` for the values and on `points` for the dimensions.
 
 from __future__ import annotations
 
+from itertools import cycle, islice
+from typing import Iterable
+
 from .points import DIMENSIONS, Dimension
 from .sheet import ALL_NTH, NORMAL, NO_REPEATS, OPEN, Months, Rule, Span, Time, Week, Weekdays, Year
 
@@ -20,6 +23,15 @@ def hours(start: int, end: int, open_end: int = 0) -> Span:
 def weekdays(start: int, end: int) -> Weekdays:
     return Weekdays(start, end, 0, ALL_NTH, ALL_NTH)
 
+
+# For each sort of days' items the one that drains and has these ends.
+ITEM_OF_ENDS = {
+    "years": lambda start, end: Year(start, end, 1),
+    "monthdays": Months,
+    "weeks": lambda start, end: Week(start, end, 1),
+    "weekdays": weekdays,
+}
+DIMENSION_OF_SORT = {dimension.items: dimension for dimension in DIMENSIONS}
 
 # For each sort of items in a rule one that drains.
 ITEM_OF_SORT = {
@@ -42,13 +54,23 @@ def alternating(dimension: Dimension, intervals: int) -> list[int]:
     return list(range(first, first + intervals // 2 * 2, 2))
 
 
+def singles(sort: str, values: Iterable[int]) -> tuple:
+    """A day's item for each of the values."""
+    return tuple(ITEM_OF_ENDS[sort](value, value) for value in values)
+
+
 def boxes_rule(shape: tuple[int, int, int, int], **parts) -> Rule:
     """One rule whose ranges make so many intervals of weekdays, weeks, months and years."""
-    days, weeks, months, years = map(alternating, DIMENSIONS, shape)
-    return plain_rule(
-        years=tuple(Year(year, year, 1) for year in years),
-        monthdays=tuple(Months(month, month) for month in months),
-        weeks=tuple(Week(week, week, 1) for week in weeks),
-        weekdays=tuple(weekdays(day, day) for day in days),
-        **parts,
-    )
+    days = {
+        dimension.items: singles(dimension.items, alternating(dimension, intervals))
+        for dimension, intervals in zip(DIMENSIONS, shape)
+    }
+    return plain_rule(**days, **parts)
+
+
+def many(sort: str, count: int) -> tuple:
+    """So many items of a sort; days' items have one value each, from the lowest on, and begin anew after the highest."""
+    if sort == "spans":
+        return (ITEM_OF_SORT[sort],) * count
+    values = range(DIMENSION_OF_SORT[sort].lowest, DIMENSION_OF_SORT[sort].upper)
+    return singles(sort, islice(cycle(values), count))

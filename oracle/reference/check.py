@@ -1,8 +1,9 @@
 """The computation over boxes held against the literal reading, at sampled points.
 
-Checked for the drained rules of an accepted fold: the list of a point's box is the list said literally for that point;
-the folded rules say at the point exactly its day; the day of simple spans shows at a minute the last span that covers
-it; and cuts beyond those needed change nothing. Rests on the other modules.
+Checked for the drained rules of an accepted fold: the list of a point's box is the list said literally for that point, and
+no rule stands in it twice, since no ranges overlap (document 02, M-101); the folded rules say at the point exactly its day;
+the day of simple spans shows at a minute the last span that covers it; and cuts beyond those needed change nothing. Rests on
+the other modules.
 """
 
 from __future__ import annotations
@@ -27,10 +28,12 @@ def check_boxes_against_points(drained: list[Rule], random: Random) -> None:
     folded = fold_drained(drained)
     for _ in range(POINTS):
         point = tuple(map(sample_value, DIMENSIONS, cuts, [random] * len(DIMENSIONS)))
-        rules = [drained[index] for index in list_at(drained, point)]
+        entries = list_at(drained, point)
+        rules = [drained[index] for index in entries]
         said = [folded[index] for index in list_at(folded, point)]
         day = day_of(rules)
-        assert lists[box_of(point, cuts)] == list_at(drained, point), ("list", point)
+        assert lists[box_of(point, cuts)] == entries, ("list", point)
+        assert len(set(entries)) == len(entries), ("twice", point)
         assert [(rule.kind, rule.comment, rule.spans) for rule in said] == [(*state, spans) for state, spans in day], point
         check_minutes(flatten(rules), day, random)
     finer = [

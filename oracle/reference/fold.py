@@ -1,6 +1,7 @@
 """The fold and the write-back: the numbers of the answer, the refusals in their order, the bytes.
 
-The last number, why the fold stopped, is document 02's (M-105). Rests on `sheet`, `points`, `why`, `day` and `groups`.
+The last number, why the fold stopped, is document 02's (M-105), and so is the refusal of overlaps (M-101). Rests on `sheet`,
+`points`, `overlap`, `why`, `day` and `groups`.
 """
 
 from __future__ import annotations
@@ -9,6 +10,7 @@ from typing import Callable, NamedTuple
 
 from .day import Day, day_of
 from .groups import folded_rules
+from .overlap import check_overlaps
 from .points import List, check_boxes, cuts_of, drained_of, lists_of_boxes
 from .sheet import RULE_COUNT, Refusal, Rule, field_bits, pack, read_sheet, rule_bits, unpack, write_sheet
 from .why import NOTHING, why_stopped
@@ -69,7 +71,8 @@ def checked_room(result: bytes, room: int) -> bytes:
 
 
 def fold_drained(drained: list[Rule]) -> list[Rule]:
-    """The folded rules; boxes are judged before any list is."""
+    """The folded rules; overlaps are judged before boxes, and boxes before any list is."""
+    check_overlaps(drained)
     cuts = cuts_of(drained)
     check_boxes(cuts)
     return folded_rules(days_of_lists(drained, lists_of_boxes(drained, cuts)), cuts)

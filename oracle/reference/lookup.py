@@ -1,6 +1,7 @@
 """The state lookup: kind and comment at a date and minute.
 
-Dates and their ISO weeks (document 02, M-104) are those of the standard library's Gregorian calendar. Rests on `sheet`, `points` and `day`.
+Dates and their ISO weeks (document 02, M-104) are those of the standard library's Gregorian calendar. Rests on `sheet`, `points`, `overlap`
+and `day`.
 """
 
 from __future__ import annotations
@@ -9,6 +10,7 @@ from datetime import MAXYEAR, date
 from typing import NamedTuple
 
 from .day import PLAIN_CLOSED, State, StatedSpan, flatten, is_simple
+from .overlap import check_overlaps
 from .points import Point, check_boxes, cuts_of, drained_of, list_at, lists_of_boxes
 from .sheet import MIDNIGHT, Refusal, read_sheet
 
@@ -36,6 +38,7 @@ def state_at(sheet: bytes, year: int, month: int, day: int, minute: int) -> Stat
     if point is None or not minute < MIDNIGHT:
         raise Refusal(NO_SUCH_DATE, 0)
     drained = drained_of(rules)
+    check_overlaps(drained)
     cuts = cuts_of(drained)
     check_boxes(cuts)
     lists_of_boxes(drained, cuts)  # for its refusal, which any point's list may cause

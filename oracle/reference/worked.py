@@ -1,8 +1,9 @@
 """The worked days of document 01, and the cases it says to run, as rules that go in and what comes out.
 
 `FOLDS` holds those whose folded rules the document tells; `RUNS` those of which it tells only code and place, or what
-drains. `LINES` and `NO_LINES` are worked by hand from 02's words on the line (M-100), `WHYS` from those on why the fold
-stopped (M-105). Rests on `build`; `check_worked` holds the fold, the lookup and the line against them.
+drains. `OVERLAPS` holds P9 as 02's M-101 has it and what is worked by hand from its words, `LINES` and `NO_LINES` are worked from
+those on the line (M-100), `WHYS` from those on why the fold stopped (M-105). Rests on `build`; `check_worked` holds the fold, the
+lookup and the line against them.
 """
 
 from __future__ import annotations
@@ -11,6 +12,7 @@ from .build import boxes_rule, fixed, hours, plain_rule, weekdays
 from .fold import fold
 from .line import NO_LINE, line
 from .lookup import lookup
+from .overlap import RANGES_SHARE
 from .sheet import (
     ADDITIONAL, ALL_NTH, CLOSED, FALLBACK, NO_REPEATS, OPEN, UNKNOWN, DatedRange, Holiday, Months, MonthsOfYear, Rule, Span,
     Time, Week, Weekdays, Year, write_sheet,
@@ -30,6 +32,12 @@ def additional(**parts) -> Rule:
 def variable_to(minutes: int) -> Span:
     return Span(Time(1, 0, -30), Time(0, 0, minutes), 0, NO_REPEATS)
 
+
+TUESDAY_IN_JANUARY = {"weekdays": (weekdays(TU, TU),), "monthdays": (Months(1, 1),)}
+SHARING_WEEKDAYS = (weekdays(MO, WE), weekdays(TU, TH))
+LEFT_OVERLAPPING = [
+    plain_rule(weeks=(Week(1, 3, 2),), weekdays=SHARING_WEEKDAYS), plain_rule(weekdays=(weekdays(MO, MO),) * 2),
+]
 
 # Name: the rules that go in, the rules that come out, those left among them last.
 FOLDS: dict[str, tuple[list[Rule], list[Rule]]] = {
@@ -51,13 +59,6 @@ FOLDS: dict[str, tuple[list[Rule], list[Rule]]] = {
     "P5": ([plain_rule(weekdays=(weekdays(FR, TH),))], [plain_rule()]),
     "P6": ([plain_rule(weeks=(Week(50, 2, 1),))], [plain_rule(weeks=(Week(1, 2, 1), Week(50, 53, 1)))]),
     "P7": ([plain_rule(weeks=(Week(53, 53, 1),))], [plain_rule(weeks=(Week(53, 53, 1),))]),
-    "P9": (
-        [additional(weekdays=(weekdays(MO, WE), weekdays(TU, TH)), spans=(OPEN_ENDED,))],
-        [
-            plain_rule(weekdays=(weekdays(MO, MO), weekdays(TH, TH)), spans=(OPEN_ENDED,)),
-            plain_rule(weekdays=(weekdays(TU, WE),), spans=(OPEN_ENDED, OPEN_ENDED)),
-        ],
-    ),
     "P10": (
         [
             plain_rule(spans=(hours(8, 18),)),
@@ -82,17 +83,25 @@ FOLDS: dict[str, tuple[list[Rule], list[Rule]]] = {
             plain_rule(weekdays=(weekdays(TU, TU),), years=(Year(2000, 2000, 1),)),
         ],
     ),
-    # Two ranges over Tuesday and two over January push the rule four times there.
-    "pushes in two dimensions": (
-        [
-            additional(
-                weekdays=(weekdays(TU, TU), weekdays(TU, TU)),
-                monthdays=(Months(1, 1), Months(1, 1)),
-                spans=(OPEN_ENDED,),
-            )
-        ],
-        [plain_rule(weekdays=(weekdays(TU, TU),), monthdays=(Months(1, 1),), spans=(OPEN_ENDED,) * 4)],
+    # Each of four rules pushes its span once.
+    "four pushes": (
+        [additional(**TUESDAY_IN_JANUARY, spans=(OPEN_ENDED,))] * 4,
+        [plain_rule(**TUESDAY_IN_JANUARY, spans=(OPEN_ENDED,) * 4)],
     ),
+    "32 entries on Tuesday in January": (
+        [additional(spans=())] * 31 + [additional(**TUESDAY_IN_JANUARY)],
+        [plain_rule(**TUESDAY_IN_JANUARY)],
+    ),
+    # Ranges that only touch are no overlap, nor are the halves of one that wraps.
+    "touching": (
+        [additional(weekdays=(weekdays(MO, WE), weekdays(TH, FR)), spans=(OPEN_ENDED,))],
+        [plain_rule(weekdays=(weekdays(MO, FR),), spans=(OPEN_ENDED,))],
+    ),
+    "a wrap touches": (
+        [plain_rule(weekdays=(weekdays(FR, MO), weekdays(TU, WE)))],
+        [plain_rule(weekdays=(weekdays(MO, WE), weekdays(FR, SU)))],
+    ),
+    "rules left may overlap": ([plain_rule(), *LEFT_OVERLAPPING], [plain_rule(), *LEFT_OVERLAPPING]),
     "a rule left": (
         [plain_rule(weekdays=(weekdays(FR, TH),)), plain_rule(spans=(fixed(1080, 1441),))],
         [plain_rule(), plain_rule(spans=(fixed(1080, 1441),))],
@@ -110,6 +119,20 @@ RUNS: dict[str, tuple[list[Rule], tuple[int, int, int]]] = {
     "1152 boxes": ([boxes_rule((1, 9, 8, 16))], (5, 0, 1152)),
     "32 entries": ([additional()] * 32, (0, 32, 0)),
     "33 entries": ([additional()] * 33, (6, 0, 32)),
+    "33 entries after rules that replace": ([plain_rule(spans=())] * 4 + [additional(spans=())] * 32, (6, 0, 35)),
+}
+
+# Name: rules whose fold is refused since ranges of one selector share a value, and the first such rule's index.
+OVERLAPS: dict[str, tuple[list[Rule], int]] = {
+    "P9": ([additional(weekdays=SHARING_WEEKDAYS, spans=(OPEN_ENDED,))], 0),
+    "a wrap shares": ([plain_rule(weekdays=(weekdays(FR, MO), weekdays(MO, TU)))], 0),
+    "two wraps share": ([plain_rule(), plain_rule(weeks=(Week(50, 2, 1), Week(53, 1, 1)))], 1),
+    "a whole dimension beside an item": ([plain_rule(monthdays=(Months(1, 12), Months(3, 3)))], 0),
+    "equal years": ([plain_rule(kind=CLOSED, years=(Year(2026, 2026, 1),) * 2, spans=())], 0),
+    "before boxes": ([boxes_rule((3, 11, 11, 3), spans=()), plain_rule(monthdays=(Months(1, 1),) * 2, spans=())], 1),
+    "the first of two": (
+        [plain_rule(), plain_rule(monthdays=(Months(1, 3), Months(3, 3))), plain_rule(weekdays=SHARING_WEEKDAYS)], 1,
+    ),
 }
 
 LATE, YEARS_BY_2, WEEKS_BY_2 = fixed(1080, 1441), Year(2000, 2010, 2), Week(1, 53, 2)
@@ -204,7 +227,7 @@ LINES: dict[str, tuple[list[Rule], str]] = {
 
 # Name: rules that have no line, and the index of the first that is against it.
 NO_LINES: dict[str, tuple[list[Rule], int]] = {
-    "P9": (FOLDS["P9"][0], 0),
+    "P9": (OVERLAPS["P9"][0], 0),
     "no spans, third": ([plain_rule(), plain_rule(), plain_rule(spans=())], 2),
     "variable, then no spans": ([plain_rule(), plain_rule(spans=(variable_to(1440),)), plain_rule(spans=())], 1),
     "first not Normal, then a holiday": ([additional(), plain_rule(weekdays=(Holiday(0, 0),))], 0),
@@ -220,6 +243,9 @@ def check_worked() -> None:
     for name, (given, wanted) in RUNS.items():
         answer, _ = fold(write_sheet(given), ROOM)
         assert (answer.code, answer.drained, answer.place) == wanted, name
+    for name, (given, place) in OVERLAPS.items():
+        assert fold(write_sheet(given), ROOM) == ((RANGES_SHARE, 0, 0, 0, 0, place, NOTHING), b""), name
+        assert lookup(write_sheet(given), 2026, 1, 6, 660) == (RANGES_SHARE, 0, 0, place), name
     answer, result = fold(EXAMPLE, ROOM)
     assert (answer, result) == ((0, 1, 1, 0, 15, 0, 0), EXAMPLE)
     for name, (given, why) in WHYS.items():

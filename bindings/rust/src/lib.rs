@@ -103,7 +103,7 @@ pub struct State {
 ///
 /// # Errors
 ///
-/// Any refusal by codes 1 to 7, the first reason met. `out` is then unchanged.
+/// Any refusal by codes 1 to 7 and 11, the first reason met. `out` is then unchanged.
 pub fn fold(sheet: &[u8], out: &mut [u8]) -> Result<Folded, Refusal> {
     let [code, drained, emitted, left, bytes, place, why] =
         numbers(|lent| archive::fold(sheet, out, lent));
@@ -124,7 +124,7 @@ pub fn fold(sheet: &[u8], out: &mut [u8]) -> Result<Folded, Refusal> {
 ///
 /// # Errors
 ///
-/// Any refusal by codes 1 to 6, 8 and 9, the first reason met.
+/// Any refusal by codes 1 to 6, 8, 9 and 11, the first reason met.
 pub fn lookup(sheet: &[u8], date: Date, minute: u16) -> Result<State, Refusal> {
     let moment = [
         date.year.into(),

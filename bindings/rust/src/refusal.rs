@@ -3,7 +3,7 @@
 use core::error::Error;
 use core::fmt::{Display, Formatter, Result};
 
-/// The first reason to refuse, in the order 1, 2 and 4 as met from the first bit on, then 3, 8, 5, 6, 9, 10, 7. Bits and rules are
+/// The first reason to refuse, in the order 1, 2 and 4 as met from the first bit on, then 3, 8, 11, 5, 6, 9, 10, 7. Bits and rules are
 /// counted from 0, bits from the most significant one on.
 #[derive(Clone, Copy, Debug, PartialEq, Eq)]
 pub enum Refusal {
@@ -52,10 +52,16 @@ pub enum Refusal {
         /// The first such rule's index.
         rule: usize,
     },
+    /// 11: a fold or a lookup where two ranges of one day selector of a drained rule share a value, so that a day is named twice. Ranges
+    /// that only touch are fine.
+    Overlap {
+        /// The first such rule's index.
+        rule: usize,
+    },
 }
 
 impl Refusal {
-    /// The refusal of a code from 1 to 10. The archive answers no other.
+    /// The refusal of a code from 1 to 11. The archive answers no other.
     pub(crate) fn of(code: u64, place: usize) -> Self {
         match code {
             1 => Self::PastEnd { bit: place },
@@ -68,11 +74,12 @@ impl Refusal {
             8 => Self::NoDate,
             9 => Self::Unsettled,
             10 => Self::NoLine { rule: place },
+            11 => Self::Overlap { rule: place },
             _ => unreachable!("the archive refuses by no code {code}"),
         }
     }
 
-    /// The code, 1 to 10.
+    /// The code, 1 to 11.
     #[must_use]
     pub fn code(self) -> u8 {
         match self {
@@ -86,6 +93,7 @@ impl Refusal {
             Self::NoDate => 8,
             Self::Unsettled => 9,
             Self::NoLine { .. } => 10,
+            Self::Overlap { .. } => 11,
         }
     }
 
@@ -100,7 +108,8 @@ impl Refusal {
             | Self::ManyBoxes { boxes: place }
             | Self::LongList { rule: place }
             | Self::NoRoom { needed: place }
-            | Self::NoLine { rule: place } => place,
+            | Self::NoLine { rule: place }
+            | Self::Overlap { rule: place } => place,
             Self::NoDate | Self::Unsettled => 0,
         }
     }
@@ -123,6 +132,7 @@ impl Display for Refusal {
             Self::NoDate => write!(text, "there is no such date or minute"),
             Self::Unsettled => write!(text, "the rules do not settle the state"),
             Self::NoLine { rule } => write!(text, "rule {rule} can't be said in a line"),
+            Self::Overlap { rule } => write!(text, "rule {rule} names a day twice"),
         }
     }
 }

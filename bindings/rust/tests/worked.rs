@@ -7,7 +7,7 @@ use common::bytes;
 use hours::{Date, Folded, Kind, Reason, Refusal, State, fold, line, lookup, write_back};
 
 const PAINT: u8 = 0xC3;
-const ROOM: usize = 256;
+const ROOM: usize = 512;
 
 /// One Normal Open rule, 00:00-24:00.
 const ALWAYS: &str = "00010000000000000000040005A000";
@@ -16,15 +16,20 @@ const P2_FOLDED: &str =
     "0002000000000000002004000007FE500003FF12C10E0000000000000001008480007FE258168030C21C00";
 /// Week 53, 10:00-18:00.
 const P7: &str = "00010000000000004000075D4044B04380";
-/// Additional Open, 10:00-12:00 with `open_end`.
+/// Additional Open, Mo-We,Tu-Th 10:00-12:00 with `open_end`.
 const P9: &str = "0001400000000000002004100007FE2C0003FF12C0B420";
+/// The same, Mo-We,Th-Fr.
+const TOUCHING: &str = "0001400000000000002004100007FE700003FF12C0B420";
+const TOUCHING_FOLDED: &str = "0001000000000000001004200007FE25816840";
 /// Fr-Th 10:00-18:00, then weeks 1-3 with a step of 2, which stops.
 const LEAVES: &str = "0002000000000000001005180007FE25821C00000000000008000082181096087000";
 const LEAVES_FOLDED: &str = "00020000000000000000044B04380000000000001000010430212C10E0";
 /// Intervals of weekday 1, week 9, month 8, year 16.
 const BOXES_1152: &str = "000100000020040100000476C1DB0000476E1DB800047701DC000047721DC800047741DD000047761DD800047781DE0000477A1DE80004110CC551DC208044100461804820044B043800";
-/// 33 entries on a point after the second rule.
-const ENTRIES_33: &str = "0002000000000000001004000007FE25821C0800000001600006008220882208822088220882208822240003FF120001FF890000FFC4B04380";
+/// Four Normal Open rules, then four Additional ones, all without items.
+const FOUR_NORMAL: &str = "0000000000000000000000000000000000000000000000000000000000000000000000";
+const FOUR_ADDITIONAL: &str =
+    "4000000000000000010000000000000000040000000000000000100000000000000000";
 
 /// Every part of a rule and every sort of number, then a Fallback.
 const EVERY_PART: &str = "00020000100401004010087E81DB00190B2D34015A0001FF8004B3E2D016814000000200000008023B64E1E0002180003FF0008008";
@@ -37,6 +42,11 @@ const LEAP_DAY: Date = Date {
     month: 2,
     day: 29,
 };
+
+/// Four rules, each of which replaces the one before, then 32 Additional ones: 33 entries on each point after the last.
+fn entries_33() -> String {
+    ["0024", FOUR_NORMAL, &FOUR_ADDITIONAL.repeat(8)].concat()
+}
 
 /// A fold that is done, with bytes to spare, exactly enough, and one too few.
 fn folds(sheet: &str, result: &str, [drained, emitted, left]: [usize; 3], why: Option<Reason>) {
@@ -111,6 +121,7 @@ fn worked_days_fold() {
     folds(ALWAYS, ALWAYS, [1, 1, 0], None);
     folds(P2, P2_FOLDED, [2, 2, 0], None);
     folds(LEAVES, LEAVES_FOLDED, [1, 1, 1], Some(Reason::WeekStep));
+    folds(TOUCHING, TOUCHING_FOLDED, [1, 1, 0], None);
 }
 
 #[test]
@@ -154,7 +165,7 @@ fn a_stopped_fold_tells_the_first_reason() {
 
 #[test]
 fn an_accepted_sheet_is_written_back() {
-    for sheet in ["0000", ALWAYS, P2, P9, LEAVES, BOXES_1152, ENTRIES_33] {
+    for sheet in ["0000", ALWAYS, P2, P9, LEAVES, BOXES_1152, &entries_33()] {
         let sheet = bytes(sheet);
         writes(write_back, &sheet, &sheet);
     }
@@ -202,10 +213,11 @@ fn unreadable_sheets_are_refused() {
 }
 
 #[test]
-fn sheets_past_a_limit_of_the_fold_are_refused() {
+fn sheets_that_the_fold_does_not_take_are_refused() {
     for (sheet, refusal) in [
+        (P9, Refusal::Overlap { rule: 0 }),
         (BOXES_1152, Refusal::ManyBoxes { boxes: 1152 }),
-        (ENTRIES_33, Refusal::LongList { rule: 1 }),
+        (&entries_33(), Refusal::LongList { rule: 35 }),
     ] {
         assert_eq!(fold_refused(sheet), refusal);
         assert_eq!(lookup(&bytes(sheet), LEAP_DAY, 0), Err(refusal));
@@ -260,13 +272,13 @@ fn no_such_date_or_minute_is_refused() {
 
 #[test]
 fn a_state_that_the_rules_do_not_settle_is_refused() {
-    // 1 March 2000 is a Wednesday, on which P9 has its open end.
+    // 1 March 2000 is a Wednesday, which has the open end.
     let march = Date {
         month: 3,
         day: 1,
         ..LEAP_DAY
     };
 
-    assert_eq!(lookup(&bytes(P9), march, 0), Err(Refusal::Unsettled));
+    assert_eq!(lookup(&bytes(TOUCHING), march, 0), Err(Refusal::Unsettled));
     assert_eq!(lookup(&bytes(LEAVES), LEAP_DAY, 0), Err(Refusal::Unsettled));
 }

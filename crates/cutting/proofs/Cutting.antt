@@ -7,10 +7,9 @@ use Prim.Native.Nat.{ℕ, zero, suc, _+_, _-_, _*_, _≤_, _<_}
 use native.Mathlib.Omega.{arith}
 use native.Mathlib.Nat.{mul-le-mul-right}
 use lib.Dec.{eqb}
-use lib.ListN.{length, getD, take, drop, set}
+use lib.ListN.{length, getD, take, set}
 use lib.Seq.{take-all}
 use borrow.Author.Tests.{eqb-true, eqb-false}
-use Rattle.laws.specs.Lists.{All}
 use Rattle.laws.proofs.Lists.{All-map, All-take}
 use Rattle.grid.specs.Cut.{cuts}
 use Rattle.grid.proofs.Count.{cuts-count}
@@ -19,11 +18,10 @@ use Rattle.definition.specs.Sheet.{form1, limits1}
 use Rattle.definition.specs.Range.{ranges}
 use Rattle.definition.specs.Point.{Dimension, dimensions}
 use Rattle.definition.specs.Box.{allRanges, boxCount}
-use Rattle.definition.proofs.Lawful.{Lawful, rule-lawful}
+use Rattle.definition.proofs.Lawful.{Lawful}
 use Rattle.paving.specs.Grid.{sizeOf}
-use Rattle.tables.specs.Ranges.{tableRow}
 use Rattle.tables.specs.Rules.{ruleAt, DaysHeld, RuleDays}
-use Rattle.tables.proofs.Ranges.{part-length, row-lent}
+use Rattle.tables.proofs.Days.{days-lawful, lent-counts, lent-ranges, days-lent, four-lent, ranges-lent}
 use Rattle.tables.specs.Sizes.{rowPlaces}
 use Rattle.paving_cuts.specs.Cuts.{Rowed, rowed, cutRows, startRow, Space}
 use Rattle.paving_cuts.specs.Rules.{Roomy, startRows}
@@ -83,9 +81,6 @@ module _ (rows sizes table : List ℕ) (room : ℕ) (rs : List Rule) where
 
 -- ## The rules
 module _ (counts ranges : List ℕ) (n : ℕ) (rs : List Rule) (days : RuleDays counts ranges n rs) where
-  lawful : All Lawful rs
-  lawful = All-map (λ r f. rule-lawful form1 limits1 r f) rs (days .fits)
-
   -- a rule that fits a sheet has few ranges, so all their cuts have room
   roomy : Roomy (rowPlaces n) rs dimensions
   roomy =
@@ -99,31 +94,28 @@ module _ (counts ranges : List ℕ) (n : ℕ) (rs : List Rule) (days : RuleDays 
   module _ (rows sizes table : List ℕ) (there : Rows (rowPlaces n) rows sizes (length table)) where
     -- rule k, after the rules before it
     module _ (k : ℕ) (here : k < n) (before : CutBy rows sizes table (take k rs) dimensions) where
-      abbrev lent-counts : List ℕ
-      lent-counts = take (k * 4 + 4 - k * 4) (drop (k * 4) counts)
+      abbrev counts-k : List ℕ
+      counts-k = lent-counts counts ranges n rs days k here
 
-      abbrev lent-ranges : List ℕ
-      lent-ranges = take (k * 256 + 256 - k * 256) (drop (k * 256) ranges)
+      abbrev ranges-k : List ℕ
+      ranges-k = lent-ranges counts ranges n rs days k here
 
-      held : DaysHeld lent-counts lent-ranges (ruleAt rs k)
-      held =
-          subst (λ c. DaysHeld c lent-ranges (ruleAt rs k)) (sym (row-lent counts k 4))
-          (subst (λ r. DaysHeld (tableRow counts k 4) r (ruleAt rs k)) (sym (row-lent ranges k 256)) (days .each k here))
+      held : DaysHeld counts-k ranges-k (ruleAt rs k)
+      held = days-lent counts ranges n rs days k here
 
-      pub next-space : Space table rows sizes lent-counts lent-ranges 4
+      pub next-space : Space table rows sizes counts-k ranges-k 4
       next-space =
-          rule-space rows lent-counts lent-ranges (rowPlaces n) rs k (omega (arith, days .many)) dimensions (held .selected) roomy (there .placed) sizes table before
-          (lawful-bounded (take k rs) (All-take Lawful k rs lawful)) (there .all-cuts) (omega (arith, days .few-rules))
+          rule-space rows counts-k ranges-k (rowPlaces n) rs k (omega (arith, days .many)) dimensions (held .selected) roomy (there .placed) sizes table before
+          (lawful-bounded (take k rs) (All-take Lawful k rs (days-lawful counts ranges n rs days))) (there .all-cuts) (omega (arith, days .few-rules))
           (omega (arith, there .four-rows)) (omega (arith, there .four-sizes))
-          (omega (arith, part-length counts (k * 4) (k * 4 + 4) (omega arith) (omega (arith, days .all-counts))))
-          (omega (arith, part-length ranges (k * 256) (k * 256 + 256) (omega arith) (omega (arith, days .all-ranges)))) (held .few)
+          (four-lent counts ranges n rs days k here) (ranges-lent counts ranges n rs days k here) (held .few)
 
-      pub next-cut : (t : Rowed) → t ≡ cutRows rows lent-counts lent-ranges 4 (rowed table sizes) → CutBy rows (t .sizes) (t .cuts) (take (k + 1) rs) dimensions
+      pub next-cut : (t : Rowed) → t ≡ cutRows rows counts-k ranges-k 4 (rowed table sizes) → CutBy rows (t .sizes) (t .cuts) (take (k + 1) rs) dimensions
       next-cut t e =
           let z : suc k ≡ k + 1 = omega arith in
           subst (λ j. CutBy rows (t .sizes) (t .cuts) (take j rs) dimensions) z
           (subst (λ t. CutBy rows (t .sizes) (t .cuts) (take (suc k) rs) dimensions) (sym e)
-          (rule-cut rows lent-counts lent-ranges (rowPlaces n) rs k (omega (arith, days .many)) dimensions (held .selected) roomy (there .placed) (rowed table sizes) before
+          (rule-cut rows counts-k ranges-k (rowPlaces n) rs k (omega (arith, days .many)) dimensions (held .selected) roomy (there .placed) (rowed table sizes) before
           (omega (arith, there .four-sizes)) (there .all-cuts)))
 
     -- THE ROWS OF ALL RULES, and the boxes between their cuts

@@ -1,5 +1,5 @@
 -- THE FOLD OVER POINTS IS THE FOLD OVER BOXES, for all lawful rules, and so for every sheet. Rests on grid's law that points are boxes, and on
--- the same law of days.
+-- the same law of days and of overlaps.
 use mathlib.Core.Path.{_≡_, refl, sym, ap, ap₂, _∙_}
 use mathlib.Core.List.{List, [], _∷_, _++_, map, flatMap}
 use mathlib.Core.Bool.{Bool, true, false, cond}
@@ -31,6 +31,7 @@ use Rattle.definition.proofs.SheetRead.{encode-decoded}
 use Rattle.definition.proofs.Same.{exact-day}
 use Rattle.definition.proofs.DayBox.{day-intervals}
 use Rattle.definition.proofs.Lawful.{Lawful, LawfulIn, ranges-inside, rules-lawful}
+use Rattle.definition.proofs.Overlap.{first-overlap-ends}
 
 pub bounds-proper : Proper allBounds
 bounds-proper = omega arith
@@ -137,5 +138,5 @@ fold-boxes form limits room s h = go (decode form limits s) refl
     go (refused c p) e = rw (e, fold, foldOverBoxes)
     go (got rs q) e =
         let k = drained-all Lawful rs (rules-lawful form limits rs (encode-decoded form limits s h rs q e .0)) in
-        rw (e, fold, foldOverBoxes) (ap₂ (λ long page. foldRules form limits room rs (judged limits (drained rs) long) page)
-        (long-boxes (drained rs) k (limits .entries)) (folded-boxes (drained rs) k))
+        rw (e, fold, foldOverBoxes) (ap₂ (λ j page. foldRules form limits room rs j page)
+        (ap₂ (judged limits (drained rs)) (first-overlap-ends (drained rs) k) (long-boxes (drained rs) k (limits .entries))) (folded-boxes (drained rs) k))

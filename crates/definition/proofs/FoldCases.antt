@@ -1,4 +1,4 @@
--- THE FOLD BY CASES: what it answers where the sheet is refused, where the drained rules are refused by 5 or 6, and where they are fine. Rests
+-- THE FOLD BY CASES: what it answers where the sheet is refused, where the drained rules are refused by 11, 5 or 6, and where they are fine. Rests
 -- on the definition alone.
 use mathlib.Core.Path.{_≡_, refl, ap}
 use mathlib.Core.List.{List, _++_}

@@ -8,6 +8,8 @@ pub mod SheetRead
 pub mod Same
 pub mod DayBox
 pub mod Lawful
+pub mod Overlap
+pub mod Once
 pub mod Points
 pub mod FoldBox
 pub mod DayHolds

@@ -2,32 +2,31 @@
 -- are.
 use mathlib.Core.Path.{_≡_, refl, sym, subst}
 use mathlib.Core.List.{List, [], _∷_, _++_, map, flatMap}
-use mathlib.Core.Option.{Option, none, some}
 use mathlib.Core.Bool.{Bool, true, false, _&&_}
 use Prim.Native.Nat.{ℕ, suc, _+_, _*_, _-_, _^_, _≤_, _<_}
 use native.Mathlib.Nat.{mul-le-mul-right}
 use native.Mathlib.Omega.{arith}
 use lib.Dec.{eqb, leb, ltb}
 use lib.ListN.{length, length-append, length-map}
-use borrow.Author.Tests.{ltb-true, ltb-false, leb-true}
+use borrow.Author.Tests.{ltb-true, leb-true}
 use Rattle.laws.specs.Lists.{All}
 use Rattle.laws.proofs.Flags.{split-and}
 use Rattle.laws.proofs.Lists.{All-map, All-map₂, All-append, every-all}
 use Rattle.laws.proofs.Spread.{flatMap-all, flatMap-length}
 use Rattle.grid.specs.Cut.{Range}
-use Rattle.definition.specs.Field.{got, manyBoxes, longList, field, lawful, counted, _then_, tagged, several}
+use Rattle.definition.specs.Field.{got, field, lawful, counted, _then_, tagged, several}
 use Rattle.definition.specs.Rule.{Operator, Normal, Additional, Rule}
 use Rattle.definition.specs.Sheet.{Form, Limits, form1, limits1, title, counts, head, headOf, rule, rules, decode}
 use Rattle.definition.specs.Range.{Ends}
 use Rattle.definition.specs.Stop.{stops, drained, left}
-use Rattle.definition.specs.Point.{Dimension, weekdayDimension, weekDimension, monthDimension, yearDimension, dimensions, firstTooLong}
-use Rattle.definition.specs.Box.{boxCount}
+use Rattle.definition.specs.Point.{Dimension, weekdayDimension, weekDimension, monthDimension, yearDimension, dimensions}
 use Rattle.definition.specs.Day.{Entry, Day}
 use Rattle.definition.specs.Group.{Page, pages, itemsOf, laidOver, asRule, asRules, rulesOf, folded}
-use Rattle.definition.specs.Fold.{fine, over, judged, drain}
+use Rattle.definition.specs.Fold.{fine, drain}
 use Rattle.definition.proofs.Bits.{Bytes}
 use Rattle.definition.proofs.SheetRead.{encode-decoded}
 use Rattle.definition.proofs.Lawful.{Lawful, rules-each, rules-lawful}
+use Rattle.definition.proofs.Drained.{fine-drain}
 use Rattle.definition.proofs.FoldBox.{drained-all}
 use Rattle.definition.proofs.Groups.{group-rules}
 use Rattle.definition.proofs.Spans.{Brief}
@@ -184,24 +183,14 @@ module _ (form : Form) (limits : Limits) where
       go true e ih = rw (e, left) (h, omega arith)
       go false e ih = rw (e, left) (ih .0, omega arith)
 
-  judged-fine : (rs : List Rule) (o : Option ℕ) → judged limits rs o ≡ fine → (boxCount dimensions rs ≤ limits .boxes) × (o ≡ none)
-  unfolding judged
-  judged-fine rs o h = go (ltb (limits .boxes) (boxCount dimensions rs)) refl o h
-    where
-      go : (b : Bool) → ltb (limits .boxes) (boxCount dimensions rs) ≡ b → (p : Option ℕ) → judged limits rs p ≡ fine
-          → (boxCount dimensions rs ≤ limits .boxes) × (p ≡ none)
-      go true e p k = let z : over manyBoxes (boxCount dimensions rs) ≡ fine = rw (e, judged) at k in let q : _≡_ {A = ℕ} 0 1 = cc in absurd (omega arith)
-      go false e none k = (ltb-false (limits .boxes) (boxCount dimensions rs) e, refl)
-      go false e (some j) k = let z : over longList j ≡ fine = rw (e, judged) at k in let q : _≡_ {A = ℕ} 0 1 = cc in absurd (omega arith)
-
   -- THE LAW
   pub counts-fit : Roomy form limits → (s : List ℕ) → Bytes s → (rs : List Rule) (q : ℕ) → decode form limits s ≡ got rs q → drain limits (drained rs) ≡ fine
       → CountsFit form (folded (drained rs) ++ left rs)
-  unfolding drain folded
+  unfolding folded
   counts-fit roomy s h rs q e f =
       let fits = encode-decoded form limits s h rs q e .0 in
       let ds = drained rs in
-      let d = judged-fine ds (firstTooLong (limits .entries) ds) f in
+      let d = fine-drain limits ds f in
       let sized = every-all _ ((rule form limits) .fits) head-sized rs (rules-each form limits rs fits) in
       let lawful = drained-all Lawful rs (rules-lawful form limits rs fits) in
       let spans = drained-all (λ r. length (r .spans) ≤ limits .spans) rs (All-map (λ r k. k .1) rs sized) in
@@ -213,16 +202,16 @@ module _ (form : Form) (limits : Limits) where
           rule-count-fits rs fits,
           rest .1,
           length-append (flatMap rulesOf (pages ds)) (left rs),
-          flatMap-length rulesOf (suc (limits .entries)) (pages ds) (group-rules ds (limits .entries) (d .1)),
+          flatMap-length rulesOf (suc (limits .entries)) (pages ds) (group-rules ds (limits .entries) (d .2)),
           mul-le-mul-right (suc (limits .entries)) (pages-count ds lawful),
-          mul-le-mul-right (suc (limits .entries)) (d .0),
+          mul-le-mul-right (suc (limits .entries)) (d .1),
         );
         item-counts = All-append _ (flatMap rulesOf (pages ds)) (left rs)
             (flatMap-all _ rulesOf (pages ds)
             (All-map₂ (λ g k b. rules-sized (2 ^ form .itemCount - 1) (2 ^ form .itemCount - 1) g
-            (All-map (λ R l. omega (arith, l, d .0, roomy .items-room)) (g .1) k) b)
+            (All-map (λ R l. omega (arith, l, d .1, roomy .items-room)) (g .1) k) b)
             (pages ds) (pages-few ds lawful)
             (All-map (λ g k. All-map (λ x l. omega (arith, l, roomy .spans-room)) (g .0) k) (pages ds)
-            (pages-brief (limits .entries) (limits .spans) ds (d .1) spans))))
+            (pages-brief (limits .entries) (limits .spans) ds (d .2) spans))))
             (rest .0);
       }

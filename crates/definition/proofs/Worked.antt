@@ -1,4 +1,4 @@
--- THE WORKED DAYS, over points: computed over boxes, and carried to points by the law that both folds are the same.
+-- THE WORKED DAYS AND OVERLAPS, over points: computed over boxes and ends, and carried to points by the law that both folds are the same.
 use mathlib.Core.Path.{_≡_, refl, ap, _∙_}
 use mathlib.Core.List.{List, [], _∷_, flatMap}
 use mathlib.Core.Bool.{Bool, true, _&&_}
@@ -8,7 +8,7 @@ use borrow.Author.Tests.{ltb-true}
 use Rattle.laws.proofs.Flags.{split-and}
 use Rattle.laws.proofs.Lists.{every-all}
 use Rattle.laws.proofs.Tests.{exact-eqb, exact-list}
-use Rattle.laws.specs.Lists.{All, from, firstOf, every, anyOf, count, keep}
+use Rattle.laws.specs.Lists.{All, from, firstOf, every, anyOf, anyPair, firstIndex, count, keep}
 use Rattle.laws.specs.Tests.{sameList, sameOption}
 use Rattle.grid.specs.Group.{size, somewhere, agree, grow, pop, clear, takeOut, sweepFor, sweep, groups}
 use Rattle.grid.specs.Cut.{cutAt, cuts, between, intervals, boxes, glue, joined}
@@ -21,10 +21,11 @@ use Rattle.definition.specs.Point.{selector, combinations, after, listFr
 use Rattle.definition.specs.Box.{boxCount}
 use Rattle.definition.specs.Day.{simple, flattened, runOf, afterRun, painting, joinGroup, byState, grouped, lastOver}
 use Rattle.definition.specs.Group.{itemsOf, laidOver, rulesOf}
-use Rattle.definition.specs.OverBoxes.{paintedOverIntervals, dayOverIntervals, firstTooLongOverBoxes, pagesOverBoxes, foldedOverBoxes, foldOverBoxes}
+use Rattle.definition.specs.OverBoxes.{paintedOverIntervals, dayOverIntervals, overlapsOverEnds, firstOverlapOverEnds, firstTooLongOverBoxes, pagesOverBoxes, foldedOverBoxes, foldOverBoxes}
 use Rattle.definition.specs.Sheet.{form1, limits1}
 use Rattle.definition.specs.Fold.{numbers, judged, fitted, foldRules}
 use Rattle.definition.specs.Worked.{Case, cases, room, Worked}
+use Rattle.definition.specs.WorkedOverlaps.{overlapCases}
 use Rattle.definition.proofs.Bits.{Bytes}
 use Rattle.definition.proofs.FoldBox.{fold-boxes}
 
@@ -34,14 +35,14 @@ agrees c =
     let f = foldOverBoxes form1 limits1 room (c .sheet) in
     sameList eqb (numbers f) (c .answer) && (sameList eqb (f .result) (c .written) && every (λ b. ltb b 256) (c .sheet))
 
-computed : every agrees cases ≡ true
-unfolding agrees flatMap from firstOf every anyOf count keep sameList sameOption size somewhere agree grow pop clear takeOut sweepFor sweep groups
+computed : (every agrees cases ≡ true) × (every agrees overlapCases ≡ true)
+unfolding agrees flatMap from firstOf every anyOf anyPair firstIndex count keep sameList sameOption size somewhere agree grow pop clear takeOut sweepFor sweep groups
     cutAt cuts between intervals boxes glue joined bits number sheetBits bytes packed fieldAt readField readAll field noBits _then_ via tagged several
     notAbove insertSpan sorted sameTime yearRange monthdayOf monthdayRange weekRange weekdayOf weekDayRange timeOf time repeatsOf repeatsLayout span
     title counts head body rule rules firstSet ended decode encode split ranges stops firstThatApplies reason drained left why selector combinations after listFrom tooLong boxCount
     simple flattened runOf afterRun painting joinGroup byState grouped lastOver itemsOf laidOver rulesOf judged fitted foldRules paintedOverIntervals
-    dayOverIntervals firstTooLongOverBoxes pagesOverBoxes foldedOverBoxes foldOverBoxes
-computed = refl
+    dayOverIntervals overlapsOverEnds firstOverlapOverEnds firstTooLongOverBoxes pagesOverBoxes foldedOverBoxes foldOverBoxes
+computed = (refl, refl)
 
 are-bytes : (s : List ℕ) → every (λ b. ltb b 256) s ≡ true → Bytes s
 are-bytes = every-all (λ b. b < 256) (λ b. ltb b 256) (λ b. ltb-true b 256)
@@ -59,4 +60,8 @@ each (c ∷ cs) h =
 
 -- P
 pub worked : All Worked cases
-worked = each cases computed
+worked = each cases (computed .0)
+
+-- and 02's overlaps
+pub worked-overlaps : All Worked overlapCases
+worked-overlaps = each overlapCases (computed .1)

@@ -3,7 +3,7 @@ use mathlib.Core.Path.{_≡_, refl}
 use mathlib.Core.List.{flatMap}
 use mathlib.Core.Bool.{Bool, true, _&&_}
 use lib.Dec.{eqb}
-use Rattle.laws.specs.Lists.{every, anyOf, All}
+use Rattle.laws.specs.Lists.{every, anyOf, firstIndex, All}
 use Rattle.laws.specs.Tests.{sameList}
 use Rattle.laws.proofs.Flags.{split-and}
 use Rattle.laws.proofs.Lists.{every-all}
@@ -13,7 +13,7 @@ use Rattle.definition.specs.Sheet.{form1, limits1, yearRange, monthdayOf
 use Rattle.definition.specs.Fold.{Written, writtenNumbers, writtenInto}
 use Rattle.definition.specs.Text.{ascii, digits, decimalIn, word, padded, plain, named, _then_, of, unless, only, several}
 use Rattle.definition.specs.Line.{item, yearText, weekText, monthText, weekdayText, clock, spanText, stateText, part, ruleText, lineOf, line}
-use Rattle.definition.specs.Show.{firstIndex, wordless, firstWordless, showRules, showLine}
+use Rattle.definition.specs.Show.{wordless, firstWordless, showRules, showLine}
 use Rattle.definition.specs.WorkedLines.{Case, Worked, cases}
 
 abbrev answer : Case → Written

@@ -76,6 +76,10 @@ unsettled = 9
 abbrev pub noWords : ℕ
 noWords = 10
 
+-- fold and lookup (02, M-101): two ranges of one selector share a value in a drained rule
+abbrev pub daysTwice : ℕ
+daysTwice = 11
+
 -- ## Readings
 -- a value and the bit after it, or a refusal: its code and its place
 pub data Read (A : Type 0) : Type 0 where

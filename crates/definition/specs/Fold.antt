@@ -1,18 +1,19 @@
 -- 01, "Numbers of the answer": "The fold answers code, drained, emitted (folded rules only), left (rules copied), bytes written, place. On a
--- refusal every number but code and place is 0." Order: "1, 2 and 4 as met from the first bit on; then 3, 8, 5, 6, 9, 7". "On code 0
--- the result stands at the front of the buffer and later bytes are unchanged." "The rules left are copied bit by bit after them."
+-- refusal every number but code and place is 0." Order: "1, 2 and 4 as met from the first bit on; then 3, 8, 5, 6, 9, 7", and 02's 11 "after
+-- 8, before 5". "On code 0 the result stands at the front of the buffer and later bytes are unchanged." "The rules left are copied bit by bit after them."
 -- 02, M-105: why the fold stopped "passes through the drain into the fold's answer as a seventh number, 0 on refusals".
 use mathlib.Core.List.{List, [], _∷_, _++_}
 use mathlib.Core.Option.{Option, none, some}
-use mathlib.Core.Bool.{true, false}
+use mathlib.Core.Bool.{true, false, cond}
 use Prim.Native.Nat.{ℕ}
 use lib.Dec.{ltb}
 use lib.ListN.{length, drop}
-use Rattle.definition.specs.Field.{got, refused, manyBoxes, longList, noRoom}
+use Rattle.definition.specs.Field.{got, refused, daysTwice, manyBoxes, longList, noRoom}
 use Rattle.definition.specs.Rule.{Rule}
 use Rattle.definition.specs.Sheet.{Form, Limits, decode, encode}
 use Rattle.definition.specs.Stop.{drained, left, why}
 use Rattle.definition.specs.Point.{dimensions, firstTooLong}
+use Rattle.definition.specs.Overlap.{firstOverlap}
 use Rattle.definition.specs.Box.{boxCount}
 use Rattle.definition.specs.Group.{folded}
 
@@ -59,21 +60,31 @@ writtenInto room result = elim (ltb room (length result)) [
   | false ↦ record { code = 0; bytes = length result; place = 0; result = result }
 ]
 
--- ## Draining, with 5 and 6
--- the drained rules pass, or are over a limit: code and place
+-- ## Draining, with 11, 5 and 6
+-- the drained rules pass, or they are refused: code and place
 pub data Drained : Type 0 where
   fine : Drained
   over : ℕ → ℕ → Drained
 
--- 5: boxes over the limit, the place their number; then 6: `long` is the first rule after which some point's list is too long
-unfoldable pub judged : Limits → List Rule → Option ℕ → Drained
-judged limits rs long = elim (ltb (limits .boxes) (boxCount dimensions rs)) [
-  | true ↦ over manyBoxes (boxCount dimensions rs)
-  | false ↦ elim long [ some k ↦ over longList k | none ↦ fine ]
-]
+-- the second judgement counts where the first is fine
+abbrev pub orElse : Drained → Drained → Drained
+orElse fine d = d
+orElse (over c p) d = over c p
+
+-- refused at a rule, if there is one
+abbrev pub atRule : ℕ → Option ℕ → Drained
+atRule c none = fine
+atRule c (some k) = over c k
+
+-- 11: `overlap` is the first rule with days typed twice; then 5: boxes over the limit, the place their number; then 6: `long` is the first rule
+-- after which some point's list is too long
+unfoldable pub judged : Limits → List Rule → Option ℕ → Option ℕ → Drained
+judged limits rs overlap long =
+    let boxes = boxCount dimensions rs in
+    orElse (atRule daysTwice overlap) (orElse (cond (ltb (limits .boxes) boxes) (over manyBoxes boxes) fine) (atRule longList long))
 
 unfoldable pub drain : Limits → List Rule → Drained
-drain limits rs = judged limits rs (firstTooLong (limits .entries) rs)
+drain limits rs = judged limits rs (firstOverlap rs) (firstTooLong (limits .entries) rs)
 
 -- ## The fold
 module _ (form : Form) (limits : Limits) where

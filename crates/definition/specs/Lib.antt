@@ -4,6 +4,7 @@ pub mod Sheet
 pub mod Range
 pub mod Stop
 pub mod Point
+pub mod Overlap
 pub mod Box
 pub mod Day
 pub mod Group
@@ -16,6 +17,7 @@ pub mod Text
 pub mod Line
 pub mod Show
 pub mod Worked
+pub mod WorkedOverlaps
 pub mod WorkedLines
 pub mod WorkedDates
 pub mod WorkedReasons

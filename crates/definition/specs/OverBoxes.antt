@@ -1,17 +1,19 @@
--- The same definitions over the boxes between the cuts of the rules' ranges, and days over the intervals between their spans' ends: few enough
--- to be computed. No promise speaks of them; proofs/ show that they equal the definitions over points and minutes.
+-- The same definitions over the boxes between the cuts of the rules' ranges, days over the intervals between their spans' ends, and overlaps over
+-- the ranges' ends: few enough to be computed. No promise speaks of them; proofs/ show that they equal the definitions over points and minutes.
 use mathlib.Core.List.{List, [], _∷_, _++_, map, flatMap}
 use mathlib.Core.Option.{Option}
+use mathlib.Core.Bool.{Bool, _&&_}
 use Prim.Native.Nat.{ℕ}
+use lib.Dec.{ltb}
 use lib.ListN.{length}
-use Rattle.laws.specs.Lists.{from, firstOf, onlyIf}
+use Rattle.laws.specs.Lists.{from, firstOf, onlyIf, anyOf, anyPair, firstIndex}
 use Rattle.grid.specs.Group.{Set, groups, somewhere}
 use Rattle.grid.specs.Cut.{Range, sameRange, boxes, starts, asJoined}
 use Rattle.definition.specs.Rule.{closed, sameState, Rule}
 use Rattle.definition.specs.Field.{got, refused}
 use Rattle.definition.specs.Sheet.{Form, Limits, decode}
 use Rattle.definition.specs.Stop.{drained}
-use Rattle.definition.specs.Point.{dimensions, allBounds, listAt, tooLong}
+use Rattle.definition.specs.Point.{dimensions, allBounds, selector, listAt, tooLong}
 use Rattle.definition.specs.Box.{allRanges}
 use Rattle.definition.specs.Day.{Stated, Day, entryOf, flattened, minutesOf, minuteBounds, painted, painting, grouped, sortedEntry, asEntry, stateClasses}
 use Rattle.definition.specs.Group.{sameDay, dayClasses, Page, rulesOf}
@@ -27,6 +29,18 @@ paintedOverIntervals xs =
 
 unfoldable pub dayOverIntervals : List Rule → Day
 dayOverIntervals l = let xs = flattened (map entryOf l) in paintedOverIntervals (painting xs) ++ map sortedEntry (grouped xs)
+
+-- ## Overlaps
+-- two ranges share a value where each begins before the other ends
+abbrev pub meets : Range → Range → Bool
+meets a b = ltb (a .0) (b .1) && ltb (b .0) (a .1)
+
+-- some two ranges of one dimension do; an item that wraps gives two, which never share one
+unfoldable pub overlapsOverEnds : Rule → Bool
+overlapsOverEnds r = anyOf (anyPair meets) (selector dimensions r)
+
+unfoldable pub firstOverlapOverEnds : List Rule → Option ℕ
+firstOverlapOverEnds rs = firstIndex overlapsOverEnds rs
 
 -- ## The fold
 abbrev pub cutRanges : List Rule → List (List Range)
@@ -47,5 +61,7 @@ foldedOverBoxes rs = flatMap rulesOf (pagesOverBoxes rs)
 unfoldable pub foldOverBoxes : Form → Limits → ℕ → List ℕ → Folded
 foldOverBoxes form limits room sheet = elim (decode form limits sheet) [
   | refused c p ↦ refusal c p
-  | got rs q ↦ foldRules form limits room rs (judged limits (drained rs) (firstTooLongOverBoxes (limits .entries) (drained rs))) (foldedOverBoxes (drained rs))
+  | got rs q ↦ foldRules form limits room rs
+      (judged limits (drained rs) (firstOverlapOverEnds (drained rs)) (firstTooLongOverBoxes (limits .entries) (drained rs)))
+      (foldedOverBoxes (drained rs))
 ]

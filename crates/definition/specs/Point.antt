@@ -1,6 +1,7 @@
 -- 01, "From rules to points": "A point is a weekday, week 1 to 53, month and year 1900 to 9999, whether or not a calendar day has it."
 -- Draining: "A Normal rule that isn't Closed replaces the list at each point it covers by itself alone. Any other appends itself, once
--- for each combination of one covering range per dimension, so overlaps append repeatedly."
+-- for each combination of one covering range per dimension, so overlaps append repeatedly." Since 02's M-101 such rules are refused: proofs/Once
+-- shows that a rule of a sheet that is not refused covers a point at most once.
 use mathlib.Core.List.{List, [], _∷_, _++_, map, flatMap}
 use mathlib.Core.Option.{Option}
 use mathlib.Core.Bool.{Bool, true, false, _&&_, not, cond}

@@ -1,11 +1,11 @@
 -- 02, M-100: "They need a writer from an accepted sheet to text". "Refusals: 10, exactly when the sheet holds a dated month range, a monthday reference, a holiday, a
 -- weekday offset or unset nth bit, a variable time, repeats, a rule with 0 spans, or a first rule that isn't Normal; place is the first such rule's index; after 3,
 -- before 7."
-use mathlib.Core.List.{List, [], _∷_}
-use mathlib.Core.Option.{Option, none, some, Option·map}
+use mathlib.Core.List.{List}
+use mathlib.Core.Option.{Option, none, some}
 use mathlib.Core.Bool.{Bool, true, false, _||_, not}
-use Prim.Native.Nat.{ℕ, suc}
-use Rattle.laws.specs.Lists.{anyOf}
+use Prim.Native.Nat.{ℕ}
+use Rattle.laws.specs.Lists.{anyOf, firstIndex}
 use Rattle.definition.specs.Field.{got, refused, noWords}
 use Rattle.definition.specs.Rule.{Rule}
 use Rattle.definition.specs.Sheet.{Form, Limits, decode}
@@ -13,11 +13,6 @@ use Rattle.definition.specs.Stop.{monthdayStops, weekdayStops}
 use Rattle.definition.specs.Fold.{Written, unwritten, writtenInto}
 use Rattle.definition.specs.Text.{isNone}
 use Rattle.definition.specs.Line.{isPlain, firstNormal, line}
-
--- the index of the first element that passes
-unfoldable pub firstIndex : {A : Type 0} → (A → Bool) → List A → Option ℕ
-firstIndex t [] = none
-firstIndex t (x ∷ xs) = elim (t x) [ true ↦ some 0 | false ↦ Option·map suc (firstIndex t xs) ]
 
 -- a dated month range or a monthday reference; a holiday, a weekday offset or an unset nth bit; a variable time or repeats; 0 spans
 unfoldable pub wordless : Rule → Bool

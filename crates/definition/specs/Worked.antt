@@ -1,9 +1,10 @@
 -- 01, "Worked days": "P is proved, together, as one table of cases under one statement." 01's cases, P1 to P11, cut one dimension
--- at a time, so the table also has the order of growing, a rule appended repeatedly by two dimensions, a rule left, spans
--- that stay in groups, and refusals 1 to 6.
+-- at a time, so the table also has the order of growing, a span appended repeatedly, a rule left, spans that stay in groups, and
+-- refusals 1 to 6. P9 is refused since 02's M-101, whose own table is WorkedOverlaps.
 use mathlib.Core.Path.{_≡_}
-use mathlib.Core.List.{List, [], _∷_}
+use mathlib.Core.List.{List, [], _∷_, _++_, flatMap}
 use Prim.Native.Nat.{ℕ, _*_}
+use Rattle.laws.specs.Lists.{from}
 use Rattle.definition.specs.Field.{bits, bytes}
 use Rattle.definition.specs.Sheet.{form1, limits1}
 use Rattle.definition.specs.Fold.{numbers, fold}
@@ -74,12 +75,13 @@ p7 = record {
   written = hex 17 0x00010000000000004000075D4044B04380;
 }
 
--- P9: Additional Open, weekdays Mo-We and Tu-Th, 10:00-12:00 with `open_end`: Mo,Th that span; Tu-We the span twice.
+-- P9: Additional Open, weekdays Mo-We and Tu-Th, 10:00-12:00 with `open_end`. 01 shows the span twice on Tu-We; 02: "Case P9 now shows a
+-- refusal", 11 with 0.
 abbrev pub p9 : Case
 p9 = record {
   sheet = hex 23 0x0001400000000000002004100007FE2C0003FF12C0B420;
-  answer = 0 ∷ 1 ∷ 2 ∷ 0 ∷ 43 ∷ 0 ∷ 0 ∷ [];
-  written = hex 43 0x0002000000000000002004000007FE6C0003FF12C0B42000000000000001008500007FE258168425816840;
+  answer = 11 ∷ 0 ∷ 0 ∷ 0 ∷ 0 ∷ 0 ∷ 0 ∷ [];
+  written = [];
 }
 
 -- P10: Open 08:00-18:00; Unknown 10:00-11:00 with `open_end`; Unknown 12:00-13:00: Open 08:00-12:00,13:00-18:00; Unknown
@@ -107,11 +109,11 @@ growing = record {
   written = hex 46 0x00020000000400000010047D01F440004000007FE25821C0000000080000002008FA03E80000890000FFC4B04380;
 }
 
--- Tuesday twice and January twice push an open-ended span four times.
+-- four Additional rules over Tuesday in January push an open-ended span four times.
 abbrev pub pushes : Case
 pushes = record {
-  sheet = hex 25 0x000140000000020000200411044480007FE240003FF12C0B42;
-  answer = 0 ∷ 1 ∷ 1 ∷ 0 ∷ 31 ∷ 0 ∷ 0 ∷ [];
+  sheet = hex 73 0x000440000000010000100411120001FF89605A120000000008000080208890000FFC4B02D0900000000040000401044480007FE258168480000000020000200822240003FF12C0B420;
+  answer = 0 ∷ 4 ∷ 1 ∷ 0 ∷ 31 ∷ 0 ∷ 0 ∷ [];
   written = hex 31 0x000100000000010000101011120001FF89605A109605A109605A109605A100;
 }
 
@@ -131,19 +133,23 @@ staysGrouped = record {
   written = hex 39 0x00030000000000000000044B02D09800000000000000011680C304000000000000000046183480;
 }
 
--- Tuesday twice and January sixteen times push 32 entries, and fold.
+-- some times four Additional rules without items and spans, which are 280 bits and so end with a byte
+abbrev fours : ℕ → List ℕ
+fours n = flatMap (λ k. hex 35 0x4000000000000000010000000000000000040000000000000000100000000000000000) (from 0 n)
+
+-- 31 such rules, then one over Tuesday in January: 32 entries there, and it folds.
 abbrev pub entries32 : Case
 entries32 = record {
-  sheet = hex 43 0x00014000000010000020041104411044110441104411044110441104411044480007FE240003FF12C10E00;
-  answer = 0 ∷ 1 ∷ 1 ∷ 0 ∷ 20 ∷ 0 ∷ 0 ∷ [];
+  sheet = hex 2 0x0020 ++ fours 7 ++ hex 44 0x4000000000000000010000000000000000040000000000000000100000000040000401044480007FE25821C0;
+  answer = 0 ∷ 32 ∷ 1 ∷ 0 ∷ 20 ∷ 0 ∷ 0 ∷ [];
   written = hex 20 0x000100000000010000100411120001FF89608700;
 }
 
--- Tuesday three times and January eleven times push 33 entries after the second rule: 6 with 1.
+-- four Normal rules, each of which replaces the one before, then 32 Additional ones: 33 entries after the last, 6 with 35.
 abbrev pub entries33 : Case
 entries33 = record {
-  sheet = hex 57 0x0002000000000000001004000007FE25821C0800000001600006008220882208822088220882208822240003FF120001FF890000FFC4B04380;
-  answer = 6 ∷ 0 ∷ 0 ∷ 0 ∷ 0 ∷ 1 ∷ 0 ∷ [];
+  sheet = hex 2 0x0024 ++ hex 35 0 ++ fours 8;
+  answer = 6 ∷ 0 ∷ 0 ∷ 0 ∷ 0 ∷ 35 ∷ 0 ∷ [];
   written = [];
 }
 

@@ -1,15 +1,16 @@
 -- THE MEANING OF AN UPDATE: every box's list is the definition's `after` at the box's first point, and the flag says whether one is too long.
 use mathlib.Core.Path.{_≡_, refl, sym, ap, _∙_, subst}
-use mathlib.Core.Bool.{Bool, true, false, cond, _||_, true≢false, false≢true}
+use mathlib.Core.Bool.{Bool, true, false, cond}
 use mathlib.Core.List.{List, [], _∷_, _++_, map, map-append}
 use Prim.Native.Nat.{ℕ, zero, suc, _+_, _*_, _≤_, _<_, _/_}
 use native.Mathlib.Omega.{arith}
 use lib.Dec.{eqb, ltb}
 use lib.ListN.{length, getD, replicate}
-use borrow.Author.Tests.{lt-ltb, ltb-true, eq-eqb, eqb-true, eqb-false}
-use Rattle.laws.specs.Lists.{from, anyOf, count, All, Mem}
+use borrow.Author.Tests.{lt-ltb, ltb-true, eq-eqb}
+use Rattle.laws.specs.Lists.{from, count, All, Mem}
 use Rattle.laws.proofs.Flags.{same-flag}
 use Rattle.laws.proofs.Lists.{All-map, All-append}
+use Rattle.laws.proofs.Numbers.{any-from, from-any}
 use Rattle.grid.specs.Group.{Map, at, somewhere}
 use Rattle.paving.specs.Grid.{Node, axes}
 use Rattle.paving.proofs.Room.{node-in, node-child}
@@ -26,35 +27,13 @@ use Rattle.draw_rule.proofs.Drawing.{drawn-all, full-all}
 use Rattle.tables.proofs.Lists.{list-length}
 
 -- ## Some box
-any-from : (t : ℕ → Bool) (s n : ℕ) → anyOf t (from s n) ≡ true → (x : ℕ) × (x < s + n) × (t x ≡ true)
-unfolding anyOf from
-any-from t s zero h = absurd (false≢true h)
-any-from t s (suc n) h = go (t s) refl (any-from t (suc s) n)
-  where
-    go : (b : Bool) → t s ≡ b → (anyOf t (from (suc s) n) ≡ true → (x : ℕ) × (x < suc s + n) × (t x ≡ true)) → (x : ℕ) × (x < s + suc n) × (t x ≡ true)
-    go true e ih = (s, omega arith, e)
-    go false e ih = let r = ih (rw e at h) in (r .0, omega (arith, r .1), r .2)
-
-from-any : (t : ℕ → Bool) (s n x : ℕ) → s ≤ x → x < s + n → t x ≡ true → anyOf t (from s n) ≡ true
-unfolding anyOf from
-from-any t s zero x l k h = absurd (omega arith)
-from-any t s (suc n) x l k h = go (t s) refl (from-any t (suc s) n x)
-  where
-    go : (b : Bool) → t s ≡ b → (suc s ≤ x → x < suc s + n → t x ≡ true → anyOf t (from (suc s) n) ≡ true) → t s || anyOf t (from (suc s) n) ≡ true
-    go true e ih = rw e
-    go false e ih = rw e (ih (other e (eqb s x) refl) (omega arith) h)
-      where
-        other : t s ≡ false → (b : Bool) → eqb s x ≡ b → suc s ≤ x
-        other e true q = absurd (true≢false (sym h ∙ ap t (sym (eqb-true s x q)) ∙ e))
-        other e false q = omega (arith, eqb-false s x q)
-
 somewhere-box : (sizes : List ℕ) (l : ℕ) (t : Map ℕ Bool) → somewhere (axes sizes l) t ≡ true → (p : List ℕ) × Within sizes l p × (t p ≡ true)
 unfolding somewhere axes
 somewhere-box sizes zero t h = ([], tt, h)
 somewhere-box sizes (suc i) t h =
     let r = any-from (λ x. somewhere (axes sizes i) (at t x)) 0 (getD sizes i 0) h in
-    let q = somewhere-box sizes i (at t (r .0)) (r .2) in
-    (r .0 ∷ q .0, (omega (arith, r .1), q .1), q .2)
+    let q = somewhere-box sizes i (at t (r .0)) (r .3) in
+    (r .0 ∷ q .0, (omega (arith, r .2), q .1), q .2)
 
 box-somewhere : (sizes : List ℕ) (l : ℕ) (t : Map ℕ Bool) (p : List ℕ) → Within sizes l p → t p ≡ true → somewhere (axes sizes l) t ≡ true
 unfolding somewhere axes

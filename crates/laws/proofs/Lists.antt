@@ -1,5 +1,5 @@
 -- Laws of the words on lists. Rests on the flags' laws.
-use mathlib.Core.Path.{_≡_, refl, sym, ap, subst}
+use mathlib.Core.Path.{_≡_, refl, sym, ap, ap₂, _∙_, subst}
 use mathlib.Core.List.{List, [], _∷_, _++_, map}
 use mathlib.Core.Logic.{inl, inr}
 use mathlib.Core.Option.{Option, none, some}
@@ -96,6 +96,11 @@ every-at P t same x k (y ∷ D) e i = go (same x y) refl (every-at P t same x k 
     go : (b : Bool) → same x y ≡ b → (anyOf (same x) D ≡ true → P x) → P x
     go true s ih = k y s (split-and (t y) (every t D) e .0)
     go false s ih = ih (rw s at i)
+
+pub any-same : {A : Type 0} (t u : A → Bool) (xs : List A) → All (λ x. t x ≡ u x) xs → anyOf t xs ≡ anyOf u xs
+unfolding anyOf
+any-same t u [] h = refl
+any-same t u (x ∷ xs) h = ap₂ _||_ (h .0) (any-same t u xs (h .1))
 
 pub anyOf-append : {A : Type 0} (t : A → Bool) (xs ys : List A) → anyOf t (xs ++ ys) ≡ anyOf t xs || anyOf t ys
 unfolding anyOf
@@ -227,6 +232,23 @@ any-none t x (y ∷ D) h m = go (t y) refl m (any-none t x D)
     go true e k ih = absurd (true≢false (rw e at h))
     go false e (inl q) ih = rw q e
     go false e (inr k) ih = ih (rw e at h) k
+
+-- some element passes where one does; and then there is one
+pub some-any : {A : Type 0} (t : A → Bool) (x : A) (D : List A) → Mem x D → t x ≡ true → anyOf t D ≡ true
+some-any t x D m e = go (anyOf t D) refl
+  where
+    go : (b : Bool) → anyOf t D ≡ b → anyOf t D ≡ true
+    go true h = h
+    go false h = absurd (true≢false (sym e ∙ any-none t x D h m))
+
+pub any-some : {A : Type 0} (t : A → Bool) (D : List A) → anyOf t D ≡ true → (x : A) × Mem x D × (t x ≡ true)
+unfolding anyOf Mem
+any-some t [] h = absurd (false≢true h)
+any-some {A} t (y ∷ D) h = go (t y) refl (any-some t D)
+  where
+    go : (b : Bool) → t y ≡ b → (anyOf t D ≡ true → (x : A) × Mem x D × (t x ≡ true)) → (x : A) × Mem x (y ∷ D) × (t x ≡ true)
+    go true e ih = (y, inl refl, e)
+    go false e ih = let k = ih (rw e at h) in (k .0, inr (k .1), k .2)
 
 pub Mem-left : {A : Type 0} (x : A) (D E : List A) → Mem x D → Mem x (D ++ E)
 unfolding Mem

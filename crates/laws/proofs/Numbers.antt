@@ -1,17 +1,18 @@
--- Laws of `from`, the numbers from a first one on. Rests on the lists' laws.
-use mathlib.Core.Path.{_≡_, refl, ap, ap₂, _∙_}
-use mathlib.Core.List.{_∷_, _++_, map}
-use mathlib.Core.Bool.{Bool, true, false}
+-- Laws of `from`, the numbers from a first one on, and of numbers that rise. Rests on the lists' laws.
+use mathlib.Core.Path.{_≡_, refl, sym, ap, ap₂, _∙_}
+use mathlib.Core.List.{List, [], _∷_, _++_, map}
+use mathlib.Core.Bool.{Bool, true, false, true≢false}
 use mathlib.Core.Option.{none, some}
 use mathlib.Core.Logic.{_⊎_, inl, inr}
 use Prim.Native.Nat.{ℕ, zero, suc, _+_, _≤_, _<_}
 use native.Mathlib.Omega.{arith}
-use lib.ListN.{length}
+use lib.ListN.{length, getD}
 use lib.Dec.{eqb, ltb}
 use borrow.Author.Tests.{ne-eqb, eqb-true, eqb-false, ltb-true, ltb-false}
-use Rattle.laws.specs.Lists.{from, firstOf, onlyIf, every, anyOf, All, Mem}
+use Rattle.laws.specs.Lists.{from, firstOf, onlyIf, every, anyOf, All, Rises, Mem}
+use Rattle.laws.proofs.Flags.{not-true}
 use Rattle.laws.proofs.Tests.{exact-eqb}
-use Rattle.laws.proofs.Lists.{every-at, any-Mem}
+use Rattle.laws.proofs.Lists.{All-Mem, every-at, any-Mem, any-some, some-any}
 
 pub length-from : (s n : ℕ) → length (from s n) ≡ n
 unfolding from
@@ -55,6 +56,39 @@ pub every-below : (t : ℕ → Bool) (n : ℕ) → every t (from 0 n) ≡ true �
 every-below t n e k l = every-at (λ i. t i ≡ true) t eqb k (λ y s h. ap t (eqb-true k y s) ∙ h) (from 0 n) e (from-inside k 0 n (omega arith) (omega arith))
 
 -- at most as large, or larger
+-- one of the numbers' images
+pub getD-from : {A : Type 0} (f : ℕ → A) (d : A) (s n k : ℕ) → k < n → getD (map f (from s n)) k d ≡ f (s + k)
+unfolding from
+getD-from f d s zero k l = absurd (omega arith)
+getD-from f d s (suc n) zero l = let z : s ≡ s + 0 = omega arith in ap f z
+getD-from f d s (suc n) (suc k) l = let z : suc s + k ≡ s + suc k = omega arith in getD-from f d (suc s) n k (omega arith) ∙ ap f z
+
+-- some number passes: there is one, or none does
+pub any-from : (t : ℕ → Bool) (s n : ℕ) → anyOf t (from s n) ≡ true → (x : ℕ) × (s ≤ x) × (x < s + n) × (t x ≡ true)
+any-from t s n h =
+    let k = any-some t (from s n) h in
+    let l = All-Mem (λ x. (s ≤ x) × (x < s + n)) (from s n) (All-from _ s n (λ x a b. (a, b))) (k .0) (k .1) in
+    (k .0, l .0, l .1, k .2)
+
+pub from-any : (t : ℕ → Bool) (s n x : ℕ) → s ≤ x → x < s + n → t x ≡ true → anyOf t (from s n) ≡ true
+from-any t s n x l k h = some-any t x (from s n) (Mem-from x s n l k) h
+
+pub from-none : (t : ℕ → Bool) (s n : ℕ) → ((x : ℕ) → s ≤ x → x < s + n → t x ≡ false) → anyOf t (from s n) ≡ false
+from-none t s n h = not-true (anyOf t (from s n)) (λ e. let k = any-from t s n e in true≢false (sym (k .3) ∙ h (k .0) (k .1) (k .2)))
+
+-- rising numbers: below a higher bound, with the bound itself behind them, and how many there are at most
+pub rises-more : (s n : ℕ) (ks : List ℕ) → Rises s n ks → Rises s (suc n) ks
+rises-more s n [] h = tt
+rises-more s n (k ∷ ks) h = (h .0, omega (arith, h .1), rises-more (suc k) n ks (h .2))
+
+pub rises-last : (s n : ℕ) (ks : List ℕ) → s ≤ n → Rises s n ks → Rises s (suc n) (ks ++ (n ∷ []))
+rises-last s n [] l h = (l, omega arith, tt)
+rises-last s n (k ∷ ks) l h = (h .0, omega (arith, h .1), rises-last (suc k) n ks (omega (arith, h .1)) (h .2))
+
+pub rises-few : (s n : ℕ) (ks : List ℕ) → s ≤ n → Rises s n ks → s + length ks ≤ n
+rises-few s n [] l h = omega arith
+rises-few s n (k ∷ ks) l h = omega (arith, h .0, rises-few (suc k) n ks (omega (arith, h .1)) (h .2))
+
 pub at-most : (x y : ℕ) → (x ≤ y) ⊎ (y < x)
 at-most x y = go (ltb y x) refl
   where

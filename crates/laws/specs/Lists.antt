@@ -1,10 +1,11 @@
 -- Lists: the words that the definitions and their laws share. No word of the domain stands here.
-use mathlib.Core.List.{List, [], _∷_}
-use mathlib.Core.Option.{Option, none, some}
+use mathlib.Core.List.{List, [], _∷_, map}
+use mathlib.Core.Option.{Option, none, some, Option·map}
 use mathlib.Core.Bool.{Bool, true, false, _&&_, _||_, cond}
 use mathlib.Core.Logic.{_⊎_}
 use mathlib.Core.Path.{_≡_}
-use Prim.Native.Nat.{ℕ, zero, suc, _+_}
+use Prim.Native.Nat.{ℕ, zero, suc, _+_, _≤_, _<_}
+use lib.ListN.{length, getD, getElem?}
 
 -- n numbers from s on
 unfoldable pub from : ℕ → ℕ → List ℕ
@@ -31,6 +32,16 @@ unfoldable pub anyOf : {A : Type 0} → (A → Bool) → List A → Bool
 anyOf t [] = false
 anyOf t (x ∷ xs) = t x || anyOf t xs
 
+-- does some pair of elements pass, the one that stands first put first?
+unfoldable pub anyPair : {A : Type 0} → (A → A → Bool) → List A → Bool
+anyPair t [] = false
+anyPair t (x ∷ xs) = anyOf (t x) xs || anyPair t xs
+
+-- the index of the first element that passes
+unfoldable pub firstIndex : {A : Type 0} → (A → Bool) → List A → Option ℕ
+firstIndex t [] = none
+firstIndex t (x ∷ xs) = elim (t x) [ true ↦ some 0 | false ↦ Option·map suc (firstIndex t xs) ]
+
 -- how many elements pass
 unfoldable pub count : {A : Type 0} → (A → Bool) → List A → ℕ
 count t [] = 0
@@ -50,6 +61,25 @@ sum h (x ∷ xs) = h x + sum h xs
 abbrev pub All : {A : Type 0} → (A → Type 0) → List A → Type 0
 All P [] = Unit {0}
 All P (x ∷ xs) = P x × All P xs
+
+-- the element of index k passes; it fails, if there is one; it passes and none before it does
+abbrev pub PassesAt : {A : Type 0} → (A → Bool) → List A → ℕ → Type 0
+PassesAt {A} t xs k = (x : A) × (getElem? xs k ≡ some x) × (t x ≡ true)
+
+abbrev pub FailsAt : {A : Type 0} → (A → Bool) → List A → ℕ → Type 0
+FailsAt {A} t xs k = (x : A) → getElem? xs k ≡ some x → t x ≡ false
+
+abbrev pub FirstAt : {A : Type 0} → (A → Bool) → List A → ℕ → Type 0
+FirstAt t xs k = PassesAt t xs k × ((j : ℕ) → j < k → FailsAt t xs j)
+
+-- numbers that rise, from s on and below n
+abbrev pub Rises : ℕ → ℕ → List ℕ → Type 0
+Rises s n [] = Unit {0}
+Rises s n (k ∷ ks) = (s ≤ k) × (k < n) × Rises (suc k) n ks
+
+-- some elements of xs, none twice, in their order: those of rising indexes
+abbrev pub InTurn : {A : Type 0} → A → List A → List A → Type 0
+InTurn d xs l = (ks : List ℕ) × Rises 0 (length xs) ks × (l ≡ map (λ k. getD xs k d) ks)
 
 -- an element of the list
 unfoldable pub Mem : {A : Type 0} → A → List A → Type 0

@@ -8,14 +8,14 @@ use native.Mathlib.Omega.{arith}
 use lib.Dec.{eqb}
 use lib.ListN.{length, getD}
 use borrow.Author.Tests.{ne-eqb}
-use Rattle.laws.specs.Lists.{from}
+use Rattle.laws.specs.Lists.{from, firstIndex}
 use Rattle.laws.proofs.Numbers.{from-append}
 use Rattle.laws.proofs.Spread.{flatMap-last}
 use Rattle.definition.specs.Rule.{Rule}
 use Rattle.definition.specs.Point.{isNormal}
 use Rattle.definition.specs.Text.{Text, isNone}
 use Rattle.definition.specs.Line.{before, ruleText, lineOf}
-use Rattle.definition.specs.Show.{firstIndex, wordless, firstWordless}
+use Rattle.definition.specs.Show.{wordless, firstWordless}
 use Rattle.sheet.specs.Begin.{ruleReadAt}
 use Rattle.sheet.specs.Rules.{rulesAt}
 use Rattle.rule_text.specs.Rule.{shownText, lacksWords}

@@ -8,13 +8,13 @@ use native.Mathlib.Omega.{arith}
 use native.Mathlib.Numerals.{add-one}
 use lib.Dec.{eqb}
 use lib.ListN.{length, getD, length-append}
-use Rattle.laws.specs.Lists.{from}
+use Rattle.laws.specs.Lists.{from, firstIndex}
 use Rattle.definition.specs.Field.{sheetBits}
 use Rattle.definition.specs.Rule.{Rule}
 use Rattle.definition.specs.Sheet.{form1, limits1}
 use Rattle.definition.specs.Text.{Text}
 use Rattle.definition.specs.Line.{ruleText, lineOf}
-use Rattle.definition.specs.Show.{firstIndex, firstWordless}
+use Rattle.definition.specs.Show.{firstWordless}
 use Rattle.definition.proofs.Bits.{Bytes}
 use Rattle.definition.proofs.SheetRead.{carried, rule-faithful}
 use Rattle.lines.proofs.Short.{rule-text-short, before-short}

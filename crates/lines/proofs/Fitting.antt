@@ -22,7 +22,7 @@ use Rattle.definition.specs.Line.{Item, single, item, yearSteps, weekSteps, mon
 use Rattle.definition.specs.Show.{wordless, firstWordless}
 use Rattle.definition.proofs.Lawful.{year-lawful, week-lawful, month-lawful, weekday-lawful, items-fit, rules-each}
 use Rattle.lines.proofs.Carried.{year-step, week-step, span-carried}
-use Rattle.lines.proofs.Passing.{none-passes, Found, first-found}
+use Rattle.laws.proofs.Passing.{none-passes, Found, first-found}
 
 -- what is nothing where a test passes fits, if it fits elsewhere
 unless-fits : (b f : Bool) → (b ≡ false → f ≡ true) → cond b true f ≡ true

@@ -1,39 +1,36 @@
--- THE LOOKUP'S ANSWERS for a point: 5, 6, 9 where a rule is left, and else the state by the point's list. Rests on the judgement by cases.
-use mathlib.Core.Path.{_≡_, sym, ap, _∙_}
+-- THE LOOKUP'S ANSWERS for a point: 11, 5, 6, 9 where a rule is left, and else the state by the point's list. Rests on the judgement by cases.
+use mathlib.Core.Path.{_≡_}
 use mathlib.Core.List.{List, [], _∷_}
 use mathlib.Core.Option.{some, none}
 use Prim.Native.Nat.{ℕ, _≤_, _<_}
 use native.Mathlib.Omega.{arith}
 use lib.ListN.{length}
-use Rattle.definition.specs.Field.{manyBoxes, longList, unsettled}
+use Rattle.definition.specs.Field.{longList, unsettled}
 use Rattle.definition.specs.Rule.{Rule}
 use Rattle.definition.specs.Sheet.{limits1}
 use Rattle.definition.specs.Stop.{drained, left}
 use Rattle.definition.specs.Point.{dimensions, listAt, firstTooLong}
+use Rattle.definition.specs.Overlap.{firstOverlap}
 use Rattle.definition.specs.Box.{boxCount}
 use Rattle.definition.specs.Fold.{over, drain}
 use Rattle.definition.specs.Lookup.{Looked, refusal, stateAt}
-use Rattle.definition.proofs.Drained.{left-behind, drain-many, drain-long, drain-fine}
+use Rattle.definition.proofs.Drained.{left-behind, drain-long, drain-fine}
 use Rattle.lookup.specs.Looks.{lookAt}
 
 module _ (rs : List Rule) (p : List ℕ) (m : ℕ) (answer : Looked) where
-  rules-refused : (c q : ℕ) → drain limits1 (drained rs) ≡ over c q → answer ≡ refusal c q → answer ≡ lookAt rs p m
+  -- 11, 5 and 6
+  pub rules-refused : (c q : ℕ) → drain limits1 (drained rs) ≡ over c q → answer ≡ refusal c q → answer ≡ lookAt rs p m
   unfolding lookAt
   rules-refused c q d h = rw (d, lookAt) h
 
-  -- 5
-  pub boxes-refused : (boxes : ℕ) → boxes ≡ boxCount dimensions (drained rs) → limits1 .boxes < boxes → answer ≡ refusal manyBoxes boxes → answer ≡ lookAt rs p m
-  boxes-refused boxes b more h = rules-refused manyBoxes boxes (drain-many limits1 (drained rs) (omega (arith, b, more)) ∙ ap (over manyBoxes) (sym b)) h
-
-  module _ (few : boxCount dimensions (drained rs) ≤ limits1 .boxes) where
-    -- 6
+  module _ (apart : firstOverlap (drained rs) ≡ none) (few : boxCount dimensions (drained rs) ≤ limits1 .boxes) where
     pub list-refused : (k : ℕ) → firstTooLong (limits1 .entries) (drained rs) ≡ some k → answer ≡ refusal longList k → answer ≡ lookAt rs p m
-    list-refused k f h = rules-refused longList k (drain-long limits1 (drained rs) few k f) h
+    list-refused k f h = rules-refused longList k (drain-long limits1 (drained rs) apart few k f) h
 
     module _ (short : firstTooLong (limits1 .entries) (drained rs) ≡ none) where
       drawn : answer ≡ stateAt (left rs) (listAt (drained rs) p) m → answer ≡ lookAt rs p m
       unfolding lookAt
-      drawn h = rw (drain-fine limits1 (drained rs) few short, lookAt) h
+      drawn h = rw (drain-fine limits1 (drained rs) apart few short, lookAt) h
 
       -- 9
       pub left-refused : length (drained rs) < length rs → answer ≡ refusal unsettled 0 → answer ≡ lookAt rs p m

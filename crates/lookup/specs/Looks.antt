@@ -11,11 +11,11 @@ use Rattle.definition.specs.Fold.{Drained, fine, over, drain}
 use Rattle.definition.specs.Lookup.{Looked, refusal, stateAt}
 use Rattle.prepare.specs.Prepared.{ToDraw}
 
--- 5 and 6, or the state by the list at the point
+-- 11, 5 and 6, or the state by the list at the point
 unfoldable pub lookAt : List Rule → List ℕ → ℕ → Looked
 lookAt rs p m = elim (drain limits1 (drained rs)) [ over c q ↦ refusal c q | fine ↦ stateAt (left rs) (listAt (drained rs) p) m ]
 
--- A SHEET'S RULES, the drained ones in tables and their cuts in rows, with no more boxes than the limit, and so many left
+-- A SHEET'S RULES, the drained ones in tables and their cuts in rows, passed by 11 and 5, and so many left
 pub record Lookable (states counts spans replacing rangeCounts ranges rows sizes cuts : List ℕ) (left : ℕ) (rs : List Rule) : Type 0 where
   pub to-draw : ToDraw states counts spans replacing rangeCounts ranges rows sizes cuts (drained rs)
   pub counted : length states + left ≡ length rs

@@ -1,10 +1,10 @@
-// State lookup in a checked sheet: "kind and comment of the last covering span in that point's list, else Closed and 0". Refusals: 8, 5, 6, 9.
+// State lookup in a checked sheet: "kind and comment of the last covering span in that point's list, else Closed and 0". Refusals: 8, 11, 5, 6, 9.
 use answers::Answer;
 use answers::lookup_refused;
 use calendar::Dated;
 use draw_rules::draw_rules;
-use limits::boxes_over;
 use limits::past_midnight;
+use prepare::Judged;
 use prepare::prepare;
 use state_at::Moment;
 use state_at::answer::numbers_of;
@@ -69,7 +69,7 @@ fn look_boxes(
     ))
 }
 
-// Drains the rules and cuts the dimensions (5), then looks the moment up.
+// Drains the rules and cuts the dimensions (11, 5), then looks the moment up.
 fn look_moment(sheet: &[u8], begins: &[usize], count: usize, moment: Moment) -> Answer
     requires { ⌜ RulesRead (now sheet) (now begins) count ⌝ }
     requires { ⌜ InBounds allBounds (momentPoint moment) ⌝ }
@@ -84,7 +84,7 @@ fn look_moment(sheet: &[u8], begins: &[usize], count: usize, moment: Moment) -> 
     let mut row_starts = [0u16; 4];
     let mut sizes = [0u16; 4];
     let mut cuts = [0u16; 16392];
-    let drained = prepare(
+    let judged = prepare(
         sheet,
         begins,
         count,
@@ -98,24 +98,25 @@ fn look_moment(sheet: &[u8], begins: &[usize], count: usize, moment: Moment) -> 
         &mut sizes,
         &mut cuts,
     );
-    if boxes_over(drained.boxes) {
-        return lookup_refused(5, drained.boxes);
+    match judged {
+        Judged::Fine(rules, why) => {
+            let places = rules * 16;
+            look_boxes(
+                &states[..rules],
+                &span_counts[..rules],
+                &spans[..places],
+                &replacing,
+                &range_counts,
+                &ranges,
+                &row_starts,
+                &sizes,
+                &cuts,
+                count - rules,
+                moment,
+            )
+        }
+        Judged::Refused(code, place) => lookup_refused(code, place),
     }
-    let rules = drained.rules;
-    let places = rules * 16;
-    look_boxes(
-        &states[..rules],
-        &span_counts[..rules],
-        &spans[..places],
-        &replacing,
-        &range_counts,
-        &ranges,
-        &row_starts,
-        &sizes,
-        &cuts,
-        count - rules,
-        moment,
-    )
 }
 
 // Tests the date and the minute (8), then looks them up.

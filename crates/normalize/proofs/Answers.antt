@@ -1,15 +1,15 @@
--- THE FOLD'S ANSWERS: a refusal by 1 to 4, by 5 or by 6, and the result of all other sheets. Rests on the fold by cases.
-use mathlib.Core.Path.{_≡_, refl, sym, ap, _∙_, subst}
+-- THE FOLD'S ANSWERS: a refusal by 1 to 4, by 11, 5 or 6, and the result of all other sheets. Rests on the fold by cases.
+use mathlib.Core.Path.{_≡_, refl, sym, subst}
 use mathlib.Core.List.{List}
 use mathlib.Core.Option.{some, none}
-use Prim.Native.Nat.{ℕ, _-_, _≤_, _<_}
-use native.Mathlib.Omega.{arith}
+use Prim.Native.Nat.{ℕ, _≤_}
 use lib.ListN.{length}
-use Rattle.definition.specs.Field.{got, refused, manyBoxes, longList}
+use Rattle.definition.specs.Field.{got, refused, longList}
 use Rattle.definition.specs.Rule.{Rule}
 use Rattle.definition.specs.Sheet.{form1, limits1, decode}
 use Rattle.definition.specs.Stop.{drained}
 use Rattle.definition.specs.Point.{dimensions, firstTooLong}
+use Rattle.definition.specs.Overlap.{firstOverlap}
 use Rattle.definition.specs.Box.{boxCount}
 use Rattle.definition.specs.Fold as definition
 use Rattle.definition.specs.Fold.{over, drain, numbers, refusal, buffer, fold}
@@ -17,7 +17,7 @@ use Rattle.answers.specs.declared.Folded.{Folded}
 use Rattle.fold_write.specs.Emission.{emission}
 use Rattle.answers.specs.Numbers.{foldNumbers}
 use Rattle.normalize.specs.Folds.{Folds}
-use Rattle.definition.proofs.Drained.{drain-many, drain-long, drain-fine}
+use Rattle.definition.proofs.Drained.{drain-long, drain-fine}
 use Rattle.definition.proofs.FoldCases.{fold-refused, fold-over, fold-fine}
 
 module _ (sheet out : List ℕ) (r : Folded) where
@@ -30,19 +30,15 @@ module _ (sheet out : List ℕ) (r : Folded) where
   sheet-refused c p e n = answers out (refusal c p) (fold-refused form1 limits1 (length out) sheet c p e) n refl
 
   module _ (rs : List Rule) (end : ℕ) (e : decode form1 limits1 sheet ≡ got rs end) where
-    rules-refused : (c p : ℕ) → drain limits1 (drained rs) ≡ over c p → foldNumbers r ≡ numbers (refusal c p) → Folds sheet out r out
+    -- 11, 5 and 6
+    pub rules-refused : (c p : ℕ) → drain limits1 (drained rs) ≡ over c p → foldNumbers r ≡ numbers (refusal c p) → Folds sheet out r out
     rules-refused c p d n = answers out (refusal c p) (fold-over form1 limits1 (length out) sheet rs end e c p d) n refl
 
-    -- 5
-    pub boxes-refused : (boxes : ℕ) → boxes ≡ boxCount dimensions (drained rs) → limits1 .boxes < boxes → foldNumbers r ≡ numbers (refusal manyBoxes boxes) → Folds sheet out r out
-    boxes-refused boxes b m n = rules-refused manyBoxes boxes (drain-many limits1 (drained rs) (omega (arith, b, m)) ∙ ap (over manyBoxes) (sym b)) n
-
-    module _ (few : boxCount dimensions (drained rs) ≤ limits1 .boxes) where
-      -- 6
+    module _ (apart : firstOverlap (drained rs) ≡ none) (few : boxCount dimensions (drained rs) ≤ limits1 .boxes) where
       pub list-refused : (k : ℕ) → firstTooLong (limits1 .entries) (drained rs) ≡ some k → foldNumbers r ≡ numbers (refusal longList k) → Folds sheet out r out
-      list-refused k f n = rules-refused longList k (drain-long limits1 (drained rs) few k f) n
+      list-refused k f n = rules-refused longList k (drain-long limits1 (drained rs) apart few k f) n
 
       -- 7, or the result
       pub rules-folded : (after : List ℕ) → firstTooLong (limits1 .entries) (drained rs) ≡ none
           → (foldNumbers r ≡ numbers (emission (length out) rs)) × (after ≡ buffer (emission (length out) rs .result) out) → Folds sheet out r after
-      rules-folded after f h = answers after (emission (length out) rs) (fold-fine form1 limits1 (length out) sheet rs end e (drain-fine limits1 (drained rs) few f)) (h .0) (h .1)
+      rules-folded after f h = answers after (emission (length out) rs) (fold-fine form1 limits1 (length out) sheet rs end e (drain-fine limits1 (drained rs) apart few f)) (h .0) (h .1)

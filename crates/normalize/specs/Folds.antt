@@ -18,7 +18,7 @@ use Rattle.fold_write.specs.declared.Left.{Left}
 abbrev pub Readings : List ℕ → List ℕ → ℕ → ℕ → Type 0
 Readings sheet begins many end = (rs : List Rule) × (SheetRead sheet begins rs end × (many ≡ length rs))
 
--- A SHEET'S RULES, the drained ones in tables and their cuts in rows, with no more boxes than the limit; and where the rules left stand
+-- A SHEET'S RULES, the drained ones in tables and their cuts in rows, passed by 11 and 5; and where the rules left stand
 pub record Foldable (sheet : List ℕ) (left : Left) (states counts spans replacing rangeCounts ranges rows sizes cuts : List ℕ) (rs : List Rule) : Type 0 where
   pub end : ℕ
   pub read : decode form1 limits1 sheet ≡ got rs end

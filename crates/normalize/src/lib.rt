@@ -1,4 +1,4 @@
-// The fold of a checked sheet, stage after stage: the rules before the first stopper in tables and the dimensions cut at their ranges (5), a
+// The fold of a checked sheet, stage after stage: the rules before the first stopper in tables and the dimensions cut at their ranges (11, 5), a
 // list for each box (6), pages of the folded rules, and these written before the rules that are left (7). From normalize/mod.rs.
 pub mod boxes;
 
@@ -6,14 +6,14 @@ use answers::Folded;
 use answers::fold_refused;
 use boxes::fold_boxes;
 use fold_write::rules_left;
-use limits::boxes_over;
+use prepare::Judged;
 use prepare::prepare;
 ghost use Prim.Native.Nat.{_*_, _≤_};
 ghost use lib.ListN.{length};
 ghost use Rattle.tables.specs.Sizes.{rowPlaces};
 ghost use Rattle.normalize.specs.Folds.{Readings, Folds};
 
-// Drains the rules and cuts the dimensions, in the tables that are lent; answers 5, or folds the boxes.
+// Drains the rules and cuts the dimensions, in the tables that are lent; answers 11 or 5, or folds the boxes.
 fn fold_rules_in(
     sheet: &[u8],
     begins: &[usize],
@@ -35,7 +35,7 @@ fn fold_rules_in(
 {
     let mut row_starts = [0u16; 4];
     let mut sizes = [0u16; 4];
-    let drained = prepare(
+    let judged = prepare(
         sheet,
         begins,
         count,
@@ -49,26 +49,27 @@ fn fold_rules_in(
         &mut sizes,
         cuts,
     );
-    if boxes_over(drained.boxes) {
-        return fold_refused(5, drained.boxes);
+    match judged {
+        Judged::Fine(rules, why) => {
+            let places = rules * 16;
+            let left = rules_left(begins, rules, count, end, why);
+            fold_boxes(
+                sheet,
+                left,
+                out,
+                &states[..rules],
+                &span_counts[..rules],
+                &spans[..places],
+                replacing,
+                range_counts,
+                ranges,
+                &row_starts,
+                &sizes,
+                cuts,
+            )
+        }
+        Judged::Refused(code, place) => fold_refused(code, place),
     }
-    let rules = drained.rules;
-    let places = rules * 16;
-    let left = rules_left(begins, rules, count, end, drained.why);
-    fold_boxes(
-        sheet,
-        left,
-        out,
-        &states[..rules],
-        &span_counts[..rules],
-        &spans[..places],
-        replacing,
-        range_counts,
-        ranges,
-        &row_starts,
-        &sizes,
-        cuts,
-    )
 }
 
 // Folds the rules of a checked sheet. Few of them have small tables: clearing large ones would take longer than the fold of so few.

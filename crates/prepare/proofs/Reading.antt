@@ -11,8 +11,6 @@ use Rattle.definition.specs.Field.{sheetBits}
 use Rattle.definition.specs.Rule.{Rule}
 use Rattle.definition.specs.Sheet.{form1, limits1, rule}
 use Rattle.definition.specs.Stop.{drained, why}
-use Rattle.definition.specs.Point.{dimensions}
-use Rattle.definition.specs.Box.{boxCount}
 use Rattle.definition.proofs.Bits.{Bytes}
 use Rattle.definition.proofs.Drained.{drained-fewer}
 use Rattle.definition.proofs.FoldBox.{drained-all}
@@ -22,10 +20,11 @@ use Rattle.sheet.specs.Rules.{begun, AllBegin}
 use Rattle.sheet.specs.Parts.{SheetRead}
 use Rattle.sheet.proofs.Begins.{begun-length, rules-few, all-begin}
 use Rattle.tables.specs.Rules.{AllFit, RuleTimes, RuleDays}
-use Rattle.tables.specs.Cuts.{Cut}
 use Rattle.draining.specs.Table.{Tabled, rulesFrom}
 use Rattle.draining.proofs.Begun.{rules-noted}
-use Rattle.prepare.specs.Prepared.{Prepared}
+use Rattle.prepare.specs.Prepared.{Prepared, JudgesDays, Judges}
+use Rattle.prepare.specs.declared.Judged.{Judged}
+use Rattle.prepare.specs.declared.Judged.the-variants.{Fine, Refused}
 
 module _ (sheet : List ℕ) (bytes : Bytes sheet) (begins : List ℕ) (rs : List Rule) (end count : ℕ) (reading : SheetRead sheet begins rs end) (many : count ≡ length rs) where
   same : rulesFrom (sheetBits sheet) begins 0 count ≡ rs
@@ -45,10 +44,6 @@ module _ (sheet : List ℕ) (bytes : Bytes sheet) (begins : List ℕ) (rs : List
 
   fits : AllFit (drained rs)
   fits = drained-all _ rs (every-all _ ((rule form1 limits1) .fits) (λ r e. e) rs (rules-each form1 limits1 rs (encode-decoded form1 limits1 sheet bytes rs end (reading .read) .0)))
-
-  -- ## Why it ended
-  pub why-read : (v : ℕ) → v ≡ why (rulesFrom (sheetBits sheet) begins 0 count) → v ≡ why rs
-  why-read v e = e ∙ ap why same
 
   -- ## What it leaves
   module _ (n : ℕ) (states counts spans replacing rangeCounts ranges : List ℕ) (e : n ≡ length (drained (rulesFrom (sheetBits sheet) begins 0 count)))
@@ -92,16 +87,21 @@ module _ (sheet : List ℕ) (bytes : Bytes sheet) (begins : List ℕ) (rs : List
           fits = fits;
         }
 
-        -- THE TABLES AND THE CUTS are those of the drained rules
-        pub sheet-prepared : (boxes reason : ℕ) (rows sizes cuts : List ℕ) → boxes ≡ boxCount dimensions (drained rs) → Cut rows sizes cuts (drained rs)
-            → Prepared states counts spans replacing rangeCounts ranges rows sizes cuts (drained rs) (record { rules = n; boxes = boxes; why = reason })
-        sheet-prepared boxes reason rows sizes cuts b c = record {
-          rules-many = drained-many;
-          boxes-many = b;
-          times = drained-times;
-          drawable = (
-            drained-days,
-            record { all-replacing = omega (arith, drained-few, drained-many); noted = λ k l. tabled k l .1 .replacing-held },
-            c,
-          );
-        }
+        -- THE TABLES AND THE CUTS are those of the drained rules, and so is the refusal
+        pub sheet-judged : (reason : ℕ) → reason ≡ why (rulesFrom (sheetBits sheet) begins 0 count) → (rows sizes cuts : List ℕ) (r : Judged)
+            → JudgesDays rows sizes cuts n reason (drained rs) r → Judges states counts spans replacing rangeCounts ranges rows sizes cuts rs r
+        unfolding JudgesDays Judges
+        sheet-judged reason w rows sizes cuts (Refused c p) h = h
+        sheet-judged reason w rows sizes cuts (Fine k v) h = (
+          subst (Prepared states counts spans replacing rangeCounts ranges rows sizes cuts (drained rs)) (sym (h .0)) (record {
+            rules-many = drained-many;
+            times = drained-times;
+            passed = h .3;
+            drawable = (
+              drained-days,
+              record { all-replacing = omega (arith, drained-few, drained-many); noted = λ k l. tabled k l .1 .replacing-held },
+              h .2,
+            );
+          }),
+          h .1 ∙ w ∙ ap why same,
+        )

@@ -1,5 +1,5 @@
--- What is prepared can be drawn: there are no more drained rules than were read and no more boxes than the limit, and the tables, lent up to
--- the drained rules, hold these alone.
+-- What is prepared can be drawn: there are no more drained rules than were read, and the tables, lent up to the drained rules, hold these alone. And
+-- what the answer of `prepare` says.
 use mathlib.Core.Path.{_≡_, sym, subst}
 use mathlib.Core.List.{List}
 use Prim.Native.Nat.{ℕ, _*_, _≤_}
@@ -8,29 +8,43 @@ use lib.ListN.{length, take}
 use lib.Seq.{length-take-le}
 use Rattle.definition.specs.Rule.{Rule}
 use Rattle.definition.specs.Sheet.{limits1}
-use Rattle.definition.specs.Stop.{drained}
+use Rattle.definition.specs.Stop.{drained, why}
 use Rattle.definition.specs.Point.{dimensions}
 use Rattle.definition.specs.Box.{boxCount}
+use Rattle.definition.specs.Fold.{over, drain}
 use Rattle.definition.proofs.Drained.{drained-fewer}
 use Rattle.paving_cuts.proofs.ByRules.{boxes-counted}
 use Rattle.tables.specs.Cuts.{Drawable}
-use Rattle.prepare.specs.declared.Drained.{Drained}
-use Rattle.prepare.specs.Prepared.{Prepared, ToDraw}
+use Rattle.prepare.specs.Prepared.{Prepared, Judges, ToDraw}
+use Rattle.prepare.specs.declared.Judged.{Judged}
+use Rattle.prepare.specs.declared.Judged.the-variants.{Fine, Refused}
 
 pub boxes-few : (states counts spans replacing rangeCounts ranges rows sizes cuts : List ℕ) (rs : List Rule)
     → ToDraw states counts spans replacing rangeCounts ranges rows sizes cuts rs → boxCount dimensions rs ≤ limits1 .boxes
 boxes-few states counts spans replacing rangeCounts ranges rows sizes cuts rs given =
-    omega (arith, boxes-counted rows sizes cuts rs dimensions (given .drawable .2 .cut-by), given .few-boxes)
+    omega (arith, boxes-counted rows sizes cuts rs dimensions (given .drawable .2 .cut-by), given .passed .few-boxes)
 
-module _ (states counts spans replacing rangeCounts ranges rows sizes cuts : List ℕ) (rs : List Rule) (r : Drained)
-    (given : Prepared states counts spans replacing rangeCounts ranges rows sizes cuts (drained rs) r) where
-  pub drained-within : (count : ℕ) → count ≡ length rs → r .rules ≤ count
+module _ (states counts spans replacing rangeCounts ranges rows sizes cuts : List ℕ) (rs : List Rule) (n : ℕ)
+    (given : Prepared states counts spans replacing rangeCounts ranges rows sizes cuts (drained rs) n) where
+  pub drained-within : (count : ℕ) → count ≡ length rs → n ≤ count
   drained-within count many = omega (arith, given .rules-many, drained-fewer rs, many)
 
-  pub prepared-to-draw : r .boxes ≤ limits1 .boxes → r .rules ≤ length states
-      → ToDraw (take (r .rules) states) (take (r .rules) counts) (take (r .rules * 16) spans) replacing rangeCounts ranges rows sizes cuts (drained rs)
-  prepared-to-draw few inside = record {
+  pub prepared-to-draw : n ≤ length states
+      → ToDraw (take n states) (take n counts) (take (n * 16) spans) replacing rangeCounts ranges rows sizes cuts (drained rs)
+  prepared-to-draw inside = record {
     times = given .times;
-    drawable = subst (λ n. Drawable replacing rangeCounts ranges rows sizes cuts n (drained rs)) (sym (length-take-le (r .rules) states inside)) (given .drawable);
-    few-boxes = omega (arith, boxes-counted rows sizes cuts (drained rs) dimensions (given .drawable .2 .cut-by), given .boxes-many, few);
+    drawable = subst (λ k. Drawable replacing rangeCounts ranges rows sizes cuts k (drained rs)) (sym (length-take-le n states inside)) (given .drawable);
+    passed = given .passed;
   }
+
+-- ## What the answer says
+module _ (states counts spans replacing rangeCounts ranges rows sizes cuts : List ℕ) (rs : List Rule) (r : Judged)
+    (answer : Judges states counts spans replacing rangeCounts ranges rows sizes cuts rs r) where
+  pub judged-fine : (n reason : ℕ) → r ≡ Fine n reason
+      → Prepared states counts spans replacing rangeCounts ranges rows sizes cuts (drained rs) n × (reason ≡ why rs)
+  unfolding Judges
+  judged-fine n reason e = subst (Judges states counts spans replacing rangeCounts ranges rows sizes cuts rs) e answer
+
+  pub judged-refused : (c p : ℕ) → r ≡ Refused c p → drain limits1 (drained rs) ≡ over c p
+  unfolding Judges
+  judged-refused c p e = subst (Judges states counts spans replacing rangeCounts ranges rows sizes cuts rs) e answer

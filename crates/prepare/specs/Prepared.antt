@@ -1,17 +1,20 @@
--- What `prepare` leaves of a sheet that was read: the tables of its drained rules, and the rows of their cuts.
+-- What `prepare` answers of a sheet that was read, and leaves of it: the tables of its drained rules, and the rows of their cuts.
 use mathlib.Core.Path.{_≡_}
 use mathlib.Core.List.{List}
+use mathlib.Core.Option.{none}
 use Prim.Native.Nat.{ℕ, _*_, _≤_}
 use lib.ListN.{length, take}
 use Rattle.definition.specs.Rule.{Rule}
 use Rattle.definition.specs.Sheet.{limits1}
-use Rattle.definition.specs.Point.{dimensions}
-use Rattle.definition.specs.Box.{boxCount}
+use Rattle.definition.specs.Stop.{drained, why}
+use Rattle.definition.specs.Overlap.{firstOverlap}
+use Rattle.definition.specs.Fold.{over, drain}
 use Rattle.sheet.specs.Parts.{SheetRead}
 use Rattle.paving.specs.Grid.{sizeOf}
 use Rattle.tables.specs.Rules.{RuleTimes}
-use Rattle.tables.specs.Cuts.{Drawable}
-use Rattle.prepare.specs.declared.Drained.{Drained}
+use Rattle.tables.specs.Cuts.{Cut, Drawable}
+use Rattle.prepare.specs.declared.Judged.{Judged}
+use Rattle.prepare.specs.declared.Judged.the-variants.{Fine, Refused}
 
 -- ## A sheet
 -- so many rules are read from a sheet, and it is noted where they begin
@@ -23,15 +26,31 @@ abbrev pub EachReading : List ℕ → List ℕ → ℕ → (List Rule → Type 0
 EachReading sheet begins n P = (rs : List Rule) (end : ℕ) → SheetRead sheet begins rs end → n ≡ length rs → P rs
 
 -- ## Its drained rules
--- THE TABLES of so many rules, and the rows of their cuts with so many boxes between them
-pub record Prepared (states counts spans replacing rangeCounts ranges rows sizes cuts : List ℕ) (rs : List Rule) (r : Drained) : Type 0 where
-  pub rules-many : r .rules ≡ length rs
-  pub boxes-many : r .boxes ≡ boxCount dimensions rs
-  pub times : RuleTimes (take (r .rules) states) (take (r .rules) counts) (take (r .rules * 16) spans) rs
-  pub drawable : Drawable replacing rangeCounts ranges rows sizes cuts (r .rules) rs
+-- 11 and 5 pass them: none has days typed twice, and there are no more boxes between their cuts than the limit
+pub record Passed (sizes : List ℕ) (rs : List Rule) : Type 0 where
+  pub apart : firstOverlap rs ≡ none
+  pub few-boxes : sizeOf sizes 4 ≤ limits1 .boxes
 
--- THE TABLES OF SOME RULES AND OF NO OTHERS, and the rows of their cuts, with no more boxes than the limit: these are drawn next
+-- THE ANSWER about so many rules ds in tables: the rows of their cuts; or the definition's refusal
+unfoldable pub JudgesDays : (rows sizes cuts : List ℕ) → ℕ → ℕ → List Rule → Judged → Type 0
+JudgesDays rows sizes cuts rules reason ds (Fine n v) = (n ≡ rules) × (v ≡ reason) × Cut rows sizes cuts ds × Passed sizes ds
+JudgesDays rows sizes cuts rules reason ds (Refused c p) = drain limits1 ds ≡ over c p
+
+-- THE TABLES of so many rules, and the rows of their cuts
+pub record Prepared (states counts spans replacing rangeCounts ranges rows sizes cuts : List ℕ) (rs : List Rule) (n : ℕ) : Type 0 where
+  pub rules-many : n ≡ length rs
+  pub times : RuleTimes (take n states) (take n counts) (take (n * 16) spans) rs
+  pub drawable : Drawable replacing rangeCounts ranges rows sizes cuts n rs
+  pub passed : Passed sizes rs
+
+-- THE ANSWER about a sheet's rules: the tables of the drained ones, and why the next one stopped; or the definition's refusal
+unfoldable pub Judges : (states counts spans replacing rangeCounts ranges rows sizes cuts : List ℕ) → List Rule → Judged → Type 0
+Judges states counts spans replacing rangeCounts ranges rows sizes cuts rs (Fine n reason) =
+    Prepared states counts spans replacing rangeCounts ranges rows sizes cuts (drained rs) n × (reason ≡ why rs)
+Judges states counts spans replacing rangeCounts ranges rows sizes cuts rs (Refused c p) = drain limits1 (drained rs) ≡ over c p
+
+-- THE TABLES OF SOME RULES AND OF NO OTHERS, and the rows of their cuts: these are drawn next
 pub record ToDraw (states counts spans replacing rangeCounts ranges rows sizes cuts : List ℕ) (rs : List Rule) : Type 0 where
   pub times : RuleTimes states counts spans rs
   pub drawable : Drawable replacing rangeCounts ranges rows sizes cuts (length states) rs
-  pub few-boxes : sizeOf sizes 4 ≤ limits1 .boxes
+  pub passed : Passed sizes rs

@@ -39,7 +39,7 @@ module _ (form : Form) (limits : Limits) (room : ℕ) (sheet : List ℕ) where
   accepted-counts e =
       let d = accepted-done e in
       let k = done-counted (answer .place) d in
-      (d .0, d .1 .0 .0, k, subst (_≤ room) (sym (k .bytes-counted ∙ ap length (k .written))) (d .2))
+      (d .0, d .1 .0 .0 .0, k, subst (_≤ room) (sym (k .bytes-counted ∙ ap length (k .written))) (d .2))
 
   -- the same of the rules that the sheet is read as
   pub counted-rules : answer .code ≡ 0 → (rs : List Rule) → Accepted form limits sheet rs → Counted form limits rs answer

@@ -8,7 +8,7 @@ use Prim.Native.Nat.{ℕ}
 use lib.Dec.{eqb, ltb}
 use lib.ListN.{length}
 use borrow.Author.Tests.{eqb-true, ltb-true, ltb-false, lt-ltb, le-ltb}
-use Rattle.definition.specs.Field.{Read, got, refused, manyBoxes, longList, noRoom}
+use Rattle.definition.specs.Field.{Read, got, refused, daysTwice, manyBoxes, longList, noRoom}
 use Rattle.definition.specs.Rule.{Rule}
 use Rattle.definition.specs.Sheet.{Form, Limits, decode}
 use Rattle.definition.specs.Stop.{drained, left, why}
@@ -17,10 +17,10 @@ use Rattle.definition.specs.Box.{boxCount}
 use Rattle.definition.specs.Group.{folded}
 use Rattle.definition.specs.Fold.{Folded, refusal, Drained, fine, over, drain, fitted, foldRules, fold}
 use Rattle.definition.proofs.FoldCases.{fold-refused, fold-judged}
-use Rattle.promises.specs.Conditions.{Accepted, ManyBoxes, LongList, Foldable}
+use Rattle.promises.specs.Conditions.{Accepted, DaysTwice, ManyBoxes, LongList, Foldable}
 use Rattle.promises.specs.Codes.{result, NoRoom, Done, FoldRows, FoldAnswers, FoldCodes}
 use Rattle.promises.proofs.Reading.{row, reading-rows, reading-told}
-use Rattle.promises.proofs.Draining.{drain-many, drain-long, drain-fine, DrainCases, drain-cases}
+use Rattle.promises.proofs.Draining.{drain-twice, drain-many, drain-long, drain-fine, DrainCases, drain-cases}
 
 module _ (form : Form) (limits : Limits) (room : ℕ) (sheet : List ℕ) where
   abbrev answer : Folded
@@ -35,18 +35,22 @@ module _ (form : Form) (limits : Limits) (room : ℕ) (sheet : List ℕ) where
       → answer ≡ foldRules form limits room rs j (folded (drained rs))
   judged-answer rs j a e = fold-judged form limits room sheet rs (a .0) (a .1) j e
 
+  twice-answer : (p : ℕ) → DaysTwice form limits sheet p → answer ≡ refusal daysTwice p
+  unfolding foldRules
+  twice-answer p h = judged-answer (h .0) (over daysTwice p) (h .1) (drain-twice limits (drained (h .0)) p (h .2))
+
   boxes-answer : (p : ℕ) → ManyBoxes form limits sheet p → answer ≡ refusal manyBoxes p
   unfolding foldRules
-  boxes-answer p h = judged-answer (h .0) (over manyBoxes p) (h .1) (drain-many limits (drained (h .0)) p (h .2) (h .3))
+  boxes-answer p h = judged-answer (h .0) (over manyBoxes p) (h .1 .0) (drain-many limits (drained (h .0)) p (h .1 .1) (h .2) (h .3))
 
   long-answer : (p : ℕ) → LongList form limits sheet p → answer ≡ refusal longList p
   unfolding foldRules
-  long-answer p h = judged-answer (h .0) (over longList p) (h .1 .0) (drain-long limits (drained (h .0)) p (h .1 .1) (h .2))
+  long-answer p h = judged-answer (h .0) (over longList p) (h .1 .0 .0) (drain-long limits (drained (h .0)) p (h .1 .0 .1) (h .1 .1) (h .2))
 
   -- what can be folded, with room for it or without
   fitted-answer : (rs : List Rule) → Foldable form limits sheet rs → answer ≡ fitted form limits room rs (folded (drained rs)) (result form limits rs)
   unfolding foldRules
-  fitted-answer rs h = judged-answer rs fine (h .0 .0) (drain-fine limits (drained rs) (h .0 .1) (h .1))
+  fitted-answer rs h = judged-answer rs fine (h .0 .0 .0) (drain-fine limits (drained rs) (h .0 .0 .1) (h .0 .1) (h .1))
 
   room-answer : (p : ℕ) → NoRoom form limits sheet room p → answer ≡ refusal noRoom p
   unfolding fitted
@@ -72,9 +76,9 @@ module _ (form : Form) (limits : Limits) (room : ℕ) (sheet : List ℕ) where
   -- a refusal, or done
   outcome : (c p : ℕ) → FoldRows form limits sheet room c p → (answer ≡ refusal c p) ⊎ ((c ≡ 0) × Done form limits sheet room p)
   outcome c p =
-      reading-rows form limits sheet c p (λ e. inl (refused-answer c p e)) (row (eqb c manyBoxes) (λ t k. at manyBoxes t (boxes-answer p k))
-      (row (eqb c longList) (λ t k. at longList t (long-answer p k)) (row (eqb c noRoom) (λ t k. at noRoom t (room-answer p k))
-      (row (eqb c 0) (λ t k. inr (eqb-true c 0 t, k)) (λ k. absurd k)))))
+      reading-rows form limits sheet c p (λ e. inl (refused-answer c p e)) (row (eqb c daysTwice) (λ t k. at daysTwice t (twice-answer p k))
+      (row (eqb c manyBoxes) (λ t k. at manyBoxes t (boxes-answer p k)) (row (eqb c longList) (λ t k. at longList t (long-answer p k)) (row (eqb c noRoom) (λ t k. at noRoom t (room-answer p k))
+      (row (eqb c 0) (λ t k. inr (eqb-true c 0 t, k)) (λ k. absurd k))))))
     where
       at : (d : ℕ) → eqb c d ≡ true → answer ≡ refusal d p → (answer ≡ refusal c p) ⊎ ((c ≡ 0) × Done form limits sheet room p)
       at d t e = inl (e ∙ ap (λ i. refusal i p) (sym (eqb-true c d t)))
@@ -104,12 +108,15 @@ module _ (form : Form) (limits : Limits) (room : ℕ) (sheet : List ℕ) where
           tell (accepted rs) (done-answer 0 k) k
 
       judge : (rs : List Rule) → Accepted form limits sheet rs → DrainCases limits (drained rs) → FoldRows form limits sheet room (answer .code) (answer .place)
-      judge rs a (inl l) =
+      judge rs a (inl h) = let k : DaysTwice form limits sheet (h .0) = (rs, a, h .1) in tell (refusal daysTwice (h .0)) (twice-answer (h .0) k) k
+      judge rs a (inr (o, inl l)) =
           let p = boxCount dimensions (drained rs) in
-          let k : ManyBoxes form limits sheet p = (rs, a, l, refl) in
+          let k : ManyBoxes form limits sheet p = (rs, (a, o), l, refl) in
           tell (refusal manyBoxes p) (boxes-answer p k) k
-      judge rs a (inr (l, inl h)) = let k : LongList form limits sheet (h .0) = (rs, (a, l), h .1) in tell (refusal longList (h .0)) (long-answer (h .0) k) k
-      judge rs a (inr (l, inr h)) = fits rs ((a, l), h) (ltb room (length (result form limits rs))) refl
+      judge rs a (inr (o, inr (l, inl h))) =
+          let k : LongList form limits sheet (h .0) = (rs, ((a, o), l), h .1) in
+          tell (refusal longList (h .0)) (long-answer (h .0) k) k
+      judge rs a (inr (o, inr (l, inr h))) = fits rs (((a, o), l), h) (ltb room (length (result form limits rs))) refl
 
       go : (r : Read (List Rule)) → decode form limits sheet ≡ r → FoldRows form limits sheet room (answer .code) (answer .place)
       go (refused c p) e = tell (refusal c p) (refused-answer c p e) (reading-told form limits sheet _ c p e)

@@ -8,6 +8,7 @@ pub mod Going
 pub mod Refusals
 pub mod Ends
 pub mod TooLong
+pub mod Twice
 pub mod Reading
 pub mod Draining
 pub mod FoldCodes
@@ -17,6 +18,7 @@ pub mod LineCodes
 pub mod LookupCodes
 pub mod Counts
 pub mod Why
+pub mod Once
 pub mod Looking
 pub mod Fitting
 pub mod ReadBack

@@ -10,18 +10,18 @@ use native.Mathlib.Nat.{pow-le-pow-right}
 use native.Mathlib.Omega.{arith}
 use lib.Dec.{eqb}
 use borrow.Author.Tests.{eqb-true}
-use Rattle.laws.specs.Lists.{All}
+use Rattle.laws.specs.Lists.{firstIndex, All}
 use Rattle.laws.proofs.Lists.{every-all}
 use Rattle.definition.specs.Field.{noWords}
 use Rattle.definition.specs.Rule.{Rule}
 use Rattle.definition.specs.Sheet.{Form, Limits, rule}
 use Rattle.definition.specs.Fold.{unwritten}
 use Rattle.definition.specs.Line.{firstNormal, line}
-use Rattle.definition.specs.Show.{firstIndex, wordless, firstWordless, showRules, showLine}
+use Rattle.definition.specs.Show.{wordless, firstWordless, showRules, showLine}
 use Rattle.definition.proofs.SheetRead.{encode-decoded}
 use Rattle.definition.proofs.Lawful.{rules-each}
 use Rattle.lines.proofs.Carried.{comment-carried}
-use Rattle.lines.proofs.Passing.{first-at, first-none, Found, first-found}
+use Rattle.laws.proofs.Passing.{first-at, first-none, Found, first-found}
 use Rattle.lines.proofs.Fitting.{line-fits}
 use Rattle.lines.proofs.Printable.{Printable, line-printable}
 use Rattle.promises.specs.Conditions.{FirstUnshown, AllShown, NoWords, Showable, given, WritingRows}
@@ -34,7 +34,7 @@ use Rattle.promises.proofs.Entries.{Entry, entry-codes, entry-writes, e
 unshown-index : (rs : List Rule) (k : ℕ) → FirstUnshown rs k → firstWordless rs ≡ some k
 unfolding firstWordless
 unshown-index rs k (inl h) = rw (h .0, firstWordless) (ap some (sym (h .1)))
-unshown-index rs k (inr h) = rw (h .0, firstWordless) (first-at wordless rs k (h .1, h .2))
+unshown-index rs k (inr h) = rw (h .0, firstWordless) (first-at wordless rs k (h .1))
 
 shown-index : (rs : List Rule) → AllShown rs → firstWordless rs ≡ none
 unfolding firstWordless
@@ -46,7 +46,7 @@ shown-cases rs = go (firstNormal rs) refl (firstIndex wordless rs) (first-found 
     go : (b : Bool) → firstNormal rs ≡ b → (o : Option ℕ) → Found wordless rs o → ((k : ℕ) × FirstUnshown rs k) ⊎ AllShown rs
     go false e o h = inl (0, inl (e, refl))
     go true e none h = inr (e, h)
-    go true e (some k) h = inl (k, inr (e, h .0, h .1))
+    go true e (some k) h = inl (k, inr (e, h))
 
 module _ (form : Form) (limits : Limits) (room : ℕ) (sheet : List ℕ) where
   abbrev Rows : ℕ → ℕ → Type 0

@@ -71,7 +71,7 @@ module _ (form : Form) (limits : Limits) (sheet : List ℕ) (y mo d m : ℕ) whe
       let date = split-and (isDate y mo d) (ltb m midnight24) (k .1) in
       let f = found-answer form limits sheet y mo d m (k .0) (k .1) (k .2) (k .3) in (
         k .0,
-        k .2 .0 .0,
+        k .2 .0 .0 .0,
         λ c. let s = last-simple c m closed xs (k .3 .1) in
             (tells S _ f s, tells S _ f (folded-says ds (λ q. c) p (date-point y mo d (date .0)) m (ltb-true m midnight24 (date .1)) ∙ s)),
       )

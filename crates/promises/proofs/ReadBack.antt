@@ -116,8 +116,8 @@ pub fold-reads : (room : ℕ) (sheet : List ℕ) → FoldReads room sheet
 fold-reads room sheet whole e =
     let d = (fold-codes form1 limits1 room sheet 0 ((fold form1 limits1 room sheet) .place)) .only (e, refl) in
     let rs = d .0 in
-    let a = d .1 .0 .0 in
-    let f = drain-fine limits1 (drained rs) (d .1 .0 .1) (d .1 .1) in
+    let a = d .1 .0 .0 .0 in
+    let f = drain-fine limits1 (drained rs) (d .1 .0 .0 .1) (d .1 .0 .1) (d .1 .1) in
     let r = done-answer form1 limits1 room sheet ((fold form1 limits1 room sheet) .place) d in (
       rs,
       a,

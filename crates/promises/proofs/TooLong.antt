@@ -3,16 +3,16 @@ use mathlib.Core.Path.{_≡_, refl, ap, _∙_}
 use mathlib.Core.List.{List, [], _∷_}
 use mathlib.Core.Option.{none, some}
 use mathlib.Core.Logic.{_⊎_, inl, inr}
-use mathlib.Core.Bool.{Bool, true, false, false≢true}
+use mathlib.Core.Bool.{Bool, true, false}
 use Prim.Native.Nat.{ℕ, zero, suc, _<_}
 use native.Mathlib.Omega.{arith}
 use lib.Dec.{eqb}
 use lib.ListN.{length, take}
 use borrow.Author.Tests.{eqb-true, eqb-false, ltb-true, ltb-false}
-use Rattle.laws.specs.Lists.{anyOf, Mem}
+use Rattle.laws.specs.Lists.{anyOf}
 use Rattle.laws.specs.Tests.{Exact}
 use Rattle.laws.proofs.Flags.{both-and}
-use Rattle.laws.proofs.Lists.{Mem-any}
+use Rattle.laws.proofs.Lists.{Mem-any, any-some}
 use Rattle.laws.proofs.Numbers.{order, first-at, first-none}
 use Rattle.laws.proofs.Tests.{exact-eqb}
 use Rattle.grid.specs.Group.{Set, Map, at, somewhere, inside}
@@ -22,15 +22,6 @@ use Rattle.definition.specs.Point.{points, listAt, tooLong, firstTooLong}
 use Rattle.promises.specs.Conditions.{ShortAfter, LongAfter, FirstLong, AllShort}
 
 -- ## What passes somewhere
-any-some : {A : Type 0} (t : A → Bool) (D : List A) → anyOf t D ≡ true → (x : A) × Mem x D × (t x ≡ true)
-unfolding anyOf Mem
-any-some t [] h = absurd (false≢true h)
-any-some {A} t (y ∷ D) h = go (t y) refl (any-some t D)
-  where
-    go : (b : Bool) → t y ≡ b → (anyOf t D ≡ true → (x : A) × Mem x D × (t x ≡ true)) → (x : A) × Mem x (y ∷ D) × (t x ≡ true)
-    go true e ih = (y, inl refl, e)
-    go false e ih = let k = ih (rw e at h) in (k .0, inr (k .1), k .2)
-
 somewhere-some : {A : Type 0} {same : A → A → Bool} → Exact same → (Ds : Set A) (t : Map A Bool) → somewhere Ds t ≡ true
     → (p : List A) × (inside same Ds p ≡ true) × (t p ≡ true)
 unfolding somewhere inside
@@ -41,10 +32,10 @@ somewhere-some {A} {same} exact (D ∷ Ds) t h =
     (k .0 ∷ m .0, both-and (anyOf (same (k .0)) D) (inside same Ds (m .0)) (Mem-any exact (k .0) D (k .1)) (m .1), m .2)
 
 -- ## The first number that passes
-abbrev FirstBelow : (ℕ → Bool) → ℕ → Type 0
+abbrev pub FirstBelow : (ℕ → Bool) → ℕ → Type 0
 FirstBelow t n = (k : ℕ) × (k < n) × (t k ≡ true) × ((j : ℕ) → j < k → t j ≡ false)
 
-first-cases : (t : ℕ → Bool) (n : ℕ) → FirstBelow t n ⊎ ((j : ℕ) → j < n → t j ≡ false)
+pub first-cases : (t : ℕ → Bool) (n : ℕ) → FirstBelow t n ⊎ ((j : ℕ) → j < n → t j ≡ false)
 first-cases t zero = inr (λ j l. absurd (omega arith))
 first-cases t (suc n) = go (first-cases t n) (t n) refl
   where

@@ -59,11 +59,11 @@ module _ (r : Rule) where
   tests = map (λ x. x .1) (reasons r)
 
   reason-first : (k : ℕ) → reason r ≡ k → (k ≡ 0 → ⊥) → FirstReason r k
-  unfolding reason numbered map
+  unfolding reason numbered
   reason-first k e f = given-first tests 1 k e f
 
   first-reason : (k : ℕ) → FirstReason r k → reason r ≡ k
-  unfolding reason numbered map
+  unfolding reason numbered
   first-reason k h =
       let first = reason-first (reason r) refl (some-given tests 1 k (omega arith) (h .0)) in
       omega (arith, not-less (λ (l : reason r < k). h .1 (reason r) l (first .0)), not-less (λ (l : k < reason r). first .1 k l (h .0)))

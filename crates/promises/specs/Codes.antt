@@ -1,5 +1,5 @@
--- Demand 1: when each code comes, and with which place, both ways: the table of 01 for the fold, for writing back and for the lookup, and 02's
--- for the line. A number that stands in no row is never answered.
+-- Demand 1: when each code comes, and with which place, both ways: the table of 01 for the fold, for writing back and for the lookup, with 02's
+-- 11, and 02's for the line. A number that stands in no row is never answered.
 use mathlib.Core.Path.{_≡_}
 use mathlib.Core.List.{List, [], _++_, map}
 use mathlib.Core.Bool.{Bool, true, false, _&&_}
@@ -7,7 +7,7 @@ use Prim.Native.Nat.{ℕ, _≤_, _<_}
 use lib.Dec.{eqb, ltb}
 use lib.ListN.{length}
 use Rattle.laws.specs.Lists.{All}
-use Rattle.definition.specs.Field.{sheetBits, manyBoxes, longList, noRoom, noDate, unsettled, noWords}
+use Rattle.definition.specs.Field.{sheetBits, daysTwice, manyBoxes, longList, noRoom, noDate, unsettled, noWords}
 use Rattle.definition.specs.Rule.{midnight24, Rule}
 use Rattle.definition.specs.Sheet.{Form, Limits, encode}
 use Rattle.definition.specs.Stop.{drained, left}
@@ -20,7 +20,7 @@ use Rattle.definition.specs.Line.{line}
 use Rattle.definition.specs.Show.{showLine}
 use Rattle.definition.specs.Lookup.{lookup}
 use Rattle.promises.specs.Fields.{FieldKind, Refused}
-use Rattle.promises.specs.Conditions.{Met, Accepted, ManyBoxes, LongList, Foldable, NoWords, Showable, given, ReadingRows, WritingRows}
+use Rattle.promises.specs.Conditions.{Met, Accepted, DaysTwice, ManyBoxes, LongList, Foldable, NoWords, Showable, given, ReadingRows, WritingRows}
 
 -- the one exactly when the other
 pub record Exactly (A B : Type 0) : Type 0 where
@@ -54,10 +54,11 @@ module _ (form : Form) (limits : Limits) (sheet : List ℕ) where
 
     abbrev pub FoldRows : ℕ → ℕ → Type 0
     FoldRows c p = ReadingRows form limits sheet c p
+        (given (eqb c daysTwice) (DaysTwice form limits sheet p)
         (given (eqb c manyBoxes) (ManyBoxes form limits sheet p)
         (given (eqb c longList) (LongList form limits sheet p)
         (given (eqb c noRoom) (NoRoom p)
-        (given (eqb c 0) (Done p) ⊥))))
+        (given (eqb c 0) (Done p) ⊥)))))
 
     abbrev pub FoldAnswers : ℕ → ℕ → Type 0
     FoldAnswers c p = ((fold form limits room sheet) .code ≡ c) × ((fold form limits room sheet) .place ≡ p)
@@ -93,10 +94,11 @@ module _ (form : Form) (limits : Limits) (sheet : List ℕ) where
     abbrev pub LookupRows : ℕ → ℕ → Type 0
     LookupRows c p = ReadingRows form limits sheet c p
         (given (eqb c noDate) ((rs : List Rule) × Accepted form limits sheet rs × (dated y mo d m ≡ false) × (p ≡ 0))
+        (given (eqb c daysTwice) ((dated y mo d m ≡ true) × DaysTwice form limits sheet p)
         (given (eqb c manyBoxes) ((dated y mo d m ≡ true) × ManyBoxes form limits sheet p)
         (given (eqb c longList) ((dated y mo d m ≡ true) × LongList form limits sheet p)
         (given (eqb c unsettled) ((rs : List Rule) × (dated y mo d m ≡ true) × Foldable form limits sheet rs × (Settled y mo d rs → ⊥) × (p ≡ 0))
-        (given (eqb c 0) ((rs : List Rule) × (dated y mo d m ≡ true) × Foldable form limits sheet rs × Settled y mo d rs × (p ≡ 0)) ⊥)))))
+        (given (eqb c 0) ((rs : List Rule) × (dated y mo d m ≡ true) × Foldable form limits sheet rs × Settled y mo d rs × (p ≡ 0)) ⊥))))))
 
     abbrev pub LookupAnswers : ℕ → ℕ → Type 0
     LookupAnswers c p = ((lookup form limits sheet y mo d m) .code ≡ c) × ((lookup form limits sheet y mo d m) .place ≡ p)

@@ -1,19 +1,20 @@
 -- 01, "Numbers of the answer": the conditions that the table of codes speaks of, each without those before it in the order "1, 2 and 4 as
--- met from the first bit on; then 3, 8, 5, 6, 9, 7", with 10 of 02 "after 3, before 7".
+-- met from the first bit on; then 3, 8, 5, 6, 9, 7", with 10 of 02 "after 3, before 7" and its 11 "after 8, before 5".
 use mathlib.Core.Path.{_≡_}
 use mathlib.Core.List.{List}
 use mathlib.Core.Logic.{_⊎_}
-use mathlib.Core.Option.{some}
 use mathlib.Core.Bool.{Bool, true, false}
 use Prim.Native.Nat.{ℕ, suc, _*_, _≤_, _<_}
 use lib.Dec.{eqb}
-use lib.ListN.{length, take, getD, getElem?}
-use Rattle.laws.specs.Lists.{All}
+use lib.ListN.{length, take, getD}
+use Rattle.laws.specs.Lists.{All, FirstAt, Mem}
+use Rattle.grid.specs.Cut.{holds}
 use Rattle.definition.specs.Field.{got, refused, bytesFor, sheetBits, pastEnd, unlawful, badEnd, overLimit, noRoom}
-use Rattle.definition.specs.Rule.{Rule}
+use Rattle.definition.specs.Rule.{Rule, noRule}
 use Rattle.definition.specs.Sheet.{Form, Limits, rules, decode}
 use Rattle.definition.specs.Stop.{drained}
-use Rattle.definition.specs.Point.{dimensions, listAt}
+use Rattle.definition.specs.Point.{Dimension, dimensions, listAt}
+use Rattle.definition.specs.Overlap.{has}
 use Rattle.definition.specs.Box.{boxCount}
 use Rattle.definition.specs.Line.{firstNormal}
 use Rattle.definition.specs.Show.{wordless}
@@ -32,6 +33,27 @@ PaddingSet s q p = (q ≤ p) × (p < 8 * bytesFor q) × (getD s p 0 ≡ 0 → �
 abbrev pub BytesFollow : List ℕ → ℕ → ℕ → Type 0
 BytesFollow s q p = Zeros s q (8 * bytesFor q) × (8 * bytesFor q < length s) × (p ≡ 8 * bytesFor q)
 
+-- ## Days typed twice, ds being the drained rules
+-- two ranges of one selector share a value: items at two places of a dimension both have it
+pub record Shares (r : Rule) : Type 0 where
+  pub dimension : Dimension
+  pub one-of-four : Mem dimension dimensions
+  pub first : ℕ
+  pub second : ℕ
+  pub value : ℕ
+  pub in-order : first < second
+  pub there : second < length (dimension .items r)
+  pub lawful : holds value (dimension .bounds) ≡ true
+  pub first-has : has (dimension .bounds) (getD (dimension .items r) first (0, 0)) value ≡ true
+  pub second-has : has (dimension .bounds) (getD (dimension .items r) second (0, 0)) value ≡ true
+
+-- the first rule with such ranges has the index k; and no rule has
+abbrev pub FirstTwice : List Rule → ℕ → Type 0
+FirstTwice ds k = (k < length ds) × Shares (getD ds k noRule) × ((j : ℕ) → j < k → Shares (getD ds j noRule) → ⊥)
+
+abbrev pub AllOnce : List Rule → Type 0
+AllOnce ds = (j : ℕ) → j < length ds → Shares (getD ds j noRule) → ⊥
+
 -- ## Lists that are too long, ds being the drained rules
 -- after the rule of index k no point's list passes the limit; and after it some point's list does
 abbrev pub ShortAfter : ℕ → List Rule → ℕ → Type 0
@@ -49,16 +71,9 @@ abbrev pub AllShort : ℕ → List Rule → Type 0
 AllShort limit ds = (j : ℕ) → j < length ds → ShortAfter limit ds j
 
 -- ## Rules without words
--- the rule of index k has no words; and it has words, if there is one
-abbrev pub WordlessAt : List Rule → ℕ → Type 0
-WordlessAt rs k = (r : Rule) × (getElem? rs k ≡ some r) × (wordless r ≡ true)
-
-abbrev pub WordsAt : List Rule → ℕ → Type 0
-WordsAt rs k = (r : Rule) → getElem? rs k ≡ some r → wordless r ≡ false
-
 -- the first rule that can't be shown has the index k: the very first if it isn't Normal, else the first that has no words
 abbrev pub FirstUnshown : List Rule → ℕ → Type 0
-FirstUnshown rs k = ((firstNormal rs ≡ false) × (k ≡ 0)) ⊎ ((firstNormal rs ≡ true) × WordlessAt rs k × ((j : ℕ) → j < k → WordsAt rs j))
+FirstUnshown rs k = ((firstNormal rs ≡ false) × (k ≡ 0)) ⊎ ((firstNormal rs ≡ true) × FirstAt wordless rs k)
 
 -- every rule can be shown
 abbrev pub AllShown : List Rule → Type 0
@@ -79,19 +94,27 @@ module _ (form : Form) (limits : Limits) (sheet : List ℕ) where
   abbrev pub Accepted : List Rule → Type 0
   Accepted rs = (q : ℕ) × (decode form limits sheet ≡ got rs q)
 
+  -- 11
+  abbrev pub DaysTwice : ℕ → Type 0
+  DaysTwice p = (rs : List Rule) × Accepted rs × FirstTwice (drained rs) p
+
+  -- neither 1 to 4 nor 11
+  abbrev pub DaysOnce : List Rule → Type 0
+  DaysOnce rs = Accepted rs × AllOnce (drained rs)
+
   -- 5
   abbrev pub ManyBoxes : ℕ → Type 0
-  ManyBoxes p = (rs : List Rule) × Accepted rs × (limits .boxes < boxCount dimensions (drained rs)) × (p ≡ boxCount dimensions (drained rs))
+  ManyBoxes p = (rs : List Rule) × DaysOnce rs × (limits .boxes < boxCount dimensions (drained rs)) × (p ≡ boxCount dimensions (drained rs))
 
-  -- neither 1 to 4 nor 5
+  -- neither 1 to 4 nor 11 nor 5
   abbrev pub FewBoxes : List Rule → Type 0
-  FewBoxes rs = Accepted rs × (boxCount dimensions (drained rs) ≤ limits .boxes)
+  FewBoxes rs = DaysOnce rs × (boxCount dimensions (drained rs) ≤ limits .boxes)
 
   -- 6
   abbrev pub LongList : ℕ → Type 0
   LongList p = (rs : List Rule) × FewBoxes rs × FirstLong (limits .entries) (drained rs) p
 
-  -- neither 1 to 4 nor 5 nor 6
+  -- neither 1 to 4 nor 11, 5 or 6
   abbrev pub Foldable : List Rule → Type 0
   Foldable rs = FewBoxes rs × AllShort (limits .entries) (drained rs)
 

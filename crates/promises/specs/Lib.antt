@@ -4,5 +4,6 @@ pub mod Conditions
 pub mod Codes
 pub mod Counts
 pub mod Why
+pub mod Once
 pub mod Looking
 pub mod ReadBack

@@ -10,7 +10,7 @@ use lib.Dec.{ltb}
 use lib.ListN.{length, take, drop, getD, set, length-set, length-map}
 use lib.Seq.{getD-set-same, getD-set-other, ext-getD}
 use Rattle.laws.specs.Lists.{from}
-use Rattle.laws.proofs.Numbers.{length-from}
+use Rattle.laws.proofs.Numbers.{length-from, getD-from}
 use Rattle.definition.specs.Field.{Read, got, refused, andThen, badEnd, bytesFor, sheetBits, counted, readAll, several}
 use Rattle.definition.specs.Rule.{Rule, noRule}
 use Rattle.definition.specs.Sheet.{form1, limits1, rule, rules, firstSet, ended, decode}
@@ -174,12 +174,6 @@ checked-rules sheet n q e = go (decode form1 limits1 sheet) refl e
     go (got rs p) h g = let z : p ≡ q = cc in let m : length rs ≡ n = cc in (rs, h ∙ ap (got rs) z, m)
 
 -- ## The rules at some beginnings
-getD-from : {A : Type 0} (f : ℕ → A) (d : A) (s n k : ℕ) → k < n → getD (map f (from s n)) k d ≡ f (s + k)
-unfolding from
-getD-from f d s zero k l = absurd (omega arith)
-getD-from f d s (suc n) zero l = let z : s ≡ s + 0 = omega arith in ap f z
-getD-from f d s (suc n) (suc k) l = let z : suc s + k ≡ s + suc k = omega arith in getD-from f d (suc s) n k (omega arith) ∙ ap f z
-
 module _ (s begins : List ℕ) (n : ℕ) where
   pub rules-many : length (rulesAt s begins n) ≡ n
   unfolding rulesAt

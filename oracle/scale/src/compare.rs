@@ -26,11 +26,12 @@ pub fn compare(bytes: &[u8], random: &mut Random, tally: &mut Tally) -> Result<(
     let sheet = Sheet::new(bytes);
     let folded = sheet.fold();
     tally.fold(&folded.numbers, bytes.len());
-    if let Ok(accepted) = sheet.accepted()
-        && let Some(extent) = accepted.extent()
-    {
-        tally.accepted_fold(accepted.rules(), extent, sheet.is_inside());
-        tally.stopped(accepted.reasons());
+    if let Ok(accepted) = sheet.accepted() {
+        tally.overlaps(accepted);
+        if let Some(extent) = accepted.extent() {
+            tally.accepted_fold(accepted.rules(), extent, sheet.is_inside());
+            tally.stopped(accepted.reasons());
+        }
     }
 
     compare_rooms("fold", archive::fold, bytes, &folded, random, tally)?;

@@ -1,5 +1,5 @@
 //! What documents 01 and 02 expect of a sheet: refusals, lookups, lines and why a fold stopped by the modules beside this one, folds by the
-//! Rust.
+//! Rust, which knows no refusal for ranges that overlap and isn't asked where they do.
 //!
 //! Where the sheet stands for a value of the Rust, the Rust folds it whole. It has no years and weeks that wrap, and turns some steps into
 //! 1 (docs/DIFFERENCES.md). Where a sheet has such items, the Rust folds the drained rules alone, those that wrap as their two halves, and
@@ -12,6 +12,7 @@ use crate::answer::{Answer, FOLD_NUMBERS, LOOKUP_NUMBERS};
 use crate::calendar::point_of;
 use crate::layout::Refusal;
 use crate::line::{Unsaid, first_unsaid, line_of};
+use crate::overlap::check_overlaps;
 use crate::points::{
     DIMENSIONS, Extent, Selector, check_limits, is_simple, list_at, selector_of, split,
 };
@@ -40,7 +41,8 @@ impl Accepted {
             .take_while(|rule| !stops(rule))
             .map(selector_of)
             .collect();
-        let extent = check_limits(&read.rules[..selectors.len()], &selectors);
+        let extent = check_overlaps(&selectors)
+            .and_then(|()| check_limits(&read.rules[..selectors.len()], &selectors));
 
         Self {
             read,
@@ -59,13 +61,26 @@ impl Accepted {
 
     /// What stopped the fold: the reasons of the first rule left, none where no rule is.
     pub fn reasons(&self) -> Reasons {
-        let first_left = self.rules().get(self.drained().len());
-        first_left.map(reasons_of).unwrap_or_default()
+        self.left().first().map(reasons_of).unwrap_or_default()
     }
 
     /// The boxes and lists of an accepted fold.
     pub fn extent(&self) -> Option<Extent> {
         self.extent.ok()
+    }
+
+    /// The ranges of the drained rules.
+    pub fn selectors(&self) -> &[Selector] {
+        &self.selectors
+    }
+
+    pub fn left(&self) -> &[Rule] {
+        &self.read.rules[self.selectors.len()..]
+    }
+
+    /// What the limits alone would refuse the fold by, whether or not ranges overlap.
+    pub fn past_a_limit(&self) -> Option<Refusal> {
+        check_limits(self.drained(), &self.selectors).err()
     }
 }
 
@@ -170,8 +185,7 @@ impl<'a> Sheet<'a> {
             .iter()
             .flat_map(|rule| rule.spans.iter().map(move |span| (rule, span)));
 
-        if drained.len() < accepted.rules().len() || !spans.clone().all(|(_, span)| is_simple(span))
-        {
+        if !accepted.left().is_empty() || !spans.clone().all(|(_, span)| is_simple(span)) {
             return Err(Refusal::at(9, 0));
         }
 
@@ -191,7 +205,7 @@ fn fold_halves(sheet: &[u8], accepted: &Accepted) -> Folded<BitWriter> {
     let mut folded = fold_sheet(&halved).expect("the Rust holds rising ranges of step 1");
     let places = &accepted.read.places;
 
-    folded.left = accepted.rules().len() - drained.len();
+    folded.left = accepted.left().len();
     copy_bits(
         &mut folded.result,
         sheet,

@@ -2,7 +2,7 @@
 //!
 //! What a fold gives is the Rust's to say (`oracle::fold`). Where a sheet is refused, what a lookup finds, what a sheet's line is, and why a
 //! fold stopped, the Rust has no say: that is document 01 written plainly (`sheet`, `points`, `calendar`, `expected`), and 02's M-100
-//! (`line`), M-104 (`calendar`) and M-105 (`why`), as in oracle/reference.
+//! (`line`), M-101 (`overlap`), M-104 (`calendar`) and M-105 (`why`), as in oracle/reference.
 //!
 //! For oracle/public, where a public evaluator is asked, there are sheets and moments (`public_sheets`, `public_moments`).
 
@@ -19,6 +19,9 @@ mod expected;
 mod layout;
 mod line;
 pub mod line_sheets;
+mod overlap;
+mod overlap_tally;
+mod overlapping;
 mod points;
 mod public_moments;
 pub mod public_sheets;
@@ -28,6 +31,7 @@ mod rule;
 pub mod run;
 mod sheet;
 mod shrink;
+mod sizes;
 pub mod stack;
 mod stock;
 mod stoppers;

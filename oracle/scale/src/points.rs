@@ -4,7 +4,7 @@ use std::iter;
 use std::ops::Range;
 
 use crate::layout::Refusal;
-use crate::rule::{CLOSED, NORMAL, Rule, Span};
+use crate::rule::{CLOSED, DayItem, NORMAL, Rule, Span};
 use crate::why::may_reach_tomorrow;
 
 pub const BOX_LIMIT: usize = 1024;
@@ -36,22 +36,22 @@ pub fn selector_of(rule: &Rule) -> Selector {
     let [weekdays, weeks, months, years] = &DIMENSIONS;
 
     [
-        ranges_of(weekdays, &rule.weekdays, |item| (item.start, item.end)),
-        ranges_of(weeks, &rule.weeks, |item| (item.start, item.end)),
-        ranges_of(months, &rule.monthdays, |item| (item.start, item.end)),
-        ranges_of(years, &rule.years, |item| (item.start, item.end)),
+        ranges_of(weekdays, &rule.weekdays),
+        ranges_of(weeks, &rule.weeks),
+        ranges_of(months, &rule.monthdays),
+        ranges_of(years, &rule.years),
     ]
 }
 
 /// No items mean the whole dimension.
-fn ranges_of<T>(dimension: &Dimension, items: &[T], ends: fn(&T) -> (u32, u32)) -> Vec<Range<u32>> {
+fn ranges_of<T: DayItem>(dimension: &Dimension, items: &[T]) -> Vec<Range<u32>> {
     if items.is_empty() {
         return vec![dimension.clone()];
     }
 
     items
         .iter()
-        .map(ends)
+        .map(DayItem::ends)
         .flat_map(|(start, end)| split(start, end, dimension))
         .collect()
 }

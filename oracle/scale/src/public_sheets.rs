@@ -130,3 +130,23 @@ fn ranges(random: &mut Random, edges: &[u32], none: usize, wrapping: usize) -> V
         _ => vec![(before, after)],
     }
 }
+
+#[cfg(test)]
+mod tests {
+    use super::*;
+    use crate::expected::Sheet;
+    use crate::overlap::overlaps;
+
+    const SHEETS: u64 = 20_000;
+
+    #[test]
+    fn no_two_ranges_of_a_rule_share_a_value_and_all_rules_drain() {
+        for number in 0..SHEETS {
+            let bytes = public_sheet(1, number).bytes;
+            let sheet = Sheet::new(&bytes);
+            let accepted = sheet.accepted().expect("it is read");
+            assert!(!accepted.selectors().iter().any(overlaps), "{number}");
+            assert!(accepted.left().is_empty(), "{number}");
+        }
+    }
+}

@@ -1,8 +1,11 @@
 //! Recipes of sound sheets: drained whole, stopped, at the limits and one past them, each anyhow or so that it has a line.
 
+use crate::overlapping::take_overlaps;
 use crate::points::{DIMENSIONS, LIST_LIMIT};
 use crate::random::Random;
-use crate::rule::{ITEM_LIMIT, RULE_LIMIT, Rule, Stepped, fixed, months, range, weekdays};
+use crate::rule::{
+    ADDITIONAL, ITEM_LIMIT, RULE_LIMIT, Rule, Stepped, fixed, months, range, weekdays,
+};
 use crate::stock::Stock;
 use crate::stoppers::stop;
 use crate::telling::{add_unsaid, make_sayable};
@@ -27,6 +30,7 @@ pub fn rules(random: &mut Random) -> Vec<Rule> {
         }
     }
 
+    take_overlaps(&mut rules);
     rules
 }
 
@@ -127,24 +131,26 @@ fn some_of<T: Clone>(random: &mut Random, items: &[T]) -> Vec<T> {
         .collect()
 }
 
-/// Lists of about 32 entries, by single pushes or by ranges that overlap.
+/// Lists of about 32 entries, on all days or, since some rules have days of their own, on some only.
 fn lists_at_the_limit(stock: &mut Stock) -> Vec<Rule> {
     let length = LIST_LIMIT + stock.random.below(4) - 1;
     let mut rules: Vec<Rule> = (0..length).map(|_| stock.rule_of_all_days()).collect();
 
     if stock.random.percent(50) {
-        let mut overlapping = stock.rule_of_all_days();
-        overlapping.weekdays = [(0, 2), (1, 3), (0, 2), (1, 3)]
-            .map(|(start, end)| weekdays(start, end))
-            .into();
-        overlapping.weeks = vec![range(1, 30), range(20, 53)];
-        rules.splice(..8, [overlapping]);
+        for _ in 0..stock.random.within(1, 8) {
+            let place = stock.random.below(length);
+            rules[place] = Rule {
+                operator: ADDITIONAL,
+                ..stock.rule()
+            };
+        }
     }
 
     rules
 }
 
-/// 64 rules, or 16 items of one sort, the same or each some way from the one before; half of them one more.
+/// 64 rules, or 16 items of one sort, each some way from the one before; half of them one more. There are fewer months and weekdays than
+/// that, so that a rule with so many of them overlaps: it stops.
 fn counts_at_the_limit(stock: &mut Stock) -> Vec<Rule> {
     let above = stock.random.below(2);
 
@@ -156,14 +162,25 @@ fn counts_at_the_limit(stock: &mut Stock) -> Vec<Rule> {
     let place = stock.random.below(rules.len());
     let (rule, count) = (&mut rules[place], ITEM_LIMIT + above);
 
-    let apart = stock.random.within(0, 2);
+    let apart = stock.random.within(1, 3);
+    let longer = stock.random.within(0, apart - 1);
     let offsets = (0..count as u32).map(|place| apart * place);
 
     match stock.random.below(5) {
-        0 => rule.years = offsets.map(|by| range(2000 + by, 2001 + by)).collect(),
-        1 => rule.monthdays = offsets.map(|by| months(1 + by % 12, 2)).collect(),
-        2 => rule.weeks = offsets.map(|by| range(1 + by, 3 + by)).collect(),
-        3 => rule.weekdays = offsets.map(|by| weekdays(by % 7, 0)).collect(),
+        0 => {
+            rule.years = offsets
+                .map(|by| range(2000 + by, 2000 + by + longer))
+                .collect()
+        }
+        1 => rule.weeks = offsets.map(|by| range(1 + by, 1 + by + longer)).collect(),
+        2 => {
+            rule.monthdays = offsets.map(|by| months(1 + by % 12, 2)).collect();
+            stop(rule, stock);
+        }
+        3 => {
+            rule.weekdays = offsets.map(|by| weekdays(by % 7, 0)).collect();
+            stop(rule, stock);
+        }
         _ => {
             rule.spans = offsets
                 .map(|by| fixed(600 + 10 * by, 700 + 9 * by))

@@ -76,6 +76,44 @@ pub struct Rule {
     pub spans: Vec<Span>,
 }
 
+/// An item of one of the four day selectors, by the ends of its range.
+pub trait DayItem: Clone {
+    /// The one that drains.
+    fn between(start: u32, end: u32) -> Self;
+
+    fn ends(&self) -> (u32, u32);
+}
+
+impl DayItem for Stepped {
+    fn between(start: u32, end: u32) -> Self {
+        range(start, end)
+    }
+
+    fn ends(&self) -> (u32, u32) {
+        (self.start, self.end)
+    }
+}
+
+impl DayItem for Monthday {
+    fn between(start: u32, end: u32) -> Self {
+        months(start, end)
+    }
+
+    fn ends(&self) -> (u32, u32) {
+        (self.start, self.end)
+    }
+}
+
+impl DayItem for Weekday {
+    fn between(start: u32, end: u32) -> Self {
+        weekdays(start, end)
+    }
+
+    fn ends(&self) -> (u32, u32) {
+        (self.start, self.end)
+    }
+}
+
 // Short ways to write down what drains.
 
 pub fn range(start: u32, end: u32) -> Stepped {

@@ -1,10 +1,11 @@
 //! The ranges and spans from which one sheet's rules are put together. They are few for each sheet, so that ranges meet and wrap, days
 //! repeat and groups grow.
 
+use crate::points::{DIMENSIONS, Dimension};
 use crate::random::Random;
 use crate::rule::{
-    ADDITIONAL, CLOSED, MIDNIGHT, Monthday, NORMAL, OPEN, Rule, Span, Stepped, Time, UNKNOWN,
-    Weekday, fixed, fixed_time, months, range, weekdays,
+    ADDITIONAL, CLOSED, DayItem, MIDNIGHT, Monthday, NORMAL, OPEN, Rule, Span, Stepped, Time,
+    UNKNOWN, Weekday, fixed, fixed_time,
 };
 
 const WEEK_VALUES: [u32; 11] = [1, 2, 3, 10, 11, 26, 27, 50, 51, 52, 53];
@@ -48,25 +49,16 @@ impl<'a> Stock<'a> {
     }
 
     fn take_days(&mut self) {
-        let listed_years = self.random.percent(50);
-        let listed_weeks = self.random.percent(50);
+        let [weekdays, weeks, months, years] = &DIMENSIONS;
+        let (rising, random) = (self.rising, &mut *self.random);
+        let listed = |random: &mut Random, values| random.percent(50).then_some(values);
 
-        self.years = self.several(|stock| {
-            stock.stepped(|random| match listed_years {
-                true => random.of(&YEAR_VALUES),
-                false => random.within(1900, 9999),
-            })
-        });
-        self.weeks = self.several(|stock| {
-            stock.stepped(|random| match listed_weeks {
-                true => random.of(&WEEK_VALUES),
-                false => random.within(1, 53),
-            })
-        });
-        self.monthdays =
-            self.several(|stock| months(stock.random.within(1, 12), stock.random.within(1, 12)));
-        self.weekdays =
-            self.several(|stock| weekdays(stock.random.within(0, 6), stock.random.within(0, 6)));
+        let listed_years = listed(random, &YEAR_VALUES);
+        self.years = ranges(random, years, listed_years, rising);
+        let listed_weeks = listed(random, &WEEK_VALUES);
+        self.weeks = ranges(random, weeks, listed_weeks, rising);
+        self.monthdays = ranges(random, months, None, false);
+        self.weekdays = ranges(random, weekdays, None, false);
     }
 
     fn take_spans(&mut self) {
@@ -89,21 +81,6 @@ impl<'a> Stock<'a> {
                 let (start, end) = self.rising_minutes();
                 self.spans.push(fixed(start, end));
             }
-        }
-    }
-
-    /// None to three of them.
-    fn several<T>(&mut self, mut item: impl FnMut(&mut Self) -> T) -> Vec<T> {
-        let count = self.random.weighed(&[(20, 0), (30, 1), (30, 2), (20, 3)]);
-        (0..count).map(|_| item(self)).collect()
-    }
-
-    fn stepped(&mut self, value: impl Fn(&mut Random) -> u32) -> Stepped {
-        let (start, end) = (value(self.random), value(self.random));
-
-        match self.rising {
-            true => range(start.min(end), start.max(end)),
-            false => range(start, end),
         }
     }
 
@@ -176,13 +153,13 @@ impl<'a> Stock<'a> {
         sibling
     }
 
-    /// A few of the items, at times the same one twice.
+    /// A few of the items, at times the same one twice; from drained rules overlaps are taken in the end.
     fn some<T: Clone>(random: &mut Random, items: &[T]) -> Vec<T> {
         if items.is_empty() || random.percent(25) {
             return Vec::new();
         }
 
-        let count = random.weighed(&[(55, 1), (35, 2), (10, 3)]);
+        let count = random.weighed(&[(40, 1), (35, 2), (25, 3)]);
         (0..count).map(|_| random.of(items)).collect()
     }
 
@@ -226,6 +203,54 @@ impl<'a> Stock<'a> {
             .weighed(&[(6, 1), (14, 2), (30, 4), (30, 7), (15, 12), (5, 20)]);
         (0..count).map(|_| self.rule()).collect()
     }
+}
+
+/// None to three items, of the listed values alone where there are such: as they come, or one next to the other.
+fn ranges<T: DayItem>(
+    random: &mut Random,
+    dimension: &Dimension,
+    listed: Option<&[u32; 11]>,
+    rising: bool,
+) -> Vec<T> {
+    let count = random.weighed(&[(20, 0), (30, 1), (30, 2), (20, 3)]);
+    let next_to_another = random.percent(60);
+    let mut values: Vec<u32> = (0..2 * count)
+        .map(|_| match listed {
+            Some(values) => random.of(values),
+            None => random.within(dimension.start, dimension.end - 1),
+        })
+        .collect();
+
+    let ends: Vec<(u32, u32)> = if next_to_another {
+        values.truncate(count + 1);
+        neighbours(values, dimension.start, rising)
+    } else {
+        let pairs = values.chunks(2).map(|pair| (pair[0], pair[1]));
+        pairs
+            .map(|(one, other)| match rising {
+                true => (one.min(other), one.max(other)),
+                false => (one, other),
+            })
+            .collect()
+    };
+
+    ends.into_iter()
+        .map(|(start, end)| T::between(start, end))
+        .collect()
+}
+
+/// The ends of the ranges from each cut up to the next one; where not all are to rise, the last wraps to the first.
+fn neighbours(mut cuts: Vec<u32>, lowest: u32, rising: bool) -> Vec<(u32, u32)> {
+    cuts.sort_unstable();
+    cuts.dedup();
+    let mut ends: Vec<_> = cuts.windows(2).map(|pair| (pair[0], pair[1] - 1)).collect();
+
+    match (cuts.first(), cuts.last()) {
+        (Some(first), Some(last)) if !rising && lowest < *first => ends.push((*last, *first - 1)),
+        _ => {}
+    }
+
+    ends
 }
 
 pub fn variable_time(random: &mut Random) -> Time {

@@ -1,39 +1,18 @@
-//! What a run met: how often each code and each reason, how many rules were drained, emitted and left, how long lines were.
+//! What a run met: how often each code and each reason, how many rules were drained, emitted and left, which ranges overlap, how long
+//! lines were.
 
 use std::fmt::{Display, Formatter, Result};
 
+use crate::expected::Accepted;
 use crate::line::{REASONS, Unsaid};
+use crate::overlap_tally::Overlaps;
 use crate::points::{BOX_LIMIT, Extent, LIST_LIMIT};
 use crate::rule::{ITEM_LIMIT, RULE_LIMIT, Rule};
+use crate::sizes::{Sizes, add_each, met};
 use crate::why::{Reasons, WHYS};
 
-/// Codes go from 0 to 10.
-const CODES: usize = 11;
-
-/// Numbers by their count of binary digits: 0, 1, 2 to 3, 4 to 7 and so on.
-#[derive(Default)]
-struct Sizes([u64; 18]);
-
-impl Sizes {
-    fn count(&mut self, size: u64) {
-        let digits = u64::BITS - size.leading_zeros();
-        self.0[(digits as usize).min(17)] += 1;
-    }
-}
-
-impl Display for Sizes {
-    fn fmt(&self, f: &mut Formatter<'_>) -> Result {
-        let met = self.0.iter().enumerate().filter(|(_, times)| **times > 0);
-
-        met.map(|(digits, times)| match digits {
-            0 | 1 => format!("{digits}: {times}"),
-            _ => format!("{}-{}: {times}", 1 << (digits - 1), (1 << digits) - 1),
-        })
-        .collect::<Vec<_>>()
-        .join(", ")
-        .fmt(f)
-    }
-}
+/// Codes go from 0 to 11.
+const CODES: usize = 12;
 
 /// Accepted folds that stand exactly at a limit.
 #[derive(Default)]
@@ -116,7 +95,7 @@ impl Lines {
     fn add(&mut self, other: &Self) {
         add_each(&mut self.codes, &other.codes);
         add_each(&mut self.reasons, &other.reasons);
-        add_each(&mut self.bytes.0, &other.bytes.0);
+        self.bytes.add(&other.bytes);
     }
 }
 
@@ -130,7 +109,7 @@ impl Display for Lines {
     }
 }
 
-/// The counts of the sheets of one sort, sound or damaged.
+/// The counts of the sheets of one sort, sound, overlapping or damaged.
 #[derive(Default)]
 pub struct Tally {
     pub sheets: u64,
@@ -145,6 +124,7 @@ pub struct Tally {
     emitted: Sizes,
     left: Sizes,
     stopped: Stopped,
+    overlaps: Overlaps,
 }
 
 impl Tally {
@@ -158,6 +138,11 @@ impl Tally {
             self.emitted.count(numbers[2]);
             self.left.count(numbers[3]);
         }
+    }
+
+    /// What overlaps or touches in a sheet that was read.
+    pub fn overlaps(&mut self, accepted: &Accepted) {
+        self.overlaps.count(accepted);
     }
 
     pub fn accepted_fold(&mut self, rules: &[Rule], extent: Extent, inside: bool) {
@@ -194,11 +179,12 @@ impl Tally {
         add_each(&mut self.fold_codes, &other.fold_codes);
         add_each(&mut self.lookup_codes, &other.lookup_codes);
         self.lines.add(&other.lines);
-        add_each(&mut self.sheet_bytes.0, &other.sheet_bytes.0);
-        add_each(&mut self.drained.0, &other.drained.0);
-        add_each(&mut self.emitted.0, &other.emitted.0);
-        add_each(&mut self.left.0, &other.left.0);
+        self.sheet_bytes.add(&other.sheet_bytes);
+        self.drained.add(&other.drained);
+        self.emitted.add(&other.emitted);
+        self.left.add(&other.left);
         self.stopped.add(&other.stopped);
+        self.overlaps.add(&other.overlaps);
     }
 }
 
@@ -223,25 +209,11 @@ impl Display for Tally {
         writeln!(f, "  emitted {}", self.emitted)?;
         writeln!(f, "  left {}", self.left)?;
         writeln!(f, "{}", self.stopped)?;
+        writeln!(f, "{}", self.overlaps)?;
         write!(f, "{}", self.lines)
     }
 }
 
 fn by_code(codes: &[u64; CODES]) -> String {
     met(codes.iter().copied().enumerate())
-}
-
-/// What was met at all, and how often.
-fn met(counts: impl Iterator<Item = (impl Display, u64)>) -> String {
-    counts
-        .filter(|(_, times)| *times > 0)
-        .map(|(name, times)| format!("{name}: {times}"))
-        .collect::<Vec<_>>()
-        .join(", ")
-}
-
-fn add_each(sums: &mut [u64], others: &[u64]) {
-    for (sum, other) in sums.iter_mut().zip(others) {
-        *sum += other;
-    }
 }

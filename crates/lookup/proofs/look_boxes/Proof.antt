@@ -11,21 +11,21 @@ use Rattle.lookup.proofs.look_boxes.Tie as tie
 draw-rules-requires : tie.Need-draw-rules-requires
 draw-rules-requires c κs =
     let given = c .before .before .before .before .before .before .before .before .before .before .pre .0 .1 .to-draw in
-    let few = given .few-boxes in
+    let few = given .passed .few-boxes in
     ((_, given .drawable), zeros-empty 33792 _ few (omega (arith, few)))
 
 returns : tie.Need-returns
 returns c =
     let drawing = c .before .before .before in λ rs given.
     let listing = drawing .draw-rules .ensures _ (given .to-draw .drawable) in
-    list-refused rs _ _ _ (boxes-few _ _ _ _ _ _ _ _ _ _ (given .to-draw)) _ (listing-long _ _ _ _ _ _ _ listing (c .before .if1 .taken)) (c .lookup-refused .ensures)
+    list-refused rs _ _ _ (given .to-draw .passed .apart) (boxes-few _ _ _ _ _ _ _ _ _ _ (given .to-draw)) _ (listing-long _ _ _ _ _ _ _ listing (c .before .if1 .taken)) (c .lookup-refused .ensures)
 
 returns-2 : tie.Need-returns-2
 returns-2 c =
     let drawing = c .before .before .before .before in λ rs given.
     let listing = drawing .draw-rules .ensures _ (given .to-draw .drawable) in
     let all = listing-all _ _ _ _ _ _ _ listing (c .before .before .if1 .left) in
-    left-refused rs _ _ _ (boxes-few _ _ _ _ _ _ _ _ _ _ (given .to-draw)) (all .1)
+    left-refused rs _ _ _ (given .to-draw .passed .apart) (boxes-few _ _ _ _ _ _ _ _ _ _ (given .to-draw)) (all .1)
     (omega (arith, c .before .if2 .taken, given .counted, given .to-draw .times .all-states)) (c .lookup-refused2 .ensures)
 
 look-requires : tie.Need-look-requires
@@ -42,7 +42,7 @@ returns-3 c =
     let drawing = c .before .before .before .before .before .before in λ rs given.
     let listing = drawing .draw-rules .ensures _ (given .to-draw .drawable) in
     let all = listing-all _ _ _ _ _ _ _ listing (c .before .before .before .before .if1 .left) in
-    state-found rs _ _ _ (boxes-few _ _ _ _ _ _ _ _ _ _ (given .to-draw)) (all .1)
+    state-found rs _ _ _ (given .to-draw .passed .apart) (boxes-few _ _ _ _ _ _ _ _ _ _ (given .to-draw)) (all .1)
     (omega (arith, c .before .before .before .if2 .left, given .counted, given .to-draw .times .all-states))
     (c .numbers-of .ensures ∙ c .before .look .ensures _ (given .to-draw .times) (listing .all-boxed (all .0)))
 

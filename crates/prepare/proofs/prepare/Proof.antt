@@ -1,12 +1,12 @@
--- `prepare::prepare` meets its contract: the rules drained are those of the sheet, and their ranges can be cut at.
+-- `prepare::prepare` meets its contract: the rules drained are those of the sheet, and their ranges can be judged.
 use native.Mathlib.Omega.{arith}
 use Rattle.field.proofs.Bytes.{known-bytes}
-use Rattle.prepare.proofs.Reading.{rules-begin, begins-there, why-read, drained-few, drained-days, sheet-prepared}
+use Rattle.prepare.proofs.Reading.{rules-begin, begins-there, drained-few, drained-days, sheet-judged}
 use Rattle.prepare.proofs.prepare.Statement.{statement}
 use Rattle.prepare.proofs.prepare.Tie as tie
 
 -- where the rules are drained, and the sheet that they are drained from
-abbrev draining : tie.After-cut-all → tie.After-drain
+abbrev draining : tie.After-judge → tie.After-drain
 draining c = c .before .before .before .before .before .before .before .before .before .before .before .before .before .before .before .before .before .before
 
 abbrev known : tie.After-drain → tie.After-shared-slice-known
@@ -25,8 +25,8 @@ drain-requires c κs =
       ((begins-there sheet bytes _ _ _ _ (read .0) (read .1), room .0, room .1, room .2, room .3), pre .1 .1 .0),
     )
 
-cut-all-requires : tie.Need-cut-all-requires
-cut-all-requires c κs =
+judge-requires : tie.Need-judge-requires
+judge-requires c κs =
     let drain-step = c .before .before .before .before .before .before .before .before .before .before .before .before .before .before .before .before .before in
     let entry = known drain-step .before in
     let sheet = entry .args .sheet .now in
@@ -42,8 +42,8 @@ cut-all-requires c κs =
 
 returns : tie.Need-returns
 returns c =
-    let cut-all = c .before .before .before .before .before .before in
-    let drain-step = draining cut-all in
+    let judge = c .before .before .before .before .before .before in
+    let drain-step = draining judge in
     let entry = known drain-step .before in
     let sheet = entry .args .sheet .now in
     let pre = entry .pre in
@@ -52,24 +52,21 @@ returns c =
     let bytes = known-bytes sheet (λ j. omega (arith, known drain-step .shared-slice-known .given j)) in
     λ rs end reading many. let days = drained-days sheet bytes _ rs end _ reading many _ _ _ _ _ _ _ (drain .ensures .0) (drain .ensures .2)
     (omega (arith, kept .1 .1 .1 .1 .0, pre .1 .1 .0 .0)) (omega (arith, kept .1 .1 .1 .1 .1 .0, pre .1 .1 .0 .1)) in
-    let cut = cut-all .cut-all .ensures _ days in (
-      sheet-prepared sheet bytes _ rs end _ reading many _ _ _ _ _ _ _ (drain .ensures .0) (drain .ensures .2)
-          (omega (arith, kept .1 .1 .1 .1 .0, pre .1 .1 .0 .0)) (omega (arith, kept .1 .1 .1 .1 .1 .0, pre .1 .1 .0 .1)) (omega (arith, kept .0, pre .1 .0 .0))
-          (omega (arith, kept .1 .0, pre .1 .0 .1)) (omega (arith, kept .1 .1 .0, pre .1 .0 .2)) (omega (arith, kept .1 .1 .1 .0, pre .1 .0 .3)) _ _ _ _ _
-          (cut .0) (cut .1),
-      why-read sheet bytes _ rs end _ reading many _ (drain .ensures .1),
-    )
+    sheet-judged sheet bytes _ rs end _ reading many _ _ _ _ _ _ _ (drain .ensures .0) (drain .ensures .2)
+    (omega (arith, kept .1 .1 .1 .1 .0, pre .1 .1 .0 .0)) (omega (arith, kept .1 .1 .1 .1 .1 .0, pre .1 .1 .0 .1)) (omega (arith, kept .0, pre .1 .0 .0))
+    (omega (arith, kept .1 .0, pre .1 .0 .1)) (omega (arith, kept .1 .1 .0, pre .1 .0 .2)) (omega (arith, kept .1 .1 .1 .0, pre .1 .0 .3)) _ (drain .ensures .1) _ _ _ _
+    (judge .judge .ensures _ days)
 
 pub prepare-spec : {M : Type 1} → statement M
 prepare-spec =
     tie.close
-    (tie.spec drain-requires cut-all-requires
+    (tie.spec drain-requires judge-requires
     (λ c. draining (c .before .before .before .before .before .before) .drain .kept .1 .1 .1 .0)
     (λ c. draining (c .before .before .before .before .before .before) .drain .kept .1 .1 .1 .1 .0)
     (λ c. draining (c .before .before .before .before .before .before) .drain .kept .1 .1 .1 .1 .1 .0)
     (λ c. draining (c .before .before .before .before .before .before) .drain .kept .1 .1 .1 .1 .1 .1 .0)
     (λ c. draining (c .before .before .before .before .before .before) .drain .kept .1 .1 .1 .1 .1 .1 .1 .0)
     (λ c. draining (c .before .before .before .before .before .before) .drain .kept .1 .1 .1 .1 .1 .1 .1 .1 .0)
-    (λ c. c .before .before .before .before .before .before .cut-all .kept .1 .1 .0)
-    (λ c. c .before .before .before .before .before .before .cut-all .kept .1 .0)
-    (λ c. c .before .before .before .before .before .before .cut-all .kept .0) returns)
+    (λ c. c .before .before .before .before .before .before .judge .kept .1 .1 .0)
+    (λ c. c .before .before .before .before .before .before .judge .kept .1 .0)
+    (λ c. c .before .before .before .before .before .before .judge .kept .0) returns)

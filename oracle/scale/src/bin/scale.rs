@@ -1,5 +1,5 @@
-//! The comparison at scale: `scale --seed S --count N [--threads T]` makes N sound sheets and N damaged ones, gives each to the archive
-//! and holds what it answers against the Rust and document 01. Exit status 1 on any difference.
+//! The comparison at scale: `scale --seed S --count N [--threads T]` makes N sound sheets, N overlapping ones and N damaged ones, gives each
+//! to the archive and holds what it answers against the Rust and documents 01 and 02. Exit status 1 on any difference.
 
 use std::process::ExitCode;
 use std::sync::atomic::{AtomicU64, Ordering};
@@ -38,13 +38,14 @@ fn main() -> ExitCode {
     }
 
     println!("sound: {}", report.sound);
+    println!("overlapping: {}", report.overlapping);
     println!("damaged: {}", report.damaged);
     println!(
         "seed {}: {} sheets in {seconds:.0} s on {} threads, {:.0} a second; {} differences",
         arguments.seed,
-        report.sound.sheets + report.damaged.sheets,
+        report.sheets(),
         arguments.threads,
-        (report.sound.sheets + report.damaged.sheets) as f64 / seconds,
+        report.sheets() as f64 / seconds,
         report.differences.len()
     );
 

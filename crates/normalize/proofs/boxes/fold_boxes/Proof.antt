@@ -14,12 +14,12 @@ fold-boxes-in-requires c κs =
     let sized = branch .before in
     let pre = start sized .pre in
     let size = sized .size-of .ensures in
-    (pre, (zeros-empty 528 _ (pre .1 .to-draw .few-boxes) (omega (arith, size, branch .if1 .taken)), omega (arith, size, branch .if1 .taken)))
+    (pre, (zeros-empty 528 _ (pre .1 .to-draw .passed .few-boxes) (omega (arith, size, branch .if1 .taken)), omega (arith, size, branch .if1 .taken)))
 
 fold-boxes-in-requires-2 : tie.Need-fold-boxes-in-requires-2
 fold-boxes-in-requires-2 c κs =
     let pre = start (c .before .before .before .before) .pre in
-    let few = pre .1 .to-draw .few-boxes in
+    let few = pre .1 .to-draw .passed .few-boxes in
     (pre, (zeros-empty 33792 _ few (omega (arith, few)), omega (arith, few)))
 
 pub fold-boxes-spec : {M : Type 1} → statement M

@@ -18,7 +18,7 @@ returns c =
     let entry = drawing .before .before .before .before .before .before .before .before .before .before .before .before .before .before .before in
     let given = entry .pre .0 .1 in
     let listing = drawing .draw-rules .ensures _ (given .to-draw .drawable) in
-    list-refused (entry .args .sheet .now) (entry .args .out .now) _ _ _ (given .read) (boxes-few _ _ _ _ _ _ _ _ _ _ (given .to-draw)) _
+    list-refused (entry .args .sheet .now) (entry .args .out .now) _ _ _ (given .read) (given .to-draw .passed .apart) (boxes-few _ _ _ _ _ _ _ _ _ _ (given .to-draw)) _
     (listing-long _ _ _ _ _ _ _ listing (c .before .if1 .taken)) (c .fold-refused .ensures)
 
 fold-pages-requires : tie.Need-fold-pages-requires
@@ -49,7 +49,7 @@ returns-2 c =
     let listing = drawing .draw-rules .ensures _ (given .to-draw .drawable) in
     let all = listing-all _ _ _ _ _ _ _ listing (paging .before .before .before .if1 .left) in
     let paged = paging .fold-pages .ensures _ (given .to-draw .times) (listing .all-boxed (all .0)) in
-    rules-folded (entry .args .sheet .now) (entry .args .out .now) _ _ _ (given .read) (boxes-few _ _ _ _ _ _ _ _ _ _ (given .to-draw)) _ (all .1)
+    rules-folded (entry .args .sheet .now) (entry .args .out .now) _ _ _ (given .read) (given .to-draw .passed .apart) (boxes-few _ _ _ _ _ _ _ _ _ _ (given .to-draw)) _ (all .1)
     (emitting .emit .ensures _ paged (given .leaving))
 
 pub fold-boxes-in-spec : {M : Type 1} → statement M
