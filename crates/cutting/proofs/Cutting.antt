@@ -21,7 +21,7 @@ use Rattle.definition.specs.Box.{allRanges, boxCount}
 use Rattle.definition.proofs.Lawful.{Lawful}
 use Rattle.paving.specs.Grid.{sizeOf}
 use Rattle.tables.specs.Rules.{ruleAt, DaysHeld, RuleDays}
-use Rattle.tables.proofs.Days.{days-lawful, lent-counts, lent-ranges, days-lent, four-lent, ranges-lent}
+use Rattle.tables.proofs.Days.{fits-lawful, lent-counts, lent-ranges, days-lent, four-lent, ranges-lent}
 use Rattle.tables.specs.Sizes.{rowPlaces}
 use Rattle.paving_cuts.specs.Cuts.{Rowed, rowed, cutRows, startRow, Space}
 use Rattle.paving_cuts.specs.Rules.{Roomy, startRows}
@@ -106,7 +106,7 @@ module _ (counts ranges : List ℕ) (n : ℕ) (rs : List Rule) (days : RuleDays 
       pub next-space : Space table rows sizes counts-k ranges-k 4
       next-space =
           rule-space rows counts-k ranges-k (rowPlaces n) rs k (omega (arith, days .many)) dimensions (held .selected) roomy (there .placed) sizes table before
-          (lawful-bounded (take k rs) (All-take Lawful k rs (days-lawful counts ranges n rs days))) (there .all-cuts) (omega (arith, days .few-rules))
+          (lawful-bounded (take k rs) (All-take Lawful k rs (fits-lawful rs (days .fits)))) (there .all-cuts) (omega (arith, days .few-rules))
           (omega (arith, there .four-rows)) (omega (arith, there .four-sizes))
           (four-lent counts ranges n rs days k here) (ranges-lent counts ranges n rs days k here) (held .few)
 

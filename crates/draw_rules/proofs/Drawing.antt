@@ -9,9 +9,7 @@ use lib.Dec.{eqb}
 use lib.ListN.{length, getD, take, drop, replicate}
 use borrow.Author.Tests.{lt-ltb, le-ltb}
 use Rattle.laws.specs.Lists.{onlyIf, All}
-use Rattle.laws.proofs.Lists.{All-map}
 use Rattle.definition.specs.Rule.{Rule}
-use Rattle.definition.specs.Sheet.{form1, limits1}
 use Rattle.definition.specs.Point.{dimensions, replaces}
 use Rattle.definition.proofs.Lawful as rules
 use Rattle.paving.specs.Grid.{sizeOf, Node}
@@ -24,6 +22,7 @@ use Rattle.tables.specs.Rules.{ruleAt, DaysHeld}
 use Rattle.tables.specs.Cuts.{Cut, Drawable}
 use Rattle.tables.specs.Lists.{Empty, Listed}
 use Rattle.tables.proofs.Ranges.{row-lent, row-long, row-at}
+use Rattle.tables.proofs.Days.{fits-lawful}
 use Rattle.draw_rules.specs.Drawing.{Listing}
 
 -- ## A rule
@@ -73,7 +72,7 @@ module _ (replacing counts ranges rows sizes cuts : List ℕ) (n : ℕ) (rs : Li
   cut = drawable .2
 
   lawful : All rules.Lawful rs
-  lawful = All-map (λ r f. rules.rule-lawful form1 limits1 r f) rs (drawable .0 .fits)
+  lawful = fits-lawful rs (drawable .0 .fits)
 
   -- what drawing one rule requires
   pub rule-there : (k : ℕ) → k < n → (k < 65536) × (k * 4 + 4 ≤ length counts) × (k * 256 + 256 ≤ length ranges)

@@ -44,7 +44,8 @@ use Rattle.number_boxes.proofs.InUse.{InUse, none-used, numberDay, number-day-n
 use Rattle.paving_pages.specs.Sorts.{groupRules}
 use Rattle.paving_pages.proofs.Rules.{rules-paged}
 use Rattle.tables.specs.Sizes.{dayRoom}
-use Rattle.tables.proofs.Times.{entries-lawful, day-listed}
+use Rattle.tables.proofs.Days.{fits-lawful}
+use Rattle.tables.proofs.Times.{day-listed}
 use Rattle.page_count.specs.DayReady.{DayReady}
 use Rattle.fold_pages.proofs.Ready.{box-ready, boxed-carried}
 
@@ -98,7 +99,7 @@ module _ (states counts spans rows sizes cuts lists cells classes : List ℕ) (r
   cells-in-use = cells-used states counts spans lists (sizeOf sizes 4) cells classes numbered (omega arith)
 
   lawful : All Lawful rs
-  lawful = entries-lawful states counts spans rs tables
+  lawful = fits-lawful rs (tables .fits)
 
   -- ## The definition's pages
   box-day : (p : List ℕ) → Within sizes 4 p → dayOf (getD cells (boxOf sizes 4 0 p) 0) ≡ day (map (ruleAt rs) (listOf lists (boxOf sizes 4 0 p)))

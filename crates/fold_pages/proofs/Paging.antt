@@ -23,7 +23,7 @@ use Rattle.tables.specs.Pages.{Paged, Counted}
 use Rattle.page_count.proofs.Reading.{text-counted}
 use Rattle.page_count.proofs.Rules.{text-rules}
 use Rattle.page_count.proofs.Ready.{text-ready}
-use Rattle.tables.proofs.Times.{entries-lawful}
+use Rattle.tables.proofs.Days.{fits-lawful}
 use Rattle.fold_pages.proofs.Numbered.{folded-found, found-few, found-brief, found-parts, found-ready}
 
 module _ (states counts spans rows sizes cuts lists cells classes : List ℕ) (rs : List Rule) (tables : RuleTimes states counts spans rs)
@@ -57,7 +57,7 @@ module _ (states counts spans rows sizes cuts lists cells classes : List ℕ) (r
   pub pages-folded : (n : ℕ) → ((m : ℕ) → Counted pages m 0 stop → n ≡ m) → Paged states counts spans lists pages n rs
   pages-folded n counted = subst (λ m. Paged states counts spans lists pages m rs) (sym (counted (length found) ended)) (record {
     few = found-few states counts spans rows sizes cuts lists cells classes rs tables boxed all-numbered exact;
-    ready = text-ready rows sizes cuts rs (boxed .cut) (entries-lawful states counts spans rs tables) (boxed .few-boxes)
+    ready = text-ready rows sizes cuts rs (boxed .cut) (fits-lawful rs (tables .fits)) (boxed .few-boxes)
         states counts spans lists pages₀ pages dayRoom found laid inside parts
         (found-ready states counts spans rows sizes cuts lists cells classes rs tables boxed all-numbered exact);
     brief = found-brief states counts spans rows sizes cuts lists cells classes rs tables boxed all-numbered exact;

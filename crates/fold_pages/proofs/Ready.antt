@@ -31,7 +31,8 @@ use Rattle.paving_pages.proofs.Rules.{cut-rows}
 use Rattle.fold_pages.proofs.Carrying.{box-carried}
 use Rattle.tables.specs.Rules.{RuleTimes}
 use Rattle.tables.specs.Sizes.{dayRoom}
-use Rattle.tables.proofs.Times.{entry-back, entries-lawful}
+use Rattle.tables.proofs.Days.{fits-lawful}
+use Rattle.tables.proofs.Times.{entry-back}
 
 -- ## Tables
 module _ (states counts spans : List ℕ) (rs : List Rule) (tables : RuleTimes states counts spans rs) where
@@ -67,7 +68,7 @@ module _ (states counts spans : List ℕ) (rs : List Rule) (tables : RuleTimes s
     -- the rows are those that popping requires
     pub rows-cut : CutRows rows cuts sizes 4
     rows-cut =
-        cut-rows rows sizes cuts rs dimensions (boxed .cut .cut-by) (lawful-bounded rs (entries-lawful states counts spans rs tables))
+        cut-rows rows sizes cuts rs dimensions (boxed .cut .cut-by) (lawful-bounded rs (fits-lawful rs (tables .fits)))
         (boxed .cut .all-rows) (omega (arith, boxed .cut .four)) (boxed .cut .inside)
 
     short : (i : ℕ) → length (listOf lists i) ≤ 32

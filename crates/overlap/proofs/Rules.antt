@@ -19,7 +19,7 @@ use Rattle.definition.proofs.Overlap.{overlaps-ends}
 use Rattle.tables.specs.Sizes.{rangePlaces}
 use Rattle.tables.specs.Ranges.{selectorOf}
 use Rattle.tables.specs.Rules.{ruleAt, RuleDays}
-use Rattle.tables.proofs.Days.{days-lawful, lent-counts, lent-ranges, days-lent, four-lent, ranges-lent}
+use Rattle.tables.proofs.Days.{fits-lawful, lent-counts, lent-ranges, days-lent, four-lent, ranges-lent}
 use Rattle.overlap.specs.Overlap.{rowOf, FewRanges, Overlapping}
 
 -- ## Dimensions
@@ -61,7 +61,7 @@ module _ (counts ranges : List ℕ) (n : ℕ) (rs : List Rule) (days : RuleDays 
       → overlaps (ruleAt rs k) ≡ b
   unfolding overlapsOverEnds
   rule-asked k here b e =
-      overlaps-ends (ruleAt rs k) (All-at Lawful rs noRule (days-lawful counts ranges n rs days) k (omega (arith, days .many)))
+      overlaps-ends (ruleAt rs k) (All-at Lawful rs noRule (fits-lawful rs (days .fits)) k (omega (arith, days .many)))
       ∙ ap (anyOf (anyPair meets)) (sym ((days-lent counts ranges n rs days k here) .selected)) ∙ sym e
 
   -- none of the first k rules overlaps

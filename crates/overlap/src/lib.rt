@@ -57,6 +57,7 @@ fn overlaps_before(ranges: &[u16], dimension: usize, range: usize, end: u16) -> 
     false
 }
 
+// The later of two ends.
 fn later(end: u16, other: u16) -> u16
     ensures { λ r. ⌜ r ≡ cond (ltb end other) other end ⌝ }
 {

@@ -17,7 +17,7 @@ pub enum Judged {
 }
 
 // Judges so many rules out of the tables of their days: 11 where one has days typed twice; then, with the rows of their cuts made, 5 where there are
-// too many boxes between them.
+// too many boxes between them. Rules that pass are answered with why the next one stopped, as it was told.
 fn judge(
     cuts: &mut [u16],
     sizes: &mut [u16],

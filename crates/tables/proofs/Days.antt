@@ -10,13 +10,14 @@ use Rattle.definition.specs.Rule.{Rule}
 use Rattle.definition.specs.Sheet.{form1, limits1}
 use Rattle.definition.proofs.Lawful.{Lawful, rule-lawful}
 use Rattle.tables.specs.Ranges.{tableRow}
-use Rattle.tables.specs.Rules.{ruleAt, DaysHeld, RuleDays}
+use Rattle.tables.specs.Rules.{ruleAt, AllFit, DaysHeld, RuleDays}
 use Rattle.tables.proofs.Ranges.{part-length, row-lent}
 
-module _ (counts ranges : List ℕ) (n : ℕ) (rs : List Rule) (days : RuleDays counts ranges n rs) where
-  pub days-lawful : All Lawful rs
-  days-lawful = All-map (λ r f. rule-lawful form1 limits1 r f) rs (days .fits)
+-- rules that a sheet can carry are lawful
+pub fits-lawful : (rs : List Rule) → AllFit rs → All Lawful rs
+fits-lawful rs h = All-map (λ r f. rule-lawful form1 limits1 r f) rs h
 
+module _ (counts ranges : List ℕ) (n : ℕ) (rs : List Rule) (days : RuleDays counts ranges n rs) where
   module _ (k : ℕ) (here : k < n) where
     abbrev pub lent-counts : List ℕ
     lent-counts = take (k * 4 + 4 - k * 4) (drop (k * 4) counts)

@@ -7,12 +7,12 @@ use Prim.Native.Nat.{ℕ, zero, suc, _+_, _*_, _<_}
 use native.Mathlib.Omega.{arith}
 use lib.ListN.{length, getD, length-map}
 use Rattle.laws.specs.Lists.{All}
-use Rattle.laws.proofs.Lists.{All-map, All-at, every-all}
+use Rattle.laws.proofs.Lists.{All-at, every-all}
 use Rattle.definition.specs.Rule.{Normal, Span, Rule, noRule}
 use Rattle.definition.specs.Sheet.{form1, limits1, span, rule}
 use Rattle.definition.specs.Day.{Entry, flattened, entryOf, day, dayOf}
 use Rattle.definition.specs.Group.{asRule}
-use Rattle.definition.proofs.Lawful.{Lawful, items-fit, rule-lawful}
+use Rattle.definition.proofs.Lawful.{items-fit}
 use Rattle.codes.specs.Number.{stateCoded, spanNumber, spanAt}
 use Rattle.codes.proofs.Numbers.{number-state, number-span}
 use Rattle.codes.proofs.Carried.{span-carried, span-numbered, state-numbered}
@@ -70,7 +70,3 @@ module _ (states counts spans : List ℕ) where
     pub day-listed : (list : List ℕ) → All (λ k. k < length rs) list → day (listRules states counts spans list 0 (length list)) ≡ day (map (λ k. getD rs k noRule) list)
     unfolding day
     day-listed list h = ap (λ es. dayOf (flattened es)) (entries-listed list h)
-
--- ## Laws of the rules
-pub entries-lawful : (states counts spans : List ℕ) (rs : List Rule) → RuleTimes states counts spans rs → All Lawful rs
-entries-lawful states counts spans rs tables = All-map (λ r f. rule-lawful form1 limits1 r f) rs (tables .fits)
