@@ -55,7 +55,6 @@ Mem-from b s n h k = any-Mem exact-eqb b (from s n) (from-inside b s n h k)
 pub every-below : (t : ℕ → Bool) (n : ℕ) → every t (from 0 n) ≡ true → (k : ℕ) → k < n → t k ≡ true
 every-below t n e k l = every-at (λ i. t i ≡ true) t eqb k (λ y s h. ap t (eqb-true k y s) ∙ h) (from 0 n) e (from-inside k 0 n (omega arith) (omega arith))
 
--- at most as large, or larger
 -- one of the numbers' images
 pub getD-from : {A : Type 0} (f : ℕ → A) (d : A) (s n k : ℕ) → k < n → getD (map f (from s n)) k d ≡ f (s + k)
 unfolding from
@@ -89,6 +88,7 @@ pub rises-few : (s n : ℕ) (ks : List ℕ) → s ≤ n → Rises s n ks → s +
 rises-few s n [] l h = omega arith
 rises-few s n (k ∷ ks) l h = omega (arith, h .0, rises-few (suc k) n ks (omega (arith, h .1)) (h .2))
 
+-- at most as large, or larger
 pub at-most : (x y : ℕ) → (x ≤ y) ⊎ (y < x)
 at-most x y = go (ltb y x) refl
   where

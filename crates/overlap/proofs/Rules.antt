@@ -28,16 +28,10 @@ module _ (counts ranges : List ℕ) where
   abbrev pub meetIn : ℕ → Bool
   meetIn l = anyOf (anyPair meets) (selectorOf counts ranges l)
 
-  one-row : (l i : ℕ) → l ≡ suc i → meetIn l ≡ anyPair meets (rowOf ranges i (getD counts i 0)) || meetIn i
+  -- what a dimension's row is asked, and then the dimensions before it
+  pub row-asked : (l i : ℕ) → l ≡ suc i → (n : ℕ) → n ≡ getD counts i 0 → (b : Bool) → b ≡ anyPair meets (rowOf ranges i n) → meetIn l ≡ b || meetIn i
   unfolding selectorOf anyOf
-  one-row l i e = ap meetIn e
-
-  module _ (l i : ℕ) (e : l ≡ suc i) (n : ℕ) (many : n ≡ getD counts i 0) where
-    pub row-meets : true ≡ anyPair meets (rowOf ranges i n) → meetIn l ≡ true
-    row-meets h = one-row l i e ∙ ap (λ m. anyPair meets (rowOf ranges i m) || meetIn i) (sym many) ∙ ap (_|| meetIn i) (sym h)
-
-    pub row-passes : false ≡ anyPair meets (rowOf ranges i n) → meetIn l ≡ meetIn i
-    row-passes h = one-row l i e ∙ ap (λ m. anyPair meets (rowOf ranges i m) || meetIn i) (sym many) ∙ ap (_|| meetIn i) (sym h)
+  row-asked l i e n many b h = ap meetIn e ∙ ap (λ m. anyPair meets (rowOf ranges i m) || meetIn i) (sym many) ∙ ap (_|| meetIn i) (sym h)
 
   -- the row of a dimension stands in the table
   pub row-there : FewRanges counts ranges → (i n : ℕ) → n ≡ getD counts i 0 → i < 4 → i * rangePlaces + 2 * n ≤ length ranges
