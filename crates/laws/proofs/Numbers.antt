@@ -8,6 +8,7 @@ use Prim.Native.Nat.{ℕ, zero, suc, _+_, _≤_, _<_}
 use native.Mathlib.Omega.{arith}
 use lib.ListN.{length, getD}
 use lib.Dec.{eqb, ltb}
+use borrow.Author.Count.{below-more}
 use borrow.Author.Tests.{ne-eqb, eqb-true, eqb-false, ltb-true, ltb-false}
 use Rattle.laws.specs.Lists.{from, firstOf, onlyIf, every, anyOf, All, Rises, Mem}
 use Rattle.laws.proofs.Flags.{not-true}
@@ -138,3 +139,16 @@ pub first-none : (t : ℕ → Bool) (s n : ℕ) → ((j : ℕ) → s ≤ j → j
 unfolding firstOf from
 first-none t s zero h = refl
 first-none t s (suc n) h = rw (h s (omega arith) (omega arith), firstOf) (first-none t (suc s) n (λ j a b. h j (omega arith) (omega arith)))
+
+-- one of the numbers below n is the first that passes, or none of them does
+abbrev pub FirstBelow : (ℕ → Bool) → ℕ → Type 0
+FirstBelow t n = (k : ℕ) × (k < n) × (t k ≡ true) × ((j : ℕ) → j < k → t j ≡ false)
+
+pub first-cases : (t : ℕ → Bool) (n : ℕ) → FirstBelow t n ⊎ ((j : ℕ) → j < n → t j ≡ false)
+first-cases t zero = inr (λ j l. absurd (omega arith))
+first-cases t (suc n) = go (first-cases t n) (t n) refl
+  where
+    go : FirstBelow t n ⊎ ((j : ℕ) → j < n → t j ≡ false) → (b : Bool) → t n ≡ b → FirstBelow t (suc n) ⊎ ((j : ℕ) → j < suc n → t j ≡ false)
+    go (inl k) b e = inl (k .0, omega (arith, k .1), k .2, k .3)
+    go (inr h) true e = inl (n, omega arith, e, h)
+    go (inr h) false e = inr (λ j l. below-more (λ i. t i ≡ false) n h e j (omega arith))

@@ -4,16 +4,15 @@ use mathlib.Core.List.{List, [], _∷_}
 use mathlib.Core.Option.{none, some}
 use mathlib.Core.Logic.{_⊎_, inl, inr}
 use mathlib.Core.Bool.{Bool, true, false}
-use Prim.Native.Nat.{ℕ, zero, suc, _<_}
+use Prim.Native.Nat.{ℕ, suc, _<_}
 use native.Mathlib.Omega.{arith}
-use lib.Dec.{eqb}
 use lib.ListN.{length, take}
-use borrow.Author.Tests.{eqb-true, eqb-false, ltb-true, ltb-false}
+use borrow.Author.Tests.{ltb-true, ltb-false}
 use Rattle.laws.specs.Lists.{anyOf}
 use Rattle.laws.specs.Tests.{Exact}
 use Rattle.laws.proofs.Flags.{both-and}
 use Rattle.laws.proofs.Lists.{Mem-any, any-some}
-use Rattle.laws.proofs.Numbers.{order, first-at, first-none}
+use Rattle.laws.proofs.Numbers.{order, first-at, first-none, FirstBelow, first-cases}
 use Rattle.laws.proofs.Tests.{exact-eqb}
 use Rattle.grid.specs.Group.{Set, Map, at, somewhere, inside}
 use Rattle.grid.proofs.Value.{somewhere-none}
@@ -30,23 +29,6 @@ somewhere-some {A} {same} exact (D ∷ Ds) t h =
     let k = any-some (λ x. somewhere Ds (at t x)) D h in
     let m = somewhere-some exact Ds (at t (k .0)) (k .2) in
     (k .0 ∷ m .0, both-and (anyOf (same (k .0)) D) (inside same Ds (m .0)) (Mem-any exact (k .0) D (k .1)) (m .1), m .2)
-
--- ## The first number that passes
-abbrev pub FirstBelow : (ℕ → Bool) → ℕ → Type 0
-FirstBelow t n = (k : ℕ) × (k < n) × (t k ≡ true) × ((j : ℕ) → j < k → t j ≡ false)
-
-pub first-cases : (t : ℕ → Bool) (n : ℕ) → FirstBelow t n ⊎ ((j : ℕ) → j < n → t j ≡ false)
-first-cases t zero = inr (λ j l. absurd (omega arith))
-first-cases t (suc n) = go (first-cases t n) (t n) refl
-  where
-    go : FirstBelow t n ⊎ ((j : ℕ) → j < n → t j ≡ false) → (b : Bool) → t n ≡ b → FirstBelow t (suc n) ⊎ ((j : ℕ) → j < suc n → t j ≡ false)
-    go (inl k) b e = inl (k .0, omega (arith, k .1), k .2, k .3)
-    go (inr h) true e = inl (n, omega arith, e, h)
-    go (inr h) false e = inr (λ j l. last j l (eqb j n) refl)
-      where
-        last : (j : ℕ) → j < suc n → (b : Bool) → eqb j n ≡ b → t j ≡ false
-        last j l true q = ap t (eqb-true j n q) ∙ e
-        last j l false q = h j (omega (arith, eqb-false j n q))
 
 -- ## The first list that is too long
 module _ (limit : ℕ) (ds : List Rule) where

@@ -13,13 +13,12 @@ use Rattle.laws.proofs.Flags.{split-and, both-and, not-true}
 use Rattle.laws.proofs.Lists.{any-some, some-any}
 use Rattle.laws.proofs.Passing.{index-first, index-none, Found, first-found}
 use Rattle.laws.proofs.Pairs.{at-pair, pair-at}
-use Rattle.laws.proofs.Numbers.{any-from, from-any}
+use Rattle.laws.proofs.Numbers.{any-from, from-any, FirstBelow, first-cases}
 use Rattle.grid.proofs.Cut.{holds-in, in-holds}
 use Rattle.definition.specs.Rule.{Rule, noRule}
 use Rattle.definition.specs.Point.{dimensions}
 use Rattle.definition.specs.Overlap.{has, share, overlaps, firstOverlap}
 use Rattle.promises.specs.Conditions.{Shares, FirstTwice, AllOnce}
-use Rattle.promises.proofs.TooLong.{FirstBelow, first-cases}
 
 -- ## A rule
 overlaps-shares : (r : Rule) → overlaps r ≡ true → Shares r
