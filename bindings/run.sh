@@ -10,6 +10,8 @@ programs=target/bindings
 folded='code 0 drained 1 emitted 1 left 0 bytes 15 place 0 why 0
 00010000000000000000040005A000'
 line='Mo,We-Fr 10:00-18:00; Tu 10:00-12:00,13:00-18:00'
+moved='200000100000000000000000000010001680
+00010000000000000000040005A000'
 
 expect() {
     local name=$1 expected=$2 printed
@@ -36,6 +38,9 @@ expect 'the C example of a fold' "$folded" "$programs/example"
 gcc -std=c11 "${strict[@]}" bindings/c/line.c "$archive" -o "$programs/line"
 expect 'the C example of a line' "$line" "$programs/line"
 
+gcc -std=c11 "${strict[@]}" bindings/c/convert.c "$archive" -o "$programs/convert"
+expect 'the C example of a conversion' "$moved" "$programs/convert"
+
 gcc -std=c11 "${strict[@]}" bindings/c/test.c "$archive" -o "$programs/test"
 "$programs/test"
 echo 'the C tests: passed'
@@ -46,5 +51,6 @@ echo 'the C tests as C++: passed'
 
 expect 'the Rust example of a fold' "$folded" cargo run --quiet --manifest-path "$manifest" --example fold
 expect 'the Rust example of a line' "$line" cargo run --quiet --manifest-path "$manifest" --example line
+expect 'the Rust example of a conversion' "$moved" cargo run --quiet --manifest-path "$manifest" --example convert
 cargo test --quiet --manifest-path "$manifest"
 echo 'the Rust tests: passed'

@@ -37,40 +37,43 @@ TITLES = {  # the chapters in their order: no file stands before one that it res
     "definition/specs/Show": "The line of a sheet",
     "definition/specs/Date": "Dates and their weeks",
     "definition/specs/Lookup": "The state lookup",
+    "definition/specs/Forms": "The two forms, and what a caller calls",
     "definition/specs/Worked": "Worked days",
     "definition/specs/WorkedOverlaps": "Worked overlaps",
     "definition/specs/WorkedLines": "Worked lines",
     "definition/specs/WorkedDates": "Worked dates",
     "definition/specs/WorkedReasons": "Worked reasons",
+    "definition/specs/WorkedForms": "Worked forms",
     "definition/specs/OverBoxes": "What computes: no promise speaks of it",
 }
 CRATES = ("definition", "grid")
 EXCEPTED = {"definition/specs/Lib", "grid/specs/Lib"}  # lists of modules
-USE = re.compile(r"use (?:Rattle·(\w+)(?:·specs)?\.specs\.(\w+)|.+?)\.\{(.*)\}")
+USE = re.compile(r"use (?:Rattle·(\w+)(?:·specs)?\.specs\.(\w+)|.+?)(?:\.\{(.*)\}| as \w+)")
 QUOTATION = re.compile(r'"(?:`[^`]*`|[^"`])*"')
 
 INTRODUCTION = """# The definition
 
 Made by `python3 docs/definition.py` from `crates/definition/specs/` and `crates/grid/specs/`. What is to change is changed there.
 
-Here stands, in full, what is right. Everything promised of the software (docs/PROMISES.md) is an equation to these definitions: for every byte string, date
-and buffer, the answer and the bytes written are those of `fold` and `writeBack` ([Fold]), `showLine` ([Show]) and `lookup` ([Lookup]). That these equations
-hold is proved, and checked by machine. That the definitions say what was wanted, no machine can check: a person has to read them. This document is for that
-person, and asks for nothing but reading.
+Here stands, in full, what is right. Everything promised of the software (docs/PROMISES.md) is an equation to these definitions: for every number of a form, byte
+string, date and buffer, the answer and the bytes written are those of the entries in [Forms]: `fold` and `writeBack` ([Fold]), `showLine` ([Show]), `lookup`
+([Lookup]) and `convert`, in the form that the caller names. That these equations hold is proved, and checked by machine. That the definitions say what was
+wanted, no machine can check: a person has to read them. This document is for that person, and asks for nothing but reading.
 
 The definitions were written from two papers: 01, the fold, and 02, the requests after it (M-100 and so on). The papers' words stand in quotation marks beside
 what was made of them; `..` stands for words left out.
 
-In short: a **sheet** is bytes that hold **rules**. A rule has an operator (Normal, Additional or Fallback), a **state** (Open, Closed or Unknown, and the number
-of a comment), **items** that choose years, months, weeks and weekdays, and **spans** of time. A rule that can't be folded exactly is a **stopper**: the rules
-before the first one are **drained**, those from it on are **left**. A **point** is a weekday, a week, a month and a year; a **box** is all points that some
-weekdays, weeks, months and years make together. The drained rules give each point a **list** of rules, and a list makes a **day**: states with their spans. Points
-of the same day are gathered in **groups**, each over a box, and each group is written as rules again. These, and behind them the rules left as they were, are
-the **fold**. The **line** is a sheet as text; the **lookup** tells the state at a date and minute. What can't be answered is **refused**, by a code and a place.
+In short: a **sheet** is bytes that hold **rules**, in one of two **forms**, which differ in how wide some fields are. A rule has an operator (Normal,
+Additional or Fallback), a **state** (Open, Closed or Unknown, and the number of a comment), **items** that choose years, months, weeks and weekdays, and
+**spans** of time. A rule that can't be folded exactly is a **stopper**: the rules before the first one are **drained**, those from it on are **left**. A
+**point** is a weekday, a week, a month and a year; a **box** is all points that some weekdays, weeks, months and years make together. The drained rules give
+each point a **list** of rules, and a list makes a **day**: states with their spans. Points of the same day are gathered in **groups**, each over a box, and
+each group is written as rules again. These, and behind them the rules left as they were, are the **fold**. The **line** is a sheet as text; the **lookup**
+tells the state at a date and minute; the **conversion** moves a sheet to the other form. What can't be answered is **refused**, by a code and a place.
 
 No definition uses a name of a later chapter. [grid's Group] and [grid's Cut] hold general words; how groups are made (`agree` and what follows) is first used in
-[Day], and may be left until then. A name that stands in two chapters means in each the chapter's own, else that of a chapter it rests on. After [Lookup] come
-tables of worked cases, which are proved of the definition, and last what computes, of which no promise speaks.
+[Day], and may be left until then. A name that stands in two chapters means in each the chapter's own, else that of a chapter it rests on; `state.f` is the f of
+[Lookup]. After [Forms] come tables of worked cases, which are proved of the definition, and last what computes, of which no promise speaks.
 
 ## How to read the notation
 
@@ -126,7 +129,7 @@ def read_chapter(path: str) -> Chapter:
     places = [place for place, line in enumerate(lines) if line.startswith("use ")]
     uses = [USE.fullmatch(lines[place]).groups() for place in places]
     rests_on = [f"{crate}/specs/{name}" for crate, name, _ in uses if crate in CRATES]
-    words = [word.split(" as ")[-1].strip("_") for crate, _, names in uses if crate not in CRATES for word in names.split(", ")]
+    words = [word.split(" as ")[-1].strip("_") for crate, _, names in uses if crate not in CRATES and names for word in names.split(", ")]
     return Chapter(path, lines[: places[0]], rests_on, words, lines[places[-1] + 1 :])
 
 

@@ -4,9 +4,11 @@
  *
  *     cc -Iinclude program.c target/staticlib/libhours.a
  *
- * What a packed sheet, its fold and its line are stands in crates/definition/specs. Of all four functions:
+ * What a packed sheet, its fold and its line are stands in crates/definition/specs. Of all five functions:
  *
- * - Every byte string, date and length gets an answer; a sheet may hold anything.
+ * - The caller says in `form` of which form the sheet is: HOURS_FORM_1 or HOURS_FORM_2, an hours_form. What a function writes as a sheet
+ *   is of the same form, but for hours_convert, which writes the other one.
+ * - Every byte string, form, date and length gets an answer; a sheet may hold anything.
  * - The answer goes into `numbers`, in the order of the enumerations below, and the function returns `true`. A `numbers` that is too
  *   short for it is answered `false`, and nothing is written anywhere. A longer one keeps its later numbers.
  * - A slice is a pointer and the count of its elements. A pointer with a count of 0 is not followed, and may be null.
@@ -14,6 +16,9 @@
  * - Nothing is kept between calls, nothing allocated, and nothing called but memset. Threads may call at once, each with its own `out`
  *   and `numbers`; they may share a `sheet` that nothing writes meanwhile.
  * - The stack must have HOURS_STACK bytes left.
+ *
+ * A call that was made before there were two forms gets HOURS_FORM_1 in front, and is answered as it was: the order of its refusals, the
+ * numbers and the bytes are the same.
  */
 #ifndef HOURS_H
 #define HOURS_H
@@ -26,22 +31,32 @@
 extern "C" {
 #endif
 
-/* The code of an answer: done, or the first reason to refuse, in the order 1, 2 and 4 as met from the first bit on, then 3, 8, 11, 5, 6,
- * 9, 10, 7. The place that goes with it stands in brackets; bits and rules are counted from 0, bits from the most significant one on. */
+/* The form of a packed sheet. Form 2 begins with the four bits 0010; its rule count has 24 bits where form 1's has 16, its comments 24
+ * where form 1's have 16, and the five counts of a rule 12 where form 1's have 10. All else is the same, the limits too. */
+enum hours_form {
+    HOURS_FORM_1 = 1, /* comments up to 65,535 */
+    HOURS_FORM_2 = 2  /* comments up to 16,777,215 */
+};
+
+/* The code of an answer: done, or the first reason to refuse: first 2 where `form` is neither 1 nor 2, then 1, 2 and 4 as met from the
+ * first bit on, then 3, 8, 11, 5, 6, 9, 10, 12, 7. The place that goes with it stands in brackets; bits and rules are counted from 0,
+ * bits from the most significant one on. */
 enum hours_code {
-    HOURS_DONE = 0,       /* done [0] */
-    HOURS_PAST_END = 1,   /* a field runs past the end [its first bit] */
-    HOURS_UNLAWFUL = 2,   /* a field that isn't a count holds an unlawful value [its first bit] */
-    HOURS_BAD_END = 3,    /* a padding bit is set, or bytes follow [the first such bit, else the first bit after the padding] */
-    HOURS_OVER_LIMIT = 4, /* a count passes its limit: 64 rules, 16 items of each sort, 16 spans [its first bit] */
-    HOURS_MANY_BOXES = 5, /* the drained rules cut over 1,024 boxes [the number of boxes] */
-    HOURS_LONG_LIST = 6,  /* some point's list passes 32 entries after a drained rule [that rule's index] */
-    HOURS_NO_ROOM = 7,    /* `out` is shorter than the result [bytes needed] */
-    HOURS_NO_DATE = 8,    /* lookup only: no such date or minute [0] */
-    HOURS_UNSETTLED = 9,  /* lookup only: a rule is left, or the point's list holds a span that isn't simple [0] */
-    HOURS_NO_LINE = 10,   /* line only: a rule holds what no line says [the first such rule's index] */
-    HOURS_OVERLAP = 11    /* fold and lookup only: two ranges of one day selector of a drained rule share a value, so that a day is
-                             named twice; ranges that only touch are fine [the first such rule's index] */
+    HOURS_DONE = 0,         /* done [0] */
+    HOURS_PAST_END = 1,     /* a field runs past the end [its first bit] */
+    HOURS_UNLAWFUL = 2,     /* `form` is neither 1 nor 2 [0], or a field that isn't a count holds an unlawful value [its first bit]; form
+                               2's first four bits are such a field */
+    HOURS_BAD_END = 3,      /* a padding bit is set, or bytes follow [the first such bit, else the first bit after the padding] */
+    HOURS_OVER_LIMIT = 4,   /* a count passes its limit: 64 rules, 16 items of each sort, 16 spans [its first bit] */
+    HOURS_MANY_BOXES = 5,   /* the drained rules cut over 1,024 boxes [the number of boxes] */
+    HOURS_LONG_LIST = 6,    /* some point's list passes 32 entries after a drained rule [that rule's index] */
+    HOURS_NO_ROOM = 7,      /* `out` is shorter than the result [bytes needed] */
+    HOURS_NO_DATE = 8,      /* lookup only: no such date or minute [0] */
+    HOURS_UNSETTLED = 9,    /* lookup only: a rule is left, or the point's list holds a span that isn't simple [0] */
+    HOURS_NO_LINE = 10,     /* line only: a rule holds what no line says [the first such rule's index] */
+    HOURS_OVERLAP = 11,     /* fold and lookup only: two ranges of one day selector of a drained rule share a value, so that a day is
+                               named twice; ranges that only touch are fine [the first such rule's index] */
+    HOURS_LONG_COMMENT = 12 /* convert from form 2 only: a comment is above 65,535 [the first such rule's index] */
 };
 
 /* Bytes of stack: more than twice what the deepest call of the bench took (oracle/README.md). That a stack is deep enough is not
@@ -105,26 +120,36 @@ enum hours_line_number {
     HOURS_LINE_NUMBERS
 };
 
+/* The numbers of a conversion, and how many they are. */
+enum hours_convert_number {
+    HOURS_CONVERT_CODE,  /* an hours_code: 0 to 4, 7 or 12 */
+    HOURS_CONVERT_BYTES, /* bytes written */
+    HOURS_CONVERT_PLACE, /* the code's place */
+    HOURS_CONVERT_NUMBERS
+};
+
 /* Folds a sheet's rules up to the first one that can't be folded exactly, and copies the rules from there on.
  *
  * Answers the HOURS_FOLD_NUMBERS numbers of hours_fold_number. On HOURS_DONE the folded sheet stands at the front of `out`, in as many
  * bytes as HOURS_FOLD_BYTES says, and later bytes are unchanged. On any other code `out` is unchanged, and every number but code and
  * place is 0. The result may be longer than the sheet; with an `out` of 0 bytes, HOURS_NO_ROOM tells the bytes needed. */
-bool hours_fold(const uint8_t *sheet, size_t sheet_length, uint8_t *out, size_t out_length, uint64_t *numbers, size_t numbers_length);
+bool hours_fold(uint64_t form, const uint8_t *sheet, size_t sheet_length, uint8_t *out, size_t out_length, uint64_t *numbers,
+                size_t numbers_length);
 
 /* The state at a minute (0 to 1439) of a Gregorian date (years 1900 to 9999, months and days from 1), by a sheet without a rule that
  * can't be folded exactly. A date's week is that of ISO 8601, its year that of the calendar: 1 January 2027 is in week 53 and in 2027.
  *
  * Answers the HOURS_LOOKUP_NUMBERS numbers of hours_lookup_number. On HOURS_DONE kind and comment are those of the last span that
  * covers the minute, HOURS_CLOSED and 0 where none does. On any other code both are 0. */
-bool hours_lookup(const uint8_t *sheet, size_t sheet_length, uint64_t year, uint64_t month, uint64_t day, uint64_t minute,
+bool hours_lookup(uint64_t form, const uint8_t *sheet, size_t sheet_length, uint64_t year, uint64_t month, uint64_t day, uint64_t minute,
                   uint64_t *numbers, size_t numbers_length);
 
 /* Reads a sheet and writes it again: an accepted sheet comes back byte for byte.
  *
  * Answers the HOURS_WRITE_BACK_NUMBERS numbers of hours_write_back_number. On HOURS_DONE the sheet stands at the front of `out`, and
  * later bytes are unchanged. On any other code `out` is unchanged, and the bytes written are 0. */
-bool hours_write_back(const uint8_t *sheet, size_t sheet_length, uint8_t *out, size_t out_length, uint64_t *numbers, size_t numbers_length);
+bool hours_write_back(uint64_t form, const uint8_t *sheet, size_t sheet_length, uint8_t *out, size_t out_length, uint64_t *numbers,
+                      size_t numbers_length);
 
 /* Writes a sheet as one line of text, in the notation of the public OpenStreetMap opening_hours specification. The sheet itself is
  * written and not its fold: to show a fold, fold the sheet first; one that has more rules, items or spans than a sheet may is refused by
@@ -139,7 +164,19 @@ bool hours_write_back(const uint8_t *sheet, size_t sheet_length, uint8_t *out, s
  * Answers the HOURS_LINE_NUMBERS numbers of hours_line_number. On HOURS_DONE the text, in ASCII and without a zero byte or a newline at
  * its end, stands at the front of `out`, and later bytes are unchanged. On any other code `out` is unchanged, and the bytes written are
  * 0. With an `out` of 0 bytes, HOURS_NO_ROOM tells the bytes needed. */
-bool hours_line(const uint8_t *sheet, size_t sheet_length, uint8_t *out, size_t out_length, uint64_t *numbers, size_t numbers_length);
+bool hours_line(uint64_t form, const uint8_t *sheet, size_t sheet_length, uint8_t *out, size_t out_length, uint64_t *numbers,
+                size_t numbers_length);
+
+/* Moves a sheet to the other form: `form` is the sheet's. A sheet that is moved and moved back is the same byte for byte.
+ *
+ * HOURS_LONG_COMMENT is given exactly when the sheet is of form 2 and some rule, whether it can be folded or not, has a comment above
+ * 65,535.
+ *
+ * Answers the HOURS_CONVERT_NUMBERS numbers of hours_convert_number. On HOURS_DONE the sheet stands in the other form at the front of
+ * `out`, and later bytes are unchanged. On any other code `out` is unchanged, and the bytes written are 0. With an `out` of 0 bytes,
+ * HOURS_NO_ROOM tells the bytes needed. */
+bool hours_convert(uint64_t form, const uint8_t *sheet, size_t sheet_length, uint8_t *out, size_t out_length, uint64_t *numbers,
+                   size_t numbers_length);
 
 #ifdef __cplusplus
 }

@@ -1,9 +1,10 @@
-"""The stored answers: `python3 oracle/answers.py --seed N` writes crates/replay/data/{fold,lookup,back,line,read}.txt.
+"""The stored answers: `python3 oracle/answers.py --seed N` writes crates/replay/data/{fold,lookup,back,line,convert,read}.txt.
 
 All answers are the reference's. Folds inside the Rust's domain are held against the built oracle while the lists are
 made. A case is a line, its fields separated by a space, bytes in upper-case hex and `-` for none; lines that start with
-`#` are remarks. Rests on `reference`, on `cases`, `line_cases`, `overlap_cases` and `why_cases` for the sheets and on `compare` for
-the oracle.
+`#` are remarks. Sheets of form 1 come first, then those of form 2, then those that are no sheets of the form said and forms that
+are none. Rests on `reference`, on `cases`, `line_cases`, `overlap_cases`, `why_cases` and `convert_cases` for the sheets and on
+`compare` for the oracle.
 """
 
 from __future__ import annotations
@@ -17,20 +18,26 @@ from random import Random
 from typing import Callable, Iterable
 
 from cases import (
-    EVERY_SORT, REFUSED_SORTS, damaged, each_refused_sort, generated, largest, named_dates, named_sheets, new_year_dates,
-    refused_sort, sample_date, sheets_of_lists, twice_refused,
+    EVERY_SORT, FEWER, Given, damaged, each_refused_sort, generated, largest, named_dates, named_sheets, new_year_dates,
+    other_forms, refused_sort, refused_sorts, sample_date, sheets_of_lists, twice_refused,
 )
 from compare import fold_line, oracle_lines, verdict
+from convert_cases import long_comments, moved_here, refused_before_12
 from line_cases import each_reason, flipped_lines, long_line, named_lines, with_a_line, without_a_line
 from overlap_cases import each_overlap, refused_by_overlaps_too
+from reference.convert import convert
 from reference.fold import Folded, Written, fold, write_back
 from reference.line import NO_LINE, line, reasons_against
 from reference.lookup import lookup
-from reference.sheet import read_sheet, write_sheet
-from reference.worked import EXAMPLE, FOLDS, NUMBERED_WEEKS, OVERLAPS, ROOM, check_worked
+from reference.sheet import FORMS, Rule, read_sheet, write_sheet
+from reference.worked import EXAMPLES, FOLDS, NUMBERED_WEEKS, OVERLAPS, ROOM, check_worked
 from why_cases import each_why
 
 DATA = Path(__file__).parent.parent / "crates" / "replay" / "data"
+SEEDS = {1: "{}", 2: "{}/form 2"}  # so that form 2 has other rules than form 1
+
+Entry = Callable[[int, bytes, int], tuple[Folded | Written, bytes]]  # one that writes: form, sheet and room
+Date = tuple[int, int, int, int]
 
 
 # Lines
@@ -40,30 +47,28 @@ def hexed(given: bytes) -> str:
     return given.hex().upper() or "-"
 
 
-def fold_case(sheet: bytes, room: int) -> str:
-    return written_case(fold, sheet, room)
+def written_case(entry: Entry, given: Given, room: int) -> str:
+    answer, result = entry(*given, room)
+    return " ".join(map(str, (given.form, hexed(given.sheet), room, *answer, hexed(result))))
 
 
-def lookup_case(sheet: bytes, date: tuple[int, int, int, int]) -> str:
-    return " ".join(map(str, (hexed(sheet), *date, *lookup(sheet, *date))))
+def lookup_case(given: Given, date: Date) -> str:
+    return " ".join(map(str, (given.form, hexed(given.sheet), *date, *lookup(*given, *date))))
 
 
-def back_case(sheet: bytes, room: int) -> str:
-    return written_case(write_back, sheet, room)
+def read_case(given: Given) -> str:
+    code, place, _ = refused_sort(given)
+    return f"{given.form} {hexed(given.sheet)} {code} {place} {0 if code else len(read_sheet(*given)[0])}"
 
 
-def line_case(sheet: bytes, room: int) -> str:
-    return written_case(line, sheet, room)
+def in_each_room(entry: Entry, given: Given) -> list[str]:
+    """In ample room, exactly full, a byte short and without room."""
+    needed = entry(*given, ROOM)[0].bytes
+    return [written_case(entry, given, room) for room in dict.fromkeys((ROOM, needed, max(needed - 1, 0), 0))]
 
 
-def written_case(entry: Callable[[bytes, int], tuple[Folded | Written, bytes]], sheet: bytes, room: int) -> str:
-    answer, result = entry(sheet, room)
-    return " ".join(map(str, (hexed(sheet), room, *answer, hexed(result))))
-
-
-def read_case(sheet: bytes) -> str:
-    code, place, _ = refused_sort(sheet)
-    return f"{hexed(sheet)} {code} {place} {0 if code else len(read_sheet(sheet)[0])}"
+def in_some_room(entry: Entry, given: Given, random: Random) -> str:
+    return written_case(entry, given, some_room(random, entry(*given, ROOM)[0].bytes))
 
 
 def some_room(random: Random, needed: int) -> int:
@@ -71,132 +76,181 @@ def some_room(random: Random, needed: int) -> int:
     return random.choices((ROOM, needed, max(needed - 1, 0), needed + 1, 0), (80, 6, 8, 3, 3))[0]
 
 
-def fold_in_some_room(sheet: bytes, random: Random) -> str:
-    return fold_case(sheet, some_room(random, fold(sheet, ROOM)[0].bytes))
-
-
-def telling_dates(sheet: bytes, random: Random) -> Iterable[tuple[int, int, int, int]]:
+def telling_dates(given: Given, random: Random) -> Iterable[Date]:
     """Of some dates one for each different answer."""
     dates = [sample_date(random) for _ in range(30)]
-    return {lookup(sheet, *date): date for date in dates}.values()
+    return {lookup(*given, *date): date for date in dates}.values()
 
 
-# The five lists, each made of remarks and cases
+def in_form(form: int, sheets: Iterable[list[Rule]]) -> Iterable[Given]:
+    return (Given(form, write_sheet(form, rules)) for rules in sheets)
 
 
-def fold_lines(seed: int) -> list[str]:
+def named_in_form(form: int, *named: dict[str, bytes]) -> Iterable[tuple[str, Given]]:
+    return ((name, Given(form, sheet)) for sheets in named for name, sheet in sheets.items())
+
+
+def some(sheets: Iterable[Given], wanted: int, form: int) -> Iterable[Given]:
+    return islice(sheets, wanted // FEWER[form])
+
+
+# The six lists in one form, each made of remarks and cases
+
+
+def fold_lines(form: int, seed: str) -> list[str]:
     random = Random(f"{seed}/rooms of folds")
     lines = []
-    for name, sheet in (named_sheets() | twice_refused() | refused_by_overlaps_too()).items():
-        needed = fold(sheet, ROOM)[0].bytes
-        rooms = dict.fromkeys((ROOM, needed, max(needed - 1, 0), 0))
-        lines += [f"# {name}", *(fold_case(sheet, room) for room in rooms)]
+    for name, given in named_in_form(form, named_sheets(form), twice_refused(form), refused_by_overlaps_too(form)):
+        lines += [f"# {name}", *in_each_room(fold, given)]
     lines += ["# the largest of many"]
-    lines += [fold_case(sheet, ROOM) for sheet in largest(seed)]
+    lines += [written_case(fold, given, ROOM) for given in largest(form, seed)]
     lines += ["# each sort of refusal in reading"]
-    lines += [fold_case(sheet, ROOM) for sheet in each_refused_sort(seed, 1)]
+    lines += [written_case(fold, given, ROOM) for given in each_refused_sort(form, seed, 1)]
     lines += ["# generated, inside the Rust's domain and then anywhere"]
     for inside, wanted in ((True, 1200), (False, 600)):
-        lines += [fold_in_some_room(sheet, random) for sheet in islice(generated(f"{seed}/folds", inside), wanted)]
+        sheets = some(generated(form, f"{seed}/folds", inside), wanted, form)
+        lines += [in_some_room(fold, given, random) for given in sheets]
     met = set(sheets_in(lines))
     lines += ["# without day items, so that the fold is the day of one list"]
-    lines += [fold_in_some_room(sheet, random) for sheet in dict.fromkeys(sheets_of_lists(seed)) if sheet not in met]
+    lists = dict.fromkeys(sheets_of_lists(form, seed))
+    lines += [in_some_room(fold, given, random) for given in lists if given not in met]
     for name, sheets in (each_overlap() | each_why()).items():
-        lines += [f"# {name}", *(fold_case(write_sheet(rules), ROOM) for rules in sheets)]
+        lines += [f"# {name}" + ", some of them" * (FEWER[form] > 1)]
+        lines += [written_case(fold, given, ROOM) for given in in_form(form, sheets[:: FEWER[form]])]
     return lines
 
 
-def lookup_lines(seed: int) -> list[str]:
-    random = Random(f"{seed}/dates")
+def lookup_lines(form: int, seed: str) -> list[str]:
+    random, fewer = Random(f"{seed}/dates"), FEWER[form]
     lines = []
-    for name, sheet in (named_sheets() | twice_refused() | refused_by_overlaps_too()).items():
+    for name, given in named_in_form(form, named_sheets(form), twice_refused(form), refused_by_overlaps_too(form)):
         dates = ((2000, 2, 29, 720), (1900, 2, 29, 720), (2027, 1, 1, 600))
-        lines += [f"# {name}", *(lookup_case(sheet, date) for date in dates)]
+        lines += [f"# {name}", *(lookup_case(given, date) for date in dates)]
     lines += ["# dates, and numbers that are no dates"]
-    weeks = write_sheet(FOLDS["P6"][0])
-    lines += [lookup_case(sheet, date) for date in named_dates() for sheet in (EXAMPLE, weeks)]
+    example, weeks = Given(form, EXAMPLES[form]), Given(form, write_sheet(form, FOLDS["P6"][0]))
+    lines += [lookup_case(given, date) for date in named_dates()[::fewer] for given in (example, weeks)]
     lines += ["# weeks whose comment is their number, around new years"]
-    lines += [lookup_case(write_sheet(NUMBERED_WEEKS), date) for date in new_year_dates()]
+    numbered = Given(form, write_sheet(form, NUMBERED_WEEKS))
+    lines += [lookup_case(numbered, date) for date in new_year_dates()[::fewer]]
     lines += ["# each sort of refusal in reading"]
-    lines += [lookup_case(sheet, sample_date(random)) for sheet in each_refused_sort(seed, 1)]
+    lines += [lookup_case(given, sample_date(random)) for given in each_refused_sort(form, seed, 1)]
     lines += ["# generated, answered and then anyhow"]
-    answered = generated(f"{seed}/lookups", False, lambda sheet: lookup(sheet, 2024, 2, 29, 600).code == 0)
-    lines += [lookup_case(sheet, date) for sheet in islice(answered, 400) for date in telling_dates(sheet, random)]
-    anyhow = generated(f"{seed}/any lookup", False)
-    lines += [lookup_case(sheet, sample_date(random)) for sheet in islice(anyhow, 500)]
+    answered = generated(form, f"{seed}/lookups", False, lambda given: lookup(*given, 2024, 2, 29, 600).code == 0)
+    lines += [lookup_case(given, date) for given in some(answered, 400, form) for date in telling_dates(given, random)]
+    anyhow = generated(form, f"{seed}/any lookup", False)
+    lines += [lookup_case(given, sample_date(random)) for given in some(anyhow, 500, form)]
     return lines
 
 
-def back_lines(seed: int) -> list[str]:
+def back_lines(form: int, seed: str) -> list[str]:
     random = Random(f"{seed}/rooms of write-backs")
     lines = []
-    for name, sheet in (named_sheets() | twice_refused()).items():
-        rooms = dict.fromkeys((ROOM, len(sheet), max(len(sheet) - 1, 0), 0))
-        lines += [f"# {name}", *(back_case(sheet, room) for room in rooms)]
+    for name, given in named_in_form(form, named_sheets(form), twice_refused(form)):
+        length = len(given.sheet)
+        rooms = dict.fromkeys((ROOM, length, max(length - 1, 0), 0))
+        lines += [f"# {name}", *(written_case(write_back, given, room) for room in rooms)]
     lines += ["# each sort of refusal in reading"]
-    lines += [back_case(sheet, ROOM) for sheet in each_refused_sort(seed, 1)]
+    lines += [written_case(write_back, given, ROOM) for given in each_refused_sort(form, seed, 1)]
     lines += ["# generated"]
-    sheets = islice(generated(f"{seed}/backs", False), 400)
-    lines += [back_case(sheet, some_room(random, len(sheet))) for sheet in sheets]
+    sheets = some(generated(form, f"{seed}/backs", False), 400, form)
+    lines += [written_case(write_back, given, some_room(random, len(given.sheet))) for given in sheets]
     return lines
 
 
-def line_lines(seed: int) -> list[str]:
+def line_lines(form: int, seed: str) -> list[str]:
     random = Random(f"{seed}/lines")
-    given = {name: write_sheet(rules) for name, rules in named_lines().items()}
+    named = {name: write_sheet(form, rules) for name, rules in named_lines(form).items()}
     lines = []
-    for name, sheet in (named_sheets() | twice_refused() | given).items():
-        needed = line(sheet, ROOM)[0].bytes
+    for name, given in named_in_form(form, named_sheets(form) | twice_refused(form) | named):
+        needed = line(*given, ROOM)[0].bytes
         rooms = dict.fromkeys((ROOM, needed + 1, needed, max(needed - 1, 0), 0))
-        lines += [f"# {name}", *(line_case(sheet, room) for room in rooms)]
-    longest, needed = long_line(), line(long_line(), ROOM)[0].bytes
+        lines += [f"# {name}", *(written_case(line, given, room) for room in rooms)]
+    longest, needed = long_line(form), line(*long_line(form), ROOM)[0].bytes
     lines += ["# the longest, exactly full and a byte short"]
-    lines += [line_case(longest, room) for room in (needed, needed - 1)]
+    lines += [written_case(line, longest, room) for room in (needed, needed - 1)]
     lines += ["# each reason against a line, at each of three rules"]
-    lines += [line_case(write_sheet(rules), ROOM) for rules in each_reason()]
+    lines += [written_case(line, given, ROOM) for given in in_form(form, each_reason())]
     lines += ["# each sort of refusal in reading"]
-    lines += [line_case(sheet, ROOM) for sheet in each_refused_sort(seed, 1)]
+    lines += [written_case(line, given, ROOM) for given in each_refused_sort(form, seed, 1)]
     generated_ones = {
-        "generated, with a line": map(write_sheet, islice(with_a_line(random), 900)),
-        "generated, with reasons against a line": map(write_sheet, islice(without_a_line(random), 500)),
-        "generated with a line, one bit flipped": islice(flipped_lines(random), 400),
-        "generated anyhow": islice(generated(f"{seed}/any line", False), 300),
+        "generated, with a line": some(in_form(form, with_a_line(form, random)), 900, form),
+        "generated, with reasons against a line": some(in_form(form, without_a_line(form, random)), 500, form),
+        "generated with a line, one bit flipped": some(flipped_lines(form, random), 400, form),
+        "generated anyhow": some(generated(form, f"{seed}/any line", False), 300, form),
     }
     for name, sheets in generated_ones.items():
-        lines += [f"# {name}", *(line_case(sheet, some_room(random, line(sheet, ROOM)[0].bytes)) for sheet in sheets)]
+        lines += [f"# {name}", *(in_some_room(line, given, random) for given in sheets)]
     return lines
 
 
-def read_lines(seed: int) -> list[str]:
+def convert_lines(form: int, seed: str) -> list[str]:
+    random = Random(f"{seed}/rooms of conversions")
     lines = []
-    for name, sheet in (named_sheets() | twice_refused()).items():
-        lines += [f"# {name}", read_case(sheet)]
-    short = {"the example": EXAMPLE, "P9": write_sheet(OVERLAPS["P9"][0]), "a rule with every sort of item": EVERY_SORT}
-    for name, sheet in short.items():
-        lines += [f"# every truncation and every flipped bit of {name}", *map(read_case, damaged(sheet))]
-    lines += ["# each sort of refusal in reading", *map(read_case, each_refused_sort(seed, 5))]
-    lines += ["# generated", *map(read_case, islice(generated(f"{seed}/reads", False), 400))]
+    for name, given in named_in_form(form, named_sheets(form), twice_refused(form), refused_before_12() if form == 2 else {}):
+        lines += [f"# {name}", *in_each_room(convert, given)]
+    for name, sheets in (long_comments() if form == 2 else {}).items():
+        lines += [f"# {name}", *(written_case(convert, given, room) for given in in_form(form, sheets) for room in (ROOM, 0))]
+    lines += ["# each sort of refusal in reading"]
+    lines += [written_case(convert, given, ROOM) for given in each_refused_sort(form, seed, 1)]
+    lines += ["# generated, moved here from the other form and then anyhow"]
+    for sheets in (moved_here(form, f"{seed}/moved"), generated(form, f"{seed}/conversions", False)):
+        lines += [in_some_room(convert, given, random) for given in islice(sheets, 200)]
     return lines
+
+
+def read_lines(form: int, seed: str) -> list[str]:
+    lines = []
+    for name, given in named_in_form(form, named_sheets(form), twice_refused(form)):
+        lines += [f"# {name}", read_case(given)]
+    short = {"P9": OVERLAPS["P9"][0], "a rule with every sort of item": EVERY_SORT}
+    written = {name: write_sheet(form, rules) for name, rules in short.items()}
+    for name, given in named_in_form(form, {"the example": EXAMPLES[form]} | written):
+        lines += [f"# every truncation and every flipped bit of {name}", *map(read_case, damaged(given))]
+    lines += ["# each sort of refusal in reading", *map(read_case, each_refused_sort(form, seed, 5))]
+    lines += ["# generated", *map(read_case, some(generated(form, f"{seed}/reads", False), 400, form))]
+    return lines
+
+
+# Cases of a sheet in another form than it was written in, or in none
+
+
+def written_anyhow(entry: Entry) -> Callable[[Given], list[str]]:
+    return lambda given: [written_case(entry, given, room) for room in (ROOM, 0)]
+
+
+def looked_up_anyhow(given: Given) -> list[str]:
+    return [lookup_case(given, date) for date in ((2000, 2, 29, 720), (1900, 2, 29, 720))]
+
+
+def read_anyhow(given: Given) -> list[str]:
+    """No sheet is read in a form that is none."""
+    return [read_case(given)] if given.form in FORMS else []
 
 
 # The files
 
 
-def sheets_in(lines: Iterable[str]) -> list[bytes]:
-    given = (line.split()[0] for line in lines if not line.startswith("#"))
-    return [bytes.fromhex("" if sheet == "-" else sheet) for sheet in dict.fromkeys(given)]
+def sheets_in(lines: Iterable[str]) -> list[Given]:
+    given = (line.split()[:2] for line in lines if not line.startswith("#"))
+    return list(dict.fromkeys(Given(int(form), bytes.fromhex("" if sheet == "-" else sheet)) for form, sheet in given))
+
+
+def in_forms(lines: Iterable[str]) -> dict[int, list[Given]]:
+    """The sheets that are given in each form, but not those in none."""
+    return {form: [given for given in sheets_in(lines) if given.form == form] for form in FORMS}
 
 
 def held_against_oracle(lines: list[str]) -> str:
     """A remark on how the folds of the lines' sheets came out beside the oracle; an assertion if one differs."""
-    given = sheets_in(lines)
     counts: Counter = Counter()
-    for sheet, theirs in zip(given, oracle_lines(given, []), strict=True):
-        name, difference = verdict(sheet, fold_line(sheet), theirs)
-        assert difference is None, difference
-        counts[name] += 1
+    for form, sheets in in_forms(lines).items():
+        bytes_given = [given.sheet for given in sheets]
+        for sheet, theirs in zip(bytes_given, oracle_lines(form, bytes_given, []), strict=True):
+            name, difference = verdict(sheet, fold_line(form, sheet), theirs)
+            assert difference is None, difference
+            counts[name] += 1
     told = ", ".join(f"{number} {name}" for name, number in sorted(counts.items()))
-    return f"# of {len(given)} different sheets, beside the Rust oracle: {told}"
+    return f"# of {counts.total()} different sheets of both forms, beside the Rust oracle: {told}"
 
 
 def counts_remark(lines: list[str], layout: str, field: str) -> str:
@@ -207,22 +261,26 @@ def counts_remark(lines: list[str], layout: str, field: str) -> str:
 
 
 def sorts_remarks(lines: list[str]) -> list[str]:
-    """For each code of reading, at which sorts of field or bit it is given here; none may be missing."""
-    counts = Counter((code, sort) for code, _, sort in map(refused_sort, sheets_in(lines)) if code)
-    assert set(REFUSED_SORTS) == set(counts), set(REFUSED_SORTS) ^ set(counts)
-    told: dict[int, list[str]] = {}
-    for code, sort in sorted(REFUSED_SORTS, key=itemgetter(0)):
-        told.setdefault(code, []).append(f"{sort} ({counts[code, sort]})")
-    return [f"# code {code} at: " + ", ".join(sorts) for code, sorts in told.items()]
+    """For each code of reading, at which sorts of field or bit it is given here; in neither form may one be missing."""
+    remarks = []
+    for form, sheets in in_forms(lines).items():
+        counts = Counter((code, sort) for code, _, sort in map(refused_sort, sheets) if code)
+        wanted = refused_sorts(form)
+        assert set(wanted) == set(counts), set(wanted) ^ set(counts)
+        told: dict[int, list[str]] = {}
+        for code, sort in sorted(wanted, key=itemgetter(0)):
+            told.setdefault(code, []).append(f"{sort} ({counts[code, sort]})")
+        remarks += [f"# form {form}, code {code} at: " + ", ".join(sorts) for code, sorts in told.items()]
+    return remarks
 
 
 def reasons_remark(lines: list[str]) -> str:
     """How many sheets have each reason against a line at the rule that 10 names."""
     counts: Counter = Counter()
-    for sheet in sheets_in(lines):
-        answer, _ = line(sheet, ROOM)
+    for given in sheets_in(lines):
+        answer, _ = line(*given, ROOM)
         if answer.code == NO_LINE:
-            counts.update(reasons_against(read_sheet(sheet)[0][answer.place], is_first=answer.place == 0))
+            counts.update(reasons_against(read_sheet(*given)[0][answer.place], is_first=answer.place == 0))
     return f"# code {NO_LINE} for: " + ", ".join(f"{reason} ({number})" for reason, number in sorted(counts.items()))
 
 
@@ -232,21 +290,29 @@ def write_list(name: str, seed: int, layout: str, remarks: list[str], lines: lis
     print(f"{name}: {sum(not line.startswith('#') for line in lines)} answers")
 
 
+WRITTEN = "FORM SHEET ROOM CODE BYTES PLACE RESULT"
+# Each file with its layout, its list in one form, and its cases of a sheet that is given anyhow.
+LISTS = {
+    "fold.txt": ("FORM SHEET ROOM CODE DRAINED EMITTED LEFT BYTES PLACE WHY RESULT", fold_lines, written_anyhow(fold)),
+    "lookup.txt": ("FORM SHEET YEAR MONTH DAY MINUTE CODE KIND COMMENT PLACE", lookup_lines, looked_up_anyhow),
+    "back.txt": (WRITTEN, back_lines, written_anyhow(write_back)),
+    "line.txt": (WRITTEN, line_lines, written_anyhow(line)),
+    "convert.txt": (WRITTEN, convert_lines, written_anyhow(convert)),
+    "read.txt": ("FORM SHEET CODE PLACE RULES", read_lines, read_anyhow),
+}
+
+
 def main() -> None:
     parser = argparse.ArgumentParser(description="Write the stored answers.")
     parser.add_argument("--seed", type=int, required=True)
     seed = parser.parse_args().seed
     check_worked()
     DATA.mkdir(parents=True, exist_ok=True)
-    coded = (
-        ("fold.txt", "SHEET ROOM CODE DRAINED EMITTED LEFT BYTES PLACE WHY RESULT", fold_lines(seed)),
-        ("lookup.txt", "SHEET YEAR MONTH DAY MINUTE CODE KIND COMMENT PLACE", lookup_lines(seed)),
-        ("back.txt", "SHEET ROOM CODE BYTES PLACE RESULT", back_lines(seed)),
-        ("line.txt", "SHEET ROOM CODE BYTES PLACE RESULT", line_lines(seed)),
-        ("read.txt", "SHEET CODE PLACE RULES", read_lines(seed)),
-    )
-    for name, layout, lines in coded:
-        remarks = [counts_remark(lines, layout, "CODE"), *sorts_remarks(lines)]
+    for name, (layout, lines_in, anyhow) in LISTS.items():
+        lines = [line for form in FORMS for line in lines_in(form, SEEDS[form].format(seed))]
+        lines += ["# no sheets of the form said, and forms that are none"]
+        lines += [line for given in other_forms() for line in anyhow(given)]
+        remarks = [counts_remark(lines, layout, field) for field in ("FORM", "CODE")] + sorts_remarks(lines)
         if name == "fold.txt":
             remarks += [held_against_oracle(lines), counts_remark(lines, layout, "WHY")]
         if name == "line.txt":

@@ -1,44 +1,58 @@
 """The sheets and dates of the stored answers: named ones, damaged ones, short ones of the generator, and lists of a day.
 
-Rests on `generate` and on `reference`, whose worked days stand among the named sheets.
+What is made for a form is written in it, and each case says in which form a sheet is given: at times in another one than it was
+written in, or in none. Rests on `generate` and on `reference`, whose worked days stand among the named sheets.
 """
 
 from __future__ import annotations
 
 from itertools import count, islice
 from random import Random
-from typing import Callable, Iterator
+from typing import Callable, Iterator, NamedTuple
 
 from generate import fields_met, flip, overwrite, sheet_number, stop_by_span
 from reference.build import ITEM_OF_ENDS, ITEM_OF_SORT, boxes_rule, fixed, hours, many, plain_rule, weekdays
 from reference.fold import fold
 from reference.points import DIMENSIONS, LIST_LIMIT, Dimension
 from reference.sheet import (
-    ADDITIONAL, DAY_ITEMS, EVENT, EVENT_OFFSET, FIXED_MINUTES, ITEM_COUNTS, ITEM_FIELDS, ITEM_LIMIT, NORMAL, NO_REPEATS,
-    OPEN_END, PADDING, PAST_THE_END, REPEATS, REPEATS_FLAG, RULE_COUNT, RULE_HEAD, RULE_LIMIT, TIME_TAG,
-    DatedRange, Field, Holiday, Months, MonthsOfYear, Refusal, Rule, Span, Time, Week, Year, read_sheet, write_sheet,
+    ADDITIONAL, DAY_ITEMS, EVENT, EVENT_OFFSET, FIXED_MINUTES, ITEM_FIELDS, ITEM_LIMIT, KIND, NORMAL, NO_REPEATS, OPEN_END,
+    OPERATOR, PADDING, PAST_THE_END, REPEATS, REPEATS_FLAG, RULE_LIMIT, TIME_TAG, DatedRange, Field, Holiday, Months,
+    MonthsOfYear, Refusal, Rule, Span, Time, Week, Year, layout_of, read_sheet, write_sheet,
 )
-from reference.worked import EXAMPLE, FOLDS, LOOKUPS, OVERLAPS, ROOM, RUNS
+from reference.worked import (
+    COMMENTS, EMPTY, EXAMPLES, FOLDS, LONG_FOLDS, LOOKUPS, MISREAD, NO_FORMS, OVERLAPS, ROOM, RUNS, lunch_off,
+)
 from stock import MINUTES, YEAR_VALUES, Stock
 
-SHORT = 120  # bytes of a sheet that is stored among many
+SHORT = {1: 120, 2: 140}  # by form, bytes of a sheet that is stored among many
 LAST_NUMBER = 2**64 - 1
 SEARCHED = 2000
+FEWER = {1: 1, 2: 4}  # form 2 has one for so many of form 1's generated sheets, dates, overlaps and reasons
 
 # One rule with every sort of item and time, short enough to store all its flips and truncations.
-EVERY_SORT = write_sheet([
+EVERY_SORT = [
     plain_rule(
         comment=2, years=(Year(2000, 2001, 1),), monthdays=(Months(11, 2), MonthsOfYear(1, 12, 2024), DatedRange(7)),
         weeks=(Week(50, 53, 1),), weekdays=(weekdays(4, 0), Holiday(1, -1)),
         spans=(fixed(600, 1080, 1, 90), Span(Time(1, 2, -30), Time(0, 0, 1440), 0, NO_REPEATS)),
     )
-])
+]
 
-ALL_FIELDS: list[Field] = list(dict.fromkeys([
-    RULE_COUNT, *RULE_HEAD, *ITEM_COUNTS, *(tag for tag, _ in DAY_ITEMS if tag),
-    *(field for fields in ITEM_FIELDS.values() for field in fields),
-    TIME_TAG, FIXED_MINUTES, EVENT, EVENT_OFFSET, OPEN_END, REPEATS_FLAG, REPEATS,
-]))
+
+class Given(NamedTuple):
+    """A sheet, and the form in which the caller says that it is."""
+
+    form: int
+    sheet: bytes
+
+
+def all_fields(form: int) -> list[Field]:
+    layout = layout_of(form)
+    return list(dict.fromkeys([
+        *layout.head, layout.rule_count, OPERATOR, KIND, layout.comment, *layout.item_counts,
+        *(tag for tag, _ in DAY_ITEMS if tag), *(field for fields in ITEM_FIELDS.values() for field in fields),
+        TIME_TAG, FIXED_MINUTES, EVENT, EVENT_OFFSET, OPEN_END, REPEATS_FLAG, REPEATS,
+    ]))
 
 
 def lawless_values(field: Field) -> list[int]:
@@ -49,30 +63,59 @@ def lawless_values(field: Field) -> list[int]:
 
 
 Sort = tuple[int, str]  # a code of reading, and the sort of field or bit at its place
-REFUSED_SORTS: list[Sort] = [
-    *((PAST_THE_END, field.name) for field in ALL_FIELDS),
-    *((field.refused_by, field.name) for field in ALL_FIELDS if lawless_values(field)),
-    *((PADDING, f"padding bit {bit}") for bit in range(1, 8)),
-    (PADDING, "bytes after the padding"),
-]
+
+
+def refused_sorts(form: int) -> list[Sort]:
+    return [
+        *((PAST_THE_END, field.name) for field in all_fields(form)),
+        *((field.refused_by, field.name) for field in all_fields(form) if lawless_values(field)),
+        *((PADDING, f"padding bit {bit}") for bit in range(1, 8)),
+        (PADDING, "bytes after the padding"),
+    ]
 
 
 # Named sheets
 
 
-def named_sheets() -> dict[str, bytes]:
+def named_sheets(form: int) -> dict[str, bytes]:
     """The document's own cases, and sheets at the limits and one past them."""
-    named = {"the example": EXAMPLE, "no bytes": b"", "every sort of item": EVERY_SORT}
-    named |= {name: write_sheet(given) for name, (given, _) in (FOLDS | RUNS | OVERLAPS).items()}
+    named = {"the example": EXAMPLES[form], "no bytes": b"", "every sort of item": write_sheet(form, EVERY_SORT)}
+    named |= {name: write_sheet(form, rules) for name, rules in (worked_rules() | at_the_limits()).items()}
+    return named | (form_2_alone() if form == 2 else {})
+
+
+def worked_rules() -> dict[str, list[Rule]]:
+    return {name: given for name, (given, _) in (FOLDS | RUNS | OVERLAPS).items()}
+
+
+def at_the_limits() -> dict[str, list[Rule]]:
+    named = {}
     for above in (0, 1):
         rules = [plain_rule(comment=place) for place in range(RULE_LIMIT + above)]
-        named[f"{len(rules)} rules"] = write_sheet(rules)
+        named[f"{len(rules)} rules"] = rules
         for sort in ITEM_OF_SORT:
             items = many(sort, ITEM_LIMIT + above)
-            named[f"{len(items)} {sort}"] = write_sheet([plain_rule(**{sort: items})])
-    named["1024 boxes, no two alike"] = write_sheet(boxes_all_different(comments=False))
-    named["1024 boxes, no two alike, longer than 65536 bytes"] = write_sheet(boxes_all_different(comments=True))
+            named[f"{len(items)} {sort}"] = [plain_rule(**{sort: items})]
+    named["1024 boxes, no two alike"] = boxes_all_different(comments=False)
+    named["1024 boxes, no two alike, longer than 65536 bytes"] = boxes_all_different(comments=True)
     return named
+
+
+def form_2_alone() -> dict[str, bytes]:
+    """Comments on both sides of 65,535, in rules drained and left, and heads of all values."""
+    commented = {f"comment {comment}": lunch_off(comment) for comment in COMMENTS}
+    commented |= {name: given for name, (given, _) in LONG_FOLDS.items()}
+    sheets = {name: write_sheet(2, rules) for name, rules in commented.items()}
+    sheets |= {f"head {head}": overwrite(EXAMPLES[2], 0, 4, head) for head in range(2**4)}
+    sheets |= {"a head and half a byte of the count": EMPTY[2][:1], "all but the last bits of the count": EMPTY[2][:-1]}
+    return sheets
+
+
+def other_forms() -> list[Given]:
+    """Bytes that are no sheet of the form said, and sheets and other bytes in forms that are none."""
+    misread = [Given(form, sheet) for form, sheet, _ in MISREAD.values()]
+    sheets = (*EXAMPLES.values(), *EMPTY.values(), b"", EXAMPLES[1][:-1], write_sheet(1, boxes_all_different(comments=False)))
+    return misread + [Given(form, sheet) for form in NO_FORMS for sheet in sheets]
 
 
 def boxes_all_different(comments: bool) -> list[Rule]:
@@ -98,58 +141,60 @@ def intervals_with_bit(dimension: Dimension, bits: int, bit: int) -> Iterator[tu
             yield ITEM_OF_ENDS[dimension.items](start, end)
 
 
-def twice_refused() -> dict[str, bytes]:
+def twice_refused(form: int) -> dict[str, bytes]:
     """Sheets for which two codes hold, so that the order of refusals shows."""
     boxes, entries = boxes_rule((1, 9, 8, 16)), [plain_rule(operator=ADDITIONAL)] * 33
     stopper, early = plain_rule(spans=(fixed(1080, 1441),)), Year(1899, 2000, 1)
     folded = {
-        "5 before 6": write_sheet([boxes, *entries]), "5 before 9": write_sheet([boxes, stopper]),
-        "6 before 9": write_sheet([*entries, stopper]),
+        "5 before 6": write_sheet(form, [boxes, *entries]), "5 before 9": write_sheet(form, [boxes, stopper]),
+        "6 before 9": write_sheet(form, [*entries, stopper]),
     }
     return {
         **folded,
         **{f"3, then {name}": sheet + b"\0" for name, sheet in folded.items()},
         **{f"1, then {name}": sheet[:-1] for name, sheet in folded.items()},
-        "4 before 2": write_sheet([plain_rule(years=(early,) * 17)]),
-        "2 before 4": write_sheet([plain_rule(kind=3, years=(early,) * 17)]),
-        "2 before 1": write_sheet([plain_rule(years=(early,))])[:-1],
-        "2 before 3": write_sheet([plain_rule(years=(early,))]) + b"\0",
+        "4 before 2": write_sheet(form, [plain_rule(years=(early,) * 17)]),
+        "2 before 4": write_sheet(form, [plain_rule(kind=3, years=(early,) * 17)]),
+        "2 before 1": write_sheet(form, [plain_rule(years=(early,))])[:-1],
+        "2 before 3": write_sheet(form, [plain_rule(years=(early,))]) + b"\0",
     }
 
 
 # Sheets of the generator
 
 
-def generated(seed: str, inside: bool, keep: Callable[[bytes], bool] = lambda sheet: True) -> Iterator[bytes]:
+def generated(form: int, seed: str, inside: bool, keep: Callable[[Given], bool] = lambda given: True) -> Iterator[Given]:
     """Short sheets that are to be kept, without end."""
     for number in count():
-        sheet = sheet_number(seed, number, inside)
-        if len(sheet) <= SHORT and keep(sheet):
-            yield sheet
+        given = Given(form, sheet_number(form, seed, number, inside))
+        if len(given.sheet) <= SHORT[form] and keep(given):
+            yield given
 
 
-def largest(seed: int) -> list[bytes]:
+def largest(form: int, seed: str) -> list[Given]:
     """Of many sheets the few longest, and the few of which most rules come out."""
-    sheets = [sheet_number(f"{seed}/large", number, True) for number in range(SEARCHED)]
-    most = sorted(sheets, key=lambda sheet: fold(sheet, ROOM)[0].emitted)[-5:]
-    return list(dict.fromkeys(most + sorted(sheets, key=len)[-3:]))
+    numbers = range(SEARCHED // FEWER[form])
+    sheets = [Given(form, sheet_number(form, f"{seed}/large", number, True)) for number in numbers]
+    most = sorted(sheets, key=lambda given: fold(*given, ROOM)[0].emitted)[-5:]
+    return list(dict.fromkeys(most + sorted(sheets, key=lambda given: len(given.sheet))[-3:]))
 
 
 # Lists of a day
 
 
-def sheets_of_lists(seed: int) -> Iterator[bytes]:
+def sheets_of_lists(form: int, seed: str) -> Iterator[Given]:
     """The rules of named sheets, of short ones and of random stocks, each as one list."""
     random = Random(f"days {seed}")
-    sheets = (*filter(is_accepted, named_sheets().values()), *islice(generated(f"{seed}/days", True), 700))
-    stocks = (rules_of_stock(random) for _ in range(600))
-    for rules in (*(read_sheet(sheet)[0] for sheet in sheets), *stocks):
-        yield write_sheet(as_one_list(rules))
+    named = (Given(form, sheet) for sheet in named_sheets(form).values())
+    sheets = (*filter(is_accepted, named), *islice(generated(form, f"{seed}/days", True), 700 // FEWER[form]))
+    stocks = (rules_of_stock(random, form) for _ in range(600 // FEWER[form]))
+    for rules in (*(read_sheet(*given)[0] for given in sheets), *stocks):
+        yield Given(form, write_sheet(form, as_one_list(rules)))
 
 
-def rules_of_stock(random: Random) -> list[Rule]:
+def rules_of_stock(random: Random, form: int) -> list[Rule]:
     """Rules of one stock; at times one has a span that may reach tomorrow."""
-    stock = Stock(random, inside=True)
+    stock = Stock(random, inside=True, form=form)
     rules = stock.rules()
     if random.random() < 0.3:
         place = random.randrange(len(rules))
@@ -168,13 +213,13 @@ def as_one_list(rules: list[Rule]) -> list[Rule]:
 # Refused readings
 
 
-def refused_sort(sheet: bytes) -> tuple[int, int, str]:
+def refused_sort(given: Given) -> tuple[int, int, str]:
     """Code and place of reading, and the sort of field or bit at the place; code 0 where it is accepted."""
     try:
-        read_sheet(sheet)
+        read_sheet(*given)
     except Refusal as refusal:
         at_a_field = refusal.code != PADDING
-        return refusal.code, refusal.place, fields_met(sheet)[-1][0].name if at_a_field else padding_sort(refusal.place)
+        return refusal.code, refusal.place, fields_met(*given)[-1][0].name if at_a_field else padding_sort(refusal.place)
     return 0, 0, "accepted"
 
 
@@ -183,19 +228,20 @@ def padding_sort(place: int) -> str:
     return f"padding bit {place % 8}" if place % 8 else "bytes after the padding"
 
 
-def is_accepted(sheet: bytes) -> bool:
-    return refused_sort(sheet)[0] == 0
+def is_accepted(given: Given) -> bool:
+    return refused_sort(given)[0] == 0
 
 
-def damaged(sheet: bytes) -> Iterator[bytes]:
+def damaged(given: Given) -> Iterator[Given]:
     """Every truncation and every single flipped bit."""
-    yield from (sheet[:size] for size in range(len(sheet)))
-    yield from (flip(sheet, bit) for bit in range(8 * len(sheet)))
+    form, sheet = given
+    yield from (Given(form, sheet[:size]) for size in range(len(sheet)))
+    yield from (Given(form, flip(sheet, bit)) for bit in range(8 * len(sheet)))
 
 
-def spoiled(sheet: bytes) -> Iterator[tuple[Sort, bytes]]:
+def spoiled(given: Given) -> Iterator[tuple[Sort, bytes]]:
     """Every truncation of a sound sheet, every field set to unlawful values, every wrong end, each with its sort."""
-    fields = fields_met(sheet)
+    fields, sheet = fields_met(*given), given.sheet
     for size in range(len(sheet)):
         cut = next(field for field, place in fields if place + field.width > 8 * size)
         yield (PAST_THE_END, cut.name), sheet[:size]
@@ -208,11 +254,11 @@ def spoiled(sheet: bytes) -> Iterator[tuple[Sort, bytes]]:
     yield (PADDING, padding_sort(8 * len(sheet))), sheet + b"\0"
 
 
-def each_refused_sort(seed: int, quota: int) -> list[bytes]:
+def each_refused_sort(form: int, seed: str, quota: int) -> list[Given]:
     """For each code and each sort of place in reading so many sheets, no two of them from the same one."""
     random = Random(f"{seed}/which of a sort")
-    sound = generated(f"{seed}/refused", False, is_accepted)
-    found: dict[Sort, list[bytes]] = {sort: [] for sort in REFUSED_SORTS}
+    sound = generated(form, f"{seed}/refused", False, is_accepted)
+    found: dict[Sort, list[bytes]] = {sort: [] for sort in refused_sorts(form)}
     while any(len(cases) < quota for cases in found.values()):
         of_sheet: dict[Sort, list[bytes]] = {}
         for sort, case in spoiled(next(sound)):
@@ -220,7 +266,7 @@ def each_refused_sort(seed: int, quota: int) -> list[bytes]:
         for sort, cases in of_sheet.items():
             if len(found[sort]) < quota:
                 found[sort].append(random.choice(cases))
-    return [case for cases in found.values() for case in cases]
+    return [Given(form, case) for cases in found.values() for case in cases]
 
 
 # Dates

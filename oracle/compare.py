@@ -1,10 +1,11 @@
-"""The reference held against the Rust oracle: `python3 oracle/compare.py --seed N --count N [--any|--days|--halves]`.
+"""The reference held against the Rust oracle: `python3 oracle/compare.py --seed N --count N [--form N] [--any|--days|--halves]`.
 
 Generated sheets go to both; counts are printed and, where the two differ, the smallest inputs. Exit status 1 on any
 difference. Why a fold stopped isn't compared: the Rust tells no reason. Nor is a sheet that code 11 refuses, for ranges that
 overlap: the Rust folds it. The sheets stay inside the Rust's domain, but with `--any`. `--days` compares days of lists in place
 of folds. `--halves` takes drained rules alone, and the Rust, whose years and weeks don't wrap, gets those that do as their two
-halves. Rests on the built oracle (oracle/target/release/oracle), on `generate` and on `reference`.
+halves. With `--form 2` both read and write sheets of form 2: to the Rust a comment is a text, whatever its length. Rests on the
+built oracle (oracle/target/release/oracle), on `generate` and on `reference`.
 """
 
 from __future__ import annotations
@@ -20,15 +21,14 @@ from random import Random
 from typing import Iterator, NamedTuple
 
 from generate import sheets
-from reference.check import check_boxes_against_points
+from reference.check import AMPLE_ROOM, check_boxes_against_points, check_other_form
 from reference.day import day_of, rules_of_day
 from reference.fold import fold
 from reference.points import DIMENSIONS, drained_of, ranges_of
-from reference.sheet import PADDING, PAST_THE_END, UNLAWFUL, Refusal, Week, Year, read_sheet, write_sheet
+from reference.sheet import FORMS, PADDING, PAST_THE_END, UNLAWFUL, Refusal, Week, Year, read_sheet, write_sheet
 
 ORACLE = Path(__file__).parent / "target" / "release" / "oracle"
 WORKERS, CHUNK, SHOWN = 2, 500, 5
-AMPLE_ROOM = 2**32
 POINT_CHECK_EVERY = 50  # the literal check costs several folds
 UNREADABLE = "outside unreadable"
 _, WEEKS, _, YEARS = DIMENSIONS
@@ -40,49 +40,49 @@ class Difference(NamedTuple):
     oracle: str
 
 
-def oracle_lines(given: list[bytes], mode: list[str]) -> list[str]:
+def oracle_lines(form: int, given: list[bytes], mode: list[str]) -> list[str]:
     """One line of the oracle for each sheet; `crashed` for one that it doesn't survive."""
     text = "".join(sheet.hex() + "\n" for sheet in given)
-    done = subprocess.run([ORACLE, *mode], input=text, capture_output=True, text=True)
+    done = subprocess.run([ORACLE, "--form", str(form), *mode], input=text, capture_output=True, text=True)
     if done.returncode == 0:
         return done.stdout.splitlines()
     if len(given) == 1:
         return ["crashed"]
-    return [line for sheet in given for line in oracle_lines([sheet], mode)]
+    return [line for sheet in given for line in oracle_lines(form, [sheet], mode)]
 
 
-def fold_line(sheet: bytes) -> str:
+def fold_line(form: int, sheet: bytes) -> str:
     """The fold as the oracle prints it, or `refused CODE PLACE`."""
-    answer, result = fold(sheet, AMPLE_ROOM)
+    answer, result = fold(form, sheet, AMPLE_ROOM)
     if answer.code:
         return f"refused {answer.code} {answer.place}"
     return f"{answer.drained} {answer.emitted} {answer.left} {result.hex().upper()}"
 
 
-def day_line(sheet: bytes) -> str:
+def day_line(form: int, sheet: bytes) -> str:
     """The day of the list of all rules, days and operators put aside, or `refused CODE PLACE`."""
     try:
-        rules, _ = read_sheet(sheet)
+        rules, _ = read_sheet(form, sheet)
     except Refusal as refusal:
         return f"refused {refusal.code} {refusal.place}"
-    return write_sheet(rules_of_day(day_of(rules))).hex().upper()
+    return write_sheet(form, rules_of_day(day_of(rules))).hex().upper()
 
 
-def drained_alone(sheet: bytes) -> bytes:
+def drained_alone(form: int, sheet: bytes) -> bytes:
     """The sheet without the rules left; a refused sheet as it is."""
     try:
-        return write_sheet(drained_of(read_sheet(sheet)[0]))
+        return write_sheet(form, drained_of(read_sheet(form, sheet)[0]))
     except Refusal:
         return sheet
 
 
-def in_halves(sheet: bytes) -> bytes:
+def in_halves(form: int, sheet: bytes) -> bytes:
     """The sheet with each range of years or weeks as the parts that it is split into; a refused sheet as it is."""
     try:
-        rules, _ = read_sheet(sheet)
+        rules, _ = read_sheet(form, sheet)
     except Refusal:
         return sheet
-    return write_sheet([
+    return write_sheet(form, [
         rule._replace(
             years=tuple(Year(start, after - 1, 1) for start, after in ranges_of(rule, YEARS) if rule.years),
             weeks=tuple(Week(start, after - 1, 1) for start, after in ranges_of(rule, WEEKS) if rule.weeks),
@@ -104,28 +104,29 @@ def verdict(sheet: bytes, ours: str, theirs: str) -> tuple[str, Difference | Non
     return "compared and differing", Difference(sheet, ours, theirs)
 
 
-def lines_of_both(seed: int, mode: str, numbers: range) -> Iterator[tuple[bytes, str, str]]:
+def lines_of_both(form: int, seed: int, mode: str, numbers: range) -> Iterator[tuple[bytes, str, str]]:
     """Each sheet, the reference's line and the oracle's."""
-    given = list(sheets(seed, numbers, inside=mode in ("folds", "days")))
-    if mode == "days":
-        return zip(given, map(day_line, given), oracle_lines(given, ["--days"]), strict=True)
+    given = list(sheets(form, seed, numbers, inside=mode in ("folds", "days")))
+    theirs = given
     if mode == "halves":
-        given = list(map(drained_alone, given))
-        return zip(given, map(fold_line, given), oracle_lines(list(map(in_halves, given)), []), strict=True)
-    return zip(given, map(fold_line, given), oracle_lines(given, []), strict=True)
+        given = [drained_alone(form, sheet) for sheet in given]
+        theirs = [in_halves(form, sheet) for sheet in given]
+    line, options = (day_line, ["--days"]) if mode == "days" else (fold_line, [])
+    return zip(given, map(partial(line, form), given), oracle_lines(form, theirs, options), strict=True)
 
 
-def compare_chunk(seed: int, mode: str, numbers: range) -> tuple[Counter, list[Difference]]:
+def compare_chunk(form: int, seed: int, mode: str, numbers: range) -> tuple[Counter, list[Difference]]:
     counts: Counter = Counter()
     differences = []
-    for number, (sheet, ours, theirs) in zip(numbers, lines_of_both(seed, mode, numbers)):
+    for number, (sheet, ours, theirs) in zip(numbers, lines_of_both(form, seed, mode, numbers)):
         name, difference = verdict(sheet, ours, theirs)
         counts[name] += 1
         if difference:
             differences.append(difference)
         if mode != "days" and number % POINT_CHECK_EVERY == 0 and not ours.startswith("refused"):
-            check_boxes_against_points(drained_of(read_sheet(sheet)[0]), Random(number))
-            counts["checked at points too"] += 1
+            check_boxes_against_points(drained_of(read_sheet(form, sheet)[0]), Random(number))
+            check_other_form(form, sheet)
+            counts["checked at points and in the other form too"] += 1
     return counts, differences
 
 
@@ -143,6 +144,7 @@ def main() -> int:
     parser = argparse.ArgumentParser(description="Compare the reference with the Rust oracle on generated sheets.")
     parser.add_argument("--seed", type=int, required=True)
     parser.add_argument("--count", type=int, required=True)
+    parser.add_argument("--form", type=int, choices=FORMS, default=1)
     modes = parser.add_mutually_exclusive_group()
     modes.add_argument("--any", dest="mode", action="store_const", const="any", help="outside sheets and damaged ones too")
     modes.add_argument("--days", dest="mode", action="store_const", const="days", help="days of lists in place of folds")
@@ -153,7 +155,7 @@ def main() -> int:
     counts: Counter = Counter()
     differences: list[Difference] = []
     with Pool(WORKERS) as pool:
-        work = partial(compare_chunk, arguments.seed, arguments.mode)
+        work = partial(compare_chunk, arguments.form, arguments.seed, arguments.mode)
         for chunk_counts, chunk_differences in pool.imap_unordered(work, chunks):
             counts += chunk_counts
             differences += chunk_differences

@@ -2,7 +2,7 @@
 
     python3 oracle/dates.py [--seed N]
 
-The weekday and the ISO week come from `datetime`. The records are those of `sheets`, with no sheet:
+The weekday and the ISO week come from `datetime`. The records are those of `sheets`, in form 1 and with no sheet:
 
     a date   YEAR MONTH DAY in eight bytes each, WEEKDAY (Monday 0) WEEK, 9 and 99 where there is no such date
     a year   YEAR DIGEST in eight bytes each
@@ -14,11 +14,12 @@ import argparse
 import datetime
 import random
 
+from cases import Given
 from sheets import LONG, numbers, record, write_records
 
 FIRST, LAST = 1900, 9999
 PRIME = 10**16 - 63
-NO_SHEET = b""
+NO_SHEET = Given(1, b"")
 
 
 def date_record(year, month, day):

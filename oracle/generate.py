@@ -1,6 +1,6 @@
-"""A seeded generator of packed sheets: `python3 oracle/generate.py --seed N --count N [--inside]` prints hex lines.
+"""A seeded generator of packed sheets: `python3 oracle/generate.py --seed N --count N [--form N] [--inside]` prints hex lines.
 
-Sheet number i of a seed depends on nothing but the seed, i and `--inside`. Ranges of one selector share values in few
+Sheet number i of a seed depends on nothing but the seed, i, the form and `--inside`. Ranges of one selector share values in few
 sheets, and often in rules left. `--inside` stays where the Rust's constructors take the values as they are: year and week
 ranges that rise, and steps that they keep. Rests on `stock`, `reference.sheet`, `reference.build` and `reference.overlap`.
 """
@@ -14,8 +14,8 @@ from typing import Iterator
 from reference.build import ITEM_OF_SORT, boxes_rule, fixed, many
 from reference.overlap import overlaps
 from reference.sheet import (
-    ADDITIONAL, ALL_NTH, FALLBACK, ITEM_LIMIT, NO_REPEATS, RULE_LIMIT, Cursor, DatedRange, Field, Holiday, MonthsOfYear,
-    Refusal, Rule, Span, Time, Week, Weekdays, Year, bits_at, read_from, write_sheet,
+    ADDITIONAL, ALL_NTH, FALLBACK, FORMS, ITEM_LIMIT, NO_REPEATS, RULE_LIMIT, Cursor, DatedRange, Field, Holiday, MonthsOfYear,
+    Refusal, Rule, Span, Time, Week, Weekdays, Year, bits_at, layout_of, pack_rules, read_from, write_sheet,
 )
 from stock import MINUTES, YEAR_VALUES, Stock
 
@@ -77,16 +77,16 @@ STOPPERS = (
 )
 
 
-# Recipes: each makes one sheet.
+# Recipes: each makes one sheet that is given in a form.
 
 
-def draining(random: Random, inside: bool) -> bytes:
-    return write_sheet(Stock(random, inside).rules())
+def draining(random: Random, inside: bool, form: int) -> bytes:
+    return write_sheet(form, Stock(random, inside, form).rules())
 
 
-def stopped(random: Random, inside: bool) -> bytes:
+def stopped(random: Random, inside: bool, form: int) -> bytes:
     """Stoppers first, in the middle, last, or at several places; often the rules left overlap."""
-    stock = Stock(random, inside)
+    stock = Stock(random, inside, form)
     rules = stock.rules()
     last = len(rules) - 1
     places = random.choice(([0], [len(rules) // 2], [last], [0, last], [random.randrange(len(rules))]))
@@ -95,11 +95,11 @@ def stopped(random: Random, inside: bool) -> bytes:
         rules[places[0] :] = [stock.rule() for _ in rules[places[0] :]]
     for place in places:
         rules[place] = random.choice(STOPPERS)(rules[place], stock)
-    return write_sheet(rules)
+    return write_sheet(form, rules)
 
 
-def boxes_at_the_limit(random: Random, inside: bool) -> bytes:
-    stock = Stock(random, inside)
+def boxes_at_the_limit(random: Random, inside: bool, form: int) -> bytes:
+    stock = Stock(random, inside, form)
     shape = random.choice(((1, 8, 8, 16), (4, 4, 8, 8), (2, 16, 4, 8), (7, 3, 12, 4), (5, 5, 5, 8)))
     if not inside and random.random() < 0.5:
         shape = random.choice(((1, 9, 8, 16), (1, 32, 1, 33), (5, 5, 5, 9), (7, 7, 7, 3)))
@@ -107,42 +107,42 @@ def boxes_at_the_limit(random: Random, inside: bool) -> bytes:
     for _ in range(random.randint(0, 5)):
         kept = [tuple(item for item in items if random.random() < 0.6) for items in rules[0][3:7]]
         rules.append(stock.rule()._replace(**dict(zip(Rule._fields[3:7], kept))))
-    return write_sheet(rules)
+    return write_sheet(form, rules)
 
 
-def lists_at_the_limit(random: Random, inside: bool) -> bytes:
+def lists_at_the_limit(random: Random, inside: bool, form: int) -> bytes:
     """Lists of about 32 entries, at all points or, since the last rules keep their days, at some only."""
-    stock = Stock(random, inside)
+    stock = Stock(random, inside, form)
     length = 32 if inside else random.choice((31, 32, 33, 34))
     everywhere = length if random.random() < 0.5 else length - random.randint(1, 8)
     rules = [stock.rule()._replace(operator=ADDITIONAL) for _ in range(length)]
     rules[:everywhere] = [rule._replace(years=(), monthdays=(), weeks=(), weekdays=()) for rule in rules[:everywhere]]
-    return write_sheet(rules)
+    return write_sheet(form, rules)
 
 
-def counts_at_the_limit(random: Random, inside: bool) -> bytes:
+def counts_at_the_limit(random: Random, inside: bool, form: int) -> bytes:
     """64 rules, or 16 items of one sort; without `inside` at times one more. So many months or weekdays overlap: mostly
     their rule is left."""
-    stock = Stock(random, inside)
+    stock = Stock(random, inside, form)
     above = 0 if inside else random.getrandbits(1)
     if random.random() < 0.2:
-        return write_sheet([stock.rule() for _ in range(RULE_LIMIT + above)])
+        return write_sheet(form, [stock.rule() for _ in range(RULE_LIMIT + above)])
     sort = random.choice(list(ITEM_OF_SORT))
     rules = stock.rules()
     place = random.randrange(len(rules))
     rules[place] = rules[place]._replace(**{sort: many(sort, ITEM_LIMIT + above)})
     if overlaps(rules[place]) and random.random() < 0.8:
         rules[place] = stop_by_operator(rules[place], stock)
-    return write_sheet(rules)
+    return write_sheet(form, rules)
 
 
-def truncated(random: Random, inside: bool) -> bytes:
-    sheet = stopped(random, inside)
+def truncated(random: Random, inside: bool, form: int) -> bytes:
+    sheet = stopped(random, inside, form)
     return sheet[: random.randrange(len(sheet))]
 
 
-def flipped(random: Random, inside: bool) -> bytes:
-    sheet = stopped(random, inside)
+def flipped(random: Random, inside: bool, form: int) -> bytes:
+    sheet = stopped(random, inside, form)
     return flip(sheet, random.randrange(8 * len(sheet)))
 
 
@@ -150,26 +150,26 @@ def flip(sheet: bytes, bit: int) -> bytes:
     return sheet[: bit // 8] + bytes([sheet[bit // 8] ^ (0x80 >> bit % 8)]) + sheet[bit // 8 + 1 :]
 
 
-def ended_wrong(random: Random, inside: bool) -> bytes:
+def ended_wrong(random: Random, inside: bool, form: int) -> bytes:
     """A bit set in the last byte, often padding, and at times bytes that follow."""
-    sheet = draining(random, inside)
+    sheet = draining(random, inside, form)
     if random.random() < 0.6:
         sheet = flip(sheet, 8 * len(sheet) - 1 - random.randrange(8))
     return sheet + bytes(random.randrange(3)) + random.choice((b"", b"\x01", b"\x80"))
 
 
-def unlawful(random: Random, inside: bool) -> bytes:
+def unlawful(random: Random, inside: bool, form: int) -> bytes:
     """One field of a sheet, of whatever sort, set to its highest or lowest pattern."""
-    sheet = stopped(random, inside)
-    field, place = random.choice(fields_met(sheet))
+    sheet = stopped(random, inside, form)
+    field, place = random.choice(fields_met(form, sheet))
     return overwrite(sheet, place, field.width, random.choice((0, 2**field.width - 1)))
 
 
-def fields_met(sheet: bytes) -> list[tuple[Field, int]]:
+def fields_met(form: int, sheet: bytes) -> list[tuple[Field, int]]:
     """Every field met in reading, with its place; the last is the refused one, where 1, 2 or 4 refuses."""
     cursor = Cursor(sheet)
     try:
-        read_from(cursor)
+        read_from(layout_of(form), cursor)
     except Refusal:
         pass
     return cursor.met
@@ -181,31 +181,45 @@ def overwrite(sheet: bytes, place: int, width: int, value: int) -> bytes:
     return number.to_bytes(len(sheet), "big")
 
 
-def noise(random: Random, inside: bool) -> bytes:
-    return bytes([0, random.randrange(3)]) + random.randbytes(random.randrange(40))
+def noise(random: Random, inside: bool, form: int) -> bytes:
+    return pack_rules(form, random.randrange(3), "") + random.randbytes(random.randrange(40))
+
+
+def wrong_head(random: Random, inside: bool, form: int) -> bytes:
+    """A head that is another one, of a form that has one."""
+    (head,) = layout_of(form).head
+    others = [value for value in range(2**head.width) if value != head.lowest]
+    return overwrite(draining(random, inside, form), 0, head.width, random.choice(others))
+
+
+def of_another_form(random: Random, inside: bool, form: int) -> bytes:
+    other = random.choice([other for other in FORMS if other != form])
+    return draining(random, inside, other)
 
 
 ACCEPTED = {draining: 70, stopped: 22, boxes_at_the_limit: 2, lists_at_the_limit: 3, counts_at_the_limit: 3}
-ANY = ACCEPTED | {truncated: 15, flipped: 20, ended_wrong: 8, unlawful: 12, noise: 5}
+DAMAGED = {truncated: 15, flipped: 20, ended_wrong: 8, unlawful: 12, noise: 5}
+ANY = {1: ACCEPTED | DAMAGED, 2: ACCEPTED | DAMAGED | {wrong_head: 5, of_another_form: 5}}
 
 
-def sheet_number(seed: int | str, number: int, inside: bool) -> bytes:
+def sheet_number(form: int, seed: int | str, number: int, inside: bool) -> bytes:
     random = Random(f"{seed}/{number}")
-    recipes = ACCEPTED if inside else ANY
-    return random.choices(tuple(recipes), tuple(recipes.values()))[0](random, inside)
+    recipes = ACCEPTED if inside else ANY[form]
+    return random.choices(tuple(recipes), tuple(recipes.values()))[0](random, inside, form)
 
 
-def sheets(seed: int | str, numbers: range, inside: bool) -> Iterator[bytes]:
-    return (sheet_number(seed, number, inside) for number in numbers)
+def sheets(form: int, seed: int | str, numbers: range, inside: bool) -> Iterator[bytes]:
+    return (sheet_number(form, seed, number, inside) for number in numbers)
 
 
 def main() -> None:
     parser = argparse.ArgumentParser(description="Print packed sheets in hex, a line each.")
     parser.add_argument("--seed", type=int, required=True)
     parser.add_argument("--count", type=int, required=True)
+    parser.add_argument("--form", type=int, choices=FORMS, default=1)
     parser.add_argument("--inside", action="store_true", help="stay inside the Rust's domain")
     arguments = parser.parse_args()
-    for sheet in sheets(arguments.seed, range(arguments.count), arguments.inside):
+    for sheet in sheets(arguments.form, arguments.seed, range(arguments.count), arguments.inside):
         print(sheet.hex().upper())
 
 

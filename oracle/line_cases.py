@@ -1,6 +1,7 @@
 """The sheets of the stored lines: worked ones, every edge of the notation, each reason against a line, generated ones.
 
-Rests on `generate` for damage and on `reference`, whose worked lines stand among the named sheets.
+Most are rules, to be written in either form. Rests on `generate` for damage and on `reference`, whose worked lines stand
+among the named sheets.
 """
 
 from __future__ import annotations
@@ -9,7 +10,7 @@ from itertools import product
 from random import Random
 from typing import Callable, Iterator
 
-from cases import SHORT
+from cases import SHORT, Given
 from generate import flip
 from reference.build import ITEM_OF_SORT, fixed, plain_rule, weekdays
 from reference.sheet import (
@@ -21,7 +22,10 @@ from reference.worked import LINES, NO_LINES, additional
 # Where a number gains a digit, and the ends of its range.
 STEPS = (1, 2, 9, 10, 99, 100, 255, 256, 999, 1000, 9999, 10000, 65535)
 WEEK_STEPS = STEPS[:7]
-COMMENTS = (0, 1, 9, 10, 99, 100, 255, 256, 999, 1000, 9999, 10000, 65535)
+COMMENTS = {
+    1: (0, 1, 9, 10, 99, 100, 255, 256, 999, 1000, 9999, 10000, 65535),
+    2: (0, 1, 9, 10, 65535, 65536, 99999, 100000, 999999, 1000000, 9999999, 10000000, 2**24 - 1),
+}
 MINUTES = (0, 1, 9, 10, 59, 60, 61, 599, 600, 1199, 1200, 1439, 1440, 1441, 2399, 2400, 2879, 2880)
 YEARS = (1900, 1901, 1999, 2000, 2009, 2020, 2024, 8999, 9000, 9998, 9999)
 SUNRISE = Time(1, 0, 0)
@@ -46,12 +50,12 @@ UNSAID: dict[str, tuple[str, tuple]] = {
 # Named sheets
 
 
-def named_lines() -> dict[str, list[Rule]]:
+def named_lines(form: int) -> dict[str, list[Rule]]:
     named = {name: rules for name, (rules, _) in (LINES | NO_LINES).items()}
-    return named | edges() | limits()
+    return named | edges(form) | limits()
 
 
-def edges() -> dict[str, list[Rule]]:
+def edges(form: int) -> dict[str, list[Rule]]:
     """Every value of each sort of item, alone and beside others, every way in which parts stand side by side."""
     days = {
         "weekdays": (weekdays(0, 6),), "weeks": (Week(1, 53, 1),), "monthdays": (Months(1, 12),),
@@ -68,7 +72,7 @@ def edges() -> dict[str, list[Rule]]:
         "every hour": over("spans", [fixed(60 * hour, 60 * hour + 59 * (hour < 48)) for hour in range(49)]),
         "every minute of an hour": over("spans", [fixed(minute, 2880 - minute, minute % 2) for minute in range(60)]),
         "comments of each kind": [
-            plain_rule(kind=kind, comment=comment) for kind in (OPEN, CLOSED, UNKNOWN) for comment in COMMENTS
+            plain_rule(kind=kind, comment=comment) for kind in (OPEN, CLOSED, UNKNOWN) for comment in COMMENTS[form]
         ],
         "every operator, kind and comment": [plain_rule()] + [
             plain_rule(operator=operator, kind=kind, comment=comment)
@@ -96,13 +100,13 @@ def limits() -> dict[str, list[Rule]]:
     }
 
 
-def long_line() -> bytes:
+def long_line(form: int) -> Given:
     """64 rules of 16 years, weeks and spans, as long as they can be written; with months and weekdays no record holds it."""
     rule = plain_rule(
-        operator=FALLBACK, kind=UNKNOWN, comment=65535, years=(Year(1900, 9999, 65535),) * ITEM_LIMIT,
+        operator=FALLBACK, kind=UNKNOWN, comment=COMMENTS[form][-1], years=(Year(1900, 9999, 65535),) * ITEM_LIMIT,
         weeks=(Week(52, 2, 255),) * ITEM_LIMIT, spans=(fixed(2879, 2880, 1),) * ITEM_LIMIT,
     )
-    return write_sheet([rule._replace(operator=NORMAL)] + [rule] * (RULE_LIMIT - 1))
+    return Given(form, write_sheet(form, [rule._replace(operator=NORMAL)] + [rule] * (RULE_LIMIT - 1)))
 
 
 # Each reason against a line
@@ -136,16 +140,17 @@ def replaced(rules: list[Rule], index: int, rule: Rule) -> list[Rule]:
 # Generated sheets
 
 
-def with_a_line(random: Random) -> Iterator[list[Rule]]:
+def with_a_line(form: int, random: Random) -> Iterator[list[Rule]]:
     """Short sheets that have a line, without end."""
     while True:
-        first, *others = [telling_rule(random) for _ in range(random.choices((1, 2, 3, 5, 8), (20, 30, 25, 15, 10))[0])]
+        length = random.choices((1, 2, 3, 5, 8), (20, 30, 25, 15, 10))[0]
+        first, *others = [telling_rule(form, random) for _ in range(length)]
         rules = [first._replace(operator=NORMAL), *others]
-        if len(write_sheet(rules)) <= SHORT:
+        if len(write_sheet(form, rules)) <= SHORT[form]:
             yield rules
 
 
-def telling_rule(random: Random) -> Rule:
+def telling_rule(form: int, random: Random) -> Rule:
     def ends(values) -> list[int]:
         """At times the same twice."""
         start = random.choice(values)
@@ -161,16 +166,16 @@ def telling_rule(random: Random) -> Rule:
     minutes = random.choice((MINUTES, range(2881)))
     return Rule(
         random.choice((NORMAL, ADDITIONAL, FALLBACK)), random.choice((OPEN, CLOSED, UNKNOWN)),
-        random.choice((0, 0, 1, random.choice(COMMENTS), random.randrange(2**16))),
+        random.choice((0, 0, 1, random.choice(COMMENTS[form]), random.randint(0, COMMENTS[form][-1]))),
         some(lambda: Year(*ends(years), step(STEPS))), some(lambda: Months(*ends(range(1, 13)))),
         some(lambda: Week(*ends(range(1, 54)), step(WEEK_STEPS))), some(lambda: weekdays(*ends(range(7)))),
         some(lambda: fixed(*ends(minutes), random.getrandbits(1)), fewest=1),
     )
 
 
-def without_a_line(random: Random) -> Iterator[list[Rule]]:
+def without_a_line(form: int, random: Random) -> Iterator[list[Rule]]:
     """Such sheets with one or two reasons against a line, anywhere."""
-    for rules in with_a_line(random):
+    for rules in with_a_line(form, random):
         for _ in range(random.choice((1, 1, 2))):
             rules = anyhow_spoilt(rules, random)
         yield rules
@@ -188,8 +193,8 @@ def anyhow_spoilt(rules: list[Rule], random: Random) -> list[Rule]:
     return replaced(rules, index, spoilt(rules[index], sort, random.choice(items), place))
 
 
-def flipped_lines(random: Random) -> Iterator[bytes]:
+def flipped_lines(form: int, random: Random) -> Iterator[Given]:
     """Sheets that had a line, one bit flipped: some still have one."""
-    for rules in with_a_line(random):
-        sheet = write_sheet(rules)
-        yield flip(sheet, random.randrange(8 * len(sheet)))
+    for rules in with_a_line(form, random):
+        sheet = write_sheet(form, rules)
+        yield Given(form, flip(sheet, random.randrange(8 * len(sheet))))

@@ -139,7 +139,7 @@ def each_overlap() -> dict[str, list[list[Rule]]]:
 # Two codes at once
 
 
-def refused_by_overlaps_too() -> dict[str, bytes]:
+def refused_by_overlaps_too(form: int) -> dict[str, bytes]:
     """Sheets for which 11 and another code hold, so that the order of refusals shows."""
     folded = {
         "11 before 5": [BOXES, SHARING], "11 before 5, in the rule of the boxes": [BOXES._replace(weekdays=SHARING_WEEKDAYS)],
@@ -148,6 +148,6 @@ def refused_by_overlaps_too() -> dict[str, bytes]:
         "5 where a rule left overlaps": [BOXES, STOPPER, SHARING], "6 where a rule left overlaps": [*ENTRIES, STOPPER, SHARING],
         "9 where a rule left overlaps": [plain_rule(), STOPPER, SHARING],
     }
-    sheets = {name: write_sheet(rules) for name, rules in folded.items()}
-    spoilt = write_sheet([SHARING])
+    sheets = {name: write_sheet(form, rules) for name, rules in folded.items()}
+    spoilt = write_sheet(form, [SHARING])
     return {**sheets, "3, then 11": spoilt + b"\0", "1, then 11": spoilt[:-1]}

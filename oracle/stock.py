@@ -1,7 +1,7 @@
 """What the generator's rules are put together from: a small stock of ranges and spans, made for each sheet.
 
-So ranges meet and wrap, days repeat and groups grow. In few stocks ranges of one selector share values. Rests on
-`reference.sheet`, `reference.build` and `reference.overlap`.
+So ranges meet and wrap, days repeat and groups grow. In few stocks ranges of one selector share values. Comments are those of a
+form. Rests on `reference.sheet`, `reference.build` and `reference.overlap`.
 """
 
 from __future__ import annotations
@@ -16,7 +16,9 @@ from reference.sheet import ADDITIONAL, CLOSED, NORMAL, NO_REPEATS, OPEN, UNKNOW
 WEEK_VALUES = (1, 2, 3, 10, 11, 26, 27, 50, 51, 52, 53)
 YEAR_VALUES = (1900, 1901, 1999, 2000, 2001, 2002, 2003, 2024, 2026, 9998, 9999)
 MINUTES = (0, 1, 480, 599, 600, 660, 720, 780, 1080, 1439, 1440)
-COMMENTS, BUSY_COMMENTS = (0, 0, 0, 0, 1, 1, 2, 65535), (0, 1, 2, 3, 4)
+# By form. In form 2 some are the same in their last sixteen bits.
+COMMENTS = {1: (0, 0, 0, 0, 1, 1, 2, 65535), 2: (0, 0, 0, 1, 65535, 65536, 65537, 2**24 - 1)}
+BUSY_COMMENTS = {1: (0, 1, 2, 3, 4), 2: (0, 1, 2, 65536, 65537)}
 OFFSETS = (0, 0, 30, -30, -1, 32767, -32768)
 OVERLAPPING = 0.04  # of the stocks
 
@@ -24,7 +26,7 @@ OVERLAPPING = 0.04  # of the stocks
 class Stock:
     """The ranges and spans from which one sheet's rules are put together."""
 
-    def __init__(self, random: Random, inside: bool):
+    def __init__(self, random: Random, inside: bool, form: int):
         self.random = random
         self.inside = inside
         years, weeks = random.choice((YEAR_VALUES, range(1900, 10000))), random.choice((WEEK_VALUES, range(1, 54)))
@@ -33,12 +35,12 @@ class Stock:
             "years": self.ranges("years", years, rising=inside), "monthdays": self.ranges("monthdays", range(1, 13)),
             "weeks": self.ranges("weeks", weeks, rising=inside), "weekdays": self.ranges("weekdays", range(7)),
         }
-        self.comments = COMMENTS
+        self.comments = COMMENTS[form]
         self.spans = [self.draining_span() for _ in range(random.randint(1, 5))]
         if random.random() < 0.4:
             self.spans += [self.sibling(random.choice(self.spans)) for _ in range(random.randint(1, 3))]
         if random.random() < 0.2:  # many states painted one over the other
-            self.comments = BUSY_COMMENTS
+            self.comments = BUSY_COMMENTS[form]
             self.spans = [fixed(*sorted(random.sample(MINUTES, 2))) for _ in range(8)] + self.spans[:1]
 
     def variety(self) -> int:

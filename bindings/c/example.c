@@ -19,7 +19,7 @@ int main(void)
     static uint8_t out[65536];
     uint64_t numbers[HOURS_FOLD_NUMBERS];
 
-    if (!hours_fold(sheet, sizeof sheet, out, sizeof out, numbers, HOURS_FOLD_NUMBERS)) {
+    if (!hours_fold(HOURS_FORM_1, sheet, sizeof sheet, out, sizeof out, numbers, HOURS_FOLD_NUMBERS)) {
         fprintf(stderr, "too few numbers were lent\n");
         return EXIT_FAILURE;
     }

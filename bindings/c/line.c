@@ -16,8 +16,8 @@ int main(void)
     uint64_t fold[HOURS_FOLD_NUMBERS];
     uint64_t line[HOURS_LINE_NUMBERS];
 
-    if (!hours_fold(sheet, sizeof sheet, folded, sizeof folded, fold, HOURS_FOLD_NUMBERS) ||
-        !hours_line(folded, fold[HOURS_FOLD_BYTES], text, sizeof text, line, HOURS_LINE_NUMBERS)) {
+    if (!hours_fold(HOURS_FORM_1, sheet, sizeof sheet, folded, sizeof folded, fold, HOURS_FOLD_NUMBERS) ||
+        !hours_line(HOURS_FORM_1, folded, fold[HOURS_FOLD_BYTES], text, sizeof text, line, HOURS_LINE_NUMBERS)) {
         fprintf(stderr, "too few numbers were lent\n");
         return EXIT_FAILURE;
     }

@@ -1,9 +1,10 @@
-"""The computation over boxes held against the literal reading, at sampled points.
+"""The computation over boxes held against the literal reading, at sampled points, and one form against the other.
 
 Checked for the drained rules of an accepted fold: the list of a point's box is the list said literally for that point, and
 no rule stands in it twice, since no ranges overlap (document 02, M-101); the folded rules say at the point exactly its day;
-the day of simple spans shows at a minute the last span that covers it; and cuts beyond those needed change nothing. Rests on
-the other modules.
+the day of simple spans shows at a minute the last span that covers it; and cuts beyond those needed change nothing. Checked
+for an accepted sheet whose comments fit the other form (M-106): moved there and back it is the same, its fold moved there is
+the fold of what it was moved to, and its line stays. Rests on the other modules.
 """
 
 from __future__ import annotations
@@ -11,14 +12,30 @@ from __future__ import annotations
 from bisect import bisect_right
 from random import Random
 
+from .convert import COMMENT_TOO_LONG, OTHER_FORM, convert
 from .day import Day, PLAIN_CLOSED, StatedSpan, day_of, flatten, is_simple
-from .fold import days_of_lists, fold_drained
+from .fold import days_of_lists, fold, fold_drained
 from .groups import folded_rules, number_of
+from .line import line
 from .lookup import last_covering
 from .points import DIMENSIONS, Dimension, Point, cuts_of, list_at, lists_of_boxes, shape_of
-from .sheet import MIDNIGHT, Rule
+from .sheet import MIDNIGHT, PAST_ITS_LIMIT, Rule
 
 POINTS, MINUTES, EXTRA_CUTS = 40, 5, 2
+AMPLE_ROOM = 2**32
+
+
+def check_other_form(form: int, sheet: bytes) -> None:
+    """Raises an assertion at the first disagreement; a fold past a sheet's limits can't be moved."""
+    other, (answer, moved) = OTHER_FORM[form], convert(form, sheet, AMPLE_ROOM)
+    if answer.code == COMMENT_TOO_LONG:
+        return
+    assert convert(other, moved, AMPLE_ROOM)[1] == sheet, ("back", moved)
+    assert line(other, moved, AMPLE_ROOM) == line(form, sheet, AMPLE_ROOM), ("line", moved)
+    (ours, folded), (theirs, folded_there) = fold(form, sheet, AMPLE_ROOM), fold(other, moved, AMPLE_ROOM)
+    assert ours._replace(bytes=0) == theirs._replace(bytes=0), ("numbers", moved)
+    answer, folded_moved = convert(form, folded, AMPLE_ROOM)
+    assert answer.code == PAST_ITS_LIMIT or folded_moved == folded_there, ("fold", moved)
 
 
 def check_boxes_against_points(drained: list[Rule], random: Random) -> None:

@@ -1,18 +1,19 @@
 """The fold and the write-back: the numbers of the answer, the refusals in their order, the bytes.
 
-The last number, why the fold stopped, is document 02's (M-105), and so is the refusal of overlaps (M-101). Rests on `sheet`,
-`points`, `overlap`, `why`, `day` and `groups`.
+The last number, why the fold stopped, is document 02's (M-105), and so are the refusal of overlaps (M-101) and the form that the
+caller says and "a fold keeps" (M-106). Rests on `sheet`, `points`, `overlap`, `why`, `day` and `groups`.
 """
 
 from __future__ import annotations
 
+from functools import partial
 from typing import Callable, NamedTuple
 
 from .day import Day, day_of
 from .groups import folded_rules
 from .overlap import check_overlaps
 from .points import List, check_boxes, cuts_of, drained_of, lists_of_boxes
-from .sheet import RULE_COUNT, Refusal, Rule, field_bits, pack, read_sheet, rule_bits, unpack, write_sheet
+from .sheet import Refusal, Rule, pack_rules, read_sheet, rules_bits, unpack, write_sheet
 from .why import NOTHING, why_stopped
 
 BUFFER_TOO_SHORT = 7
@@ -34,30 +35,30 @@ class Written(NamedTuple):
     place: int
 
 
-def fold(sheet: bytes, room: int) -> tuple[Folded, bytes]:
+def fold(form: int, sheet: bytes, room: int) -> tuple[Folded, bytes]:
     """The seven numbers, and the bytes that then stand at the front of a buffer of `room` bytes."""
     try:
-        rules, places = read_sheet(sheet)
+        rules, places = read_sheet(form, sheet)
         drained = drained_of(rules)
         emitted = fold_drained(drained)
         left = rules[len(drained) :]
         copied = unpack(sheet, places[len(drained)], places[-1])
-        count = field_bits(RULE_COUNT, len(emitted) + len(left))
-        result = checked_room(pack(count + "".join(map(rule_bits, emitted)) + copied), room)
+        folded = pack_rules(form, len(emitted) + len(left), rules_bits(form, emitted) + copied)
+        result = checked_room(folded, room)
     except Refusal as refusal:
         return Folded(refusal.code, 0, 0, 0, 0, refusal.place, NOTHING), b""
     return Folded(0, len(drained), len(emitted), len(left), len(result), 0, why_stopped(left)), result
 
 
-def write_back(sheet: bytes, room: int) -> tuple[Written, bytes]:
+def write_back(form: int, sheet: bytes, room: int) -> tuple[Written, bytes]:
     """A sheet read and written again."""
-    return written(write_sheet, sheet, room)
+    return written(partial(write_sheet, form), form, sheet, room)
 
 
-def written(write: Callable[[list[Rule]], bytes], sheet: bytes, room: int) -> tuple[Written, bytes]:
+def written(write: Callable[[list[Rule]], bytes], form: int, sheet: bytes, room: int) -> tuple[Written, bytes]:
     """The three numbers of an entry that writes a sheet or text, and its bytes; what writes the rules may refuse them."""
     try:
-        rules, _ = read_sheet(sheet)
+        rules, _ = read_sheet(form, sheet)
         result = checked_room(write(rules), room)
     except Refusal as refusal:
         return Written(refusal.code, 0, refusal.place), b""

@@ -27,9 +27,9 @@ MONTHS = ("Jan", "Feb", "Mar", "Apr", "May", "Jun", "Jul", "Aug", "Sep", "Oct", 
 WEEKDAYS = ("Mo", "Tu", "We", "Th", "Fr", "Sa", "Su")
 
 
-def line(sheet: bytes, room: int) -> tuple[Written, bytes]:
+def line(form: int, sheet: bytes, room: int) -> tuple[Written, bytes]:
     """The three numbers, and the text that then stands at the front of a buffer of `room` bytes."""
-    return written(text_of_rules, sheet, room)
+    return written(text_of_rules, form, sheet, room)
 
 
 def text_of_rules(rules: list[Rule]) -> bytes:

@@ -25,15 +25,15 @@ class Found(NamedTuple):
     place: int
 
 
-def lookup(sheet: bytes, year: int, month: int, day: int, minute: int) -> Found:
+def lookup(form: int, sheet: bytes, year: int, month: int, day: int, minute: int) -> Found:
     try:
-        return Found(0, *state_at(sheet, year, month, day, minute), 0)
+        return Found(0, *state_at(form, sheet, year, month, day, minute), 0)
     except Refusal as refusal:
         return Found(refusal.code, 0, 0, refusal.place)
 
 
-def state_at(sheet: bytes, year: int, month: int, day: int, minute: int) -> State:
-    rules, _ = read_sheet(sheet)
+def state_at(form: int, sheet: bytes, year: int, month: int, day: int, minute: int) -> State:
+    rules, _ = read_sheet(form, sheet)
     point = point_of(year, month, day)
     if point is None or not minute < MIDNIGHT:
         raise Refusal(NO_SUCH_DATE, 0)

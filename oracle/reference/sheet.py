@@ -1,6 +1,11 @@
 """The packed sheet: what a rule holds, how a sheet is read or refused (codes 1 to 4), how it is written.
 
-Each item's layout stands here once, as a row of fields; reading and writing both walk it. Rests on nothing else.
+Document 02, M-106: "Form 2 of the packed sheet starts with the four bits 0010, then a rule count of 24 bits; comments have 24
+bits and the five counts 12 each; the rest is as in form 1. The caller says which form is meant". And: "Refusals: 2 with place 0,
+before all others, where the caller's form is neither 1 nor 2, and in its usual turn where form 2's first four bits aren't 0010".
+
+Each item's layout stands here once, as a row of fields, and so does what a form decides, as a `Layout`; reading and writing both
+walk them. `form` is always the number that the caller says. Rests on nothing else.
 """
 
 from __future__ import annotations
@@ -34,6 +39,15 @@ class Field(NamedTuple):
     lowest: int
     highest: int
     refused_by: int = UNLAWFUL
+
+
+class Layout(NamedTuple):
+    """The fields of which a form decides the width, or whether they are there at all."""
+
+    head: tuple[Field, ...]
+    rule_count: Field
+    comment: Field
+    item_counts: tuple[Field, ...]
 
 
 class Year(NamedTuple):
@@ -114,12 +128,21 @@ def signed(name: str) -> Field:
     return Field(name, 16, -(2**15), 2**15 - 1)
 
 
-RULE_COUNT = Field("rule count", 16, 0, RULE_LIMIT, PAST_ITS_LIMIT)
-RULE_HEAD = (Field("operator", 2, 0, 2), Field("kind", 2, 0, 2), whole("comment", 16))
-ITEM_COUNTS = tuple(
-    Field(f"count of {sort}", 10, 0, ITEM_LIMIT, PAST_ITS_LIMIT)
-    for sort in ("years", "monthdays", "weeks", "weekdays", "spans")
-)
+def layout(head: tuple[Field, ...], rule_count: int, comment: int, item_count: int) -> Layout:
+    """The layout of a form whose fields have these widths."""
+    sorts = ("years", "monthdays", "weeks", "weekdays", "spans")
+    return Layout(
+        head, Field("rule count", rule_count, 0, RULE_LIMIT, PAST_ITS_LIMIT), whole("comment", comment),
+        tuple(Field(f"count of {sort}", item_count, 0, ITEM_LIMIT, PAST_ITS_LIMIT) for sort in sorts),
+    )
+
+
+LAYOUTS = {
+    1: layout(head=(), rule_count=16, comment=16, item_count=10),
+    2: layout(head=(Field("head", 4, 0b0010, 0b0010),), rule_count=24, comment=24, item_count=12),
+}
+FORMS = tuple(LAYOUTS)
+OPERATOR, KIND = Field("operator", 2, 0, 2), Field("kind", 2, 0, 2)
 MONTH_ENDS = (Field("month start", 4, 1, 12), Field("month end", 4, 1, 12))
 ITEM_FIELDS = {
     Year: (Field("year start", 14, 1900, 9999), Field("year end", 14, 1900, 9999), Field("year step", 16, 1, 2**16 - 1)),
@@ -175,31 +198,39 @@ def bits_at(sheet: bytes, place: int, after: int) -> int:
     return (window >> (8 * last_byte - after)) & ((1 << (after - place)) - 1)
 
 
+def layout_of(form: int) -> Layout:
+    if form not in LAYOUTS:
+        raise Refusal(UNLAWFUL, 0)
+    return LAYOUTS[form]
+
+
 # Reading
 
 
-def read_sheet(sheet: bytes) -> tuple[list[Rule], list[int]]:
+def read_sheet(form: int, sheet: bytes) -> tuple[list[Rule], list[int]]:
     """The rules, and the place of each rule's first bit followed by that of the first bit after the rules."""
-    return read_from(Cursor(sheet))
+    return read_from(layout_of(form), Cursor(sheet))
 
 
-def read_from(cursor: Cursor) -> tuple[list[Rule], list[int]]:
+def read_from(layout: Layout, cursor: Cursor) -> tuple[list[Rule], list[int]]:
+    for field in layout.head:
+        cursor.take(field)
     rules, places = [], []
-    for _ in range(cursor.take(RULE_COUNT)):
+    for _ in range(cursor.take(layout.rule_count)):
         places.append(cursor.place)
-        rules.append(read_rule(cursor))
+        rules.append(read_rule(layout, cursor))
     places.append(cursor.place)
     check_padding(cursor.sheet, cursor.place)
     return rules, places
 
 
-def read_rule(cursor: Cursor) -> Rule:
-    head = [cursor.take(field) for field in RULE_HEAD]
-    *day_counts, span_count = [cursor.take(field) for field in ITEM_COUNTS]
+def read_rule(layout: Layout, cursor: Cursor) -> Rule:
+    title = [cursor.take(field) for field in (OPERATOR, KIND, layout.comment)]
+    *day_counts, span_count = [cursor.take(field) for field in layout.item_counts]
     items = [
         tuple(read_day_item(cursor, *sort) for _ in range(count)) for count, sort in zip(day_counts, DAY_ITEMS)
     ]
-    return Rule(*head, *items, tuple(read_span(cursor) for _ in range(span_count)))
+    return Rule(*title, *items, tuple(read_span(cursor) for _ in range(span_count)))
 
 
 def read_day_item(cursor: Cursor, tag_field: Field | None, types: tuple) -> tuple:
@@ -233,8 +264,15 @@ def check_padding(sheet: bytes, place: int) -> None:
 # Writing: bits are a text of digits until the whole sheet is packed. No limit is looked at here.
 
 
-def write_sheet(rules: list[Rule]) -> bytes:
-    return pack(field_bits(RULE_COUNT, len(rules)) + "".join(map(rule_bits, rules)))
+def write_sheet(form: int, rules: list[Rule]) -> bytes:
+    return pack_rules(form, len(rules), rules_bits(form, rules))
+
+
+def pack_rules(form: int, count: int, bits: str) -> bytes:
+    """The sheet of so many rules that have these bits."""
+    layout = layout_of(form)
+    head = "".join(field_bits(field, field.lowest) for field in layout.head)
+    return pack(head + field_bits(layout.rule_count, count) + bits)
 
 
 def pack(bits: str) -> bytes:
@@ -253,10 +291,15 @@ def field_bits(field: Field, value: int) -> str:
     return format(value % 2**field.width, f"0{field.width}b")
 
 
-def rule_bits(rule: Rule) -> str:
+def rules_bits(form: int, rules: list[Rule]) -> str:
+    layout = layout_of(form)
+    return "".join(rule_bits(layout, rule) for rule in rules)
+
+
+def rule_bits(layout: Layout, rule: Rule) -> str:
     items = (rule.years, rule.monthdays, rule.weeks, rule.weekdays)
-    parts = [field_bits(field, value) for field, value in zip(RULE_HEAD, rule)]
-    parts += [field_bits(field, len(sort)) for field, sort in zip(ITEM_COUNTS, (*items, rule.spans))]
+    parts = [field_bits(field, value) for field, value in zip((OPERATOR, KIND, layout.comment), rule)]
+    parts += [field_bits(field, len(sort)) for field, sort in zip(layout.item_counts, (*items, rule.spans))]
     parts += [day_item_bits(item, *sort) for sort_items, sort in zip(items, DAY_ITEMS) for item in sort_items]
     return "".join(parts) + "".join(map(span_bits, rule.spans))
 

@@ -2,26 +2,31 @@
 
 `FOLDS` holds those whose folded rules the document tells; `RUNS` those of which it tells only code and place, or what
 drains. `OVERLAPS` holds P9 as 02's M-101 has it and what is worked by hand from its words, `LINES` and `NO_LINES` are worked from
-those on the line (M-100), `WHYS` from those on why the fold stopped (M-105). Rests on `build`; `check_worked` holds the fold, the
-lookup and the line against them.
+those on the line (M-100), `WHYS` from those on why the fold stopped (M-105), `EMPTY`, `LONG_FOLDS`, `COMMENTS`, `MISREAD` and
+`NO_FORMS` from those on the two forms (M-106). Rests on `build`; `check_worked` holds all entries against them, in both forms
+where a case is rules of either.
 """
 
 from __future__ import annotations
 
 from .build import boxes_rule, fixed, hours, plain_rule, weekdays
-from .fold import fold
+from .convert import COMMENT_TOO_LONG, OTHER_FORM, convert
+from .fold import BUFFER_TOO_SHORT, fold, write_back
 from .line import NO_LINE, line
 from .lookup import lookup
 from .overlap import RANGES_SHARE
 from .sheet import (
-    ADDITIONAL, ALL_NTH, CLOSED, FALLBACK, NO_REPEATS, OPEN, UNKNOWN, DatedRange, Holiday, Months, MonthsOfYear, Rule, Span,
-    Time, Week, Weekdays, Year, write_sheet,
+    ADDITIONAL, ALL_NTH, CLOSED, FALLBACK, FORMS, NO_REPEATS, OPEN, PAST_ITS_LIMIT, PAST_THE_END, UNKNOWN, UNLAWFUL, DatedRange,
+    Holiday, Months, MonthsOfYear, Rule, Span, Time, Week, Weekdays, Year, write_sheet,
 )
 from .why import NOTHING
 
 MO, TU, WE, TH, FR, SA, SU = range(7)
 ROOM = 65536
-EXAMPLE = bytes.fromhex("00010000000000000000040005A000")
+# In form 2 all but the span are whole digits: the head 2, the rule count 000001, operator and kind 0, then six of the comment and
+# three of each count.
+EXAMPLES = {1: bytes.fromhex("00010000000000000000040005A000"), 2: bytes.fromhex("200000100000000000000000000010001680")}
+EMPTY = {1: bytes.fromhex("0000"), 2: bytes.fromhex("20000000")}
 OPEN_ENDED = hours(10, 12, open_end=1)
 
 
@@ -105,6 +110,34 @@ FOLDS: dict[str, tuple[list[Rule], list[Rule]]] = {
     "a rule left": (
         [plain_rule(weekdays=(weekdays(FR, TH),)), plain_rule(spans=(fixed(1080, 1441),))],
         [plain_rule(), plain_rule(spans=(fixed(1080, 1441),))],
+    ),
+}
+
+
+def lunch_off(comment: int) -> list[Rule]:
+    """A day that is closed from 12:00 to 13:00, which the fold would drop if the comment were 0."""
+    return [plain_rule(), plain_rule(kind=CLOSED, comment=comment, spans=(hours(12, 13),))]
+
+
+def lunch_off_folded(comment: int) -> list[Rule]:
+    return [
+        plain_rule(spans=(hours(10, 12), hours(13, 18))), additional(kind=CLOSED, comment=comment, spans=(hours(12, 13),)),
+    ]
+
+
+# Of form 2 alone: the last sixteen bits of two comments are the same, and the states are not.
+LONG_FOLDS: dict[str, tuple[list[Rule], list[Rule]]] = {
+    "comments 1 and 65537": (
+        [plain_rule(comment=1, spans=(hours(10, 14),)), additional(comment=65537, spans=(hours(14, 18),))],
+        [plain_rule(comment=1, spans=(hours(10, 14),)), additional(comment=65537, spans=(hours(14, 18),))],
+    ),
+    "65536 is not 0": (
+        [plain_rule(comment=65536, spans=(hours(10, 14),)), additional(spans=(hours(14, 18),))],
+        [plain_rule(spans=(hours(14, 18),)), additional(comment=65536, spans=(hours(10, 14),))],
+    ),
+    "a long comment in a rule left": (
+        [plain_rule(), plain_rule(operator=FALLBACK, comment=2**24 - 1)],
+        [plain_rule(), plain_rule(operator=FALLBACK, comment=2**24 - 1)],
     ),
 }
 
@@ -235,28 +268,98 @@ NO_LINES: dict[str, tuple[list[Rule], int]] = {
 }
 
 
+# A comment of the second of two rules, and the code and place of that sheet's way back to form 1.
+COMMENTS = {65535: (0, 0), 65536: (COMMENT_TOO_LONG, 1), 65537: (COMMENT_TOO_LONG, 1), 2**24 - 1: (COMMENT_TOO_LONG, 1)}
+
+# Name: a form, bytes that are no sheet of it, and the refusal's code and place.
+MISREAD: dict[str, tuple[int, bytes, tuple[int, int]]] = {
+    "form 1 read as form 2": (2, EXAMPLES[1], (UNLAWFUL, 0)),
+    "form 2 read as form 1": (1, EXAMPLES[2], (PAST_ITS_LIMIT, 0)),
+    "form 1 without rules read as form 2": (2, EMPTY[1], (UNLAWFUL, 0)),
+    "form 2 without rules read as form 1": (1, EMPTY[2], (PAST_ITS_LIMIT, 0)),
+    "no bytes read as form 2": (2, b"", (PAST_THE_END, 0)),
+    "a head alone": (2, bytes.fromhex("20"), (PAST_THE_END, 4)),
+    "another head alone": (2, bytes.fromhex("30"), (UNLAWFUL, 0)),
+    "65 rules of form 2": (2, bytes.fromhex("20000410"), (PAST_ITS_LIMIT, 4)),
+    "another head, then 65 rules": (2, bytes.fromhex("A0000410"), (UNLAWFUL, 0)),
+    "17 years of form 2": (2, bytes.fromhex("2000001000000001100000000000000000"), (PAST_ITS_LIMIT, 56)),
+}
+NO_FORMS = (0, 3, 2**32 + 1, 2**64 - 1)
+
+
 def check_worked() -> None:
     """Raises an assertion at the first case that comes out otherwise."""
-    for name, (given, wanted) in FOLDS.items():
-        answer, result = fold(write_sheet(given), ROOM)
-        assert (answer.code, result) == (0, write_sheet(wanted)), name
+    for form in FORMS:
+        check_folds(form)
+        check_lookups(form)
+        check_lines(form)
+        check_moved(form)
+    check_long_comments()
+    check_misread()
+
+
+def check_folds(form: int) -> None:
+    for name, (given, wanted) in (FOLDS if form == 1 else FOLDS | LONG_FOLDS).items():
+        answer, result = fold(form, write_sheet(form, given), ROOM)
+        assert (answer.code, result) == (0, write_sheet(form, wanted)), name
     for name, (given, wanted) in RUNS.items():
-        answer, _ = fold(write_sheet(given), ROOM)
+        answer, _ = fold(form, write_sheet(form, given), ROOM)
         assert (answer.code, answer.drained, answer.place) == wanted, name
     for name, (given, place) in OVERLAPS.items():
-        assert fold(write_sheet(given), ROOM) == ((RANGES_SHARE, 0, 0, 0, 0, place, NOTHING), b""), name
-        assert lookup(write_sheet(given), 2026, 1, 6, 660) == (RANGES_SHARE, 0, 0, place), name
-    answer, result = fold(EXAMPLE, ROOM)
-    assert (answer, result) == ((0, 1, 1, 0, 15, 0, 0), EXAMPLE)
+        assert fold(form, write_sheet(form, given), ROOM) == ((RANGES_SHARE, 0, 0, 0, 0, place, NOTHING), b""), name
+    answer, result = fold(form, EXAMPLES[form], ROOM)
+    assert (answer, result) == ((0, 1, 1, 0, len(EXAMPLES[form]), 0, 0), EXAMPLES[form])
     for name, (given, why) in WHYS.items():
-        answer, _ = fold(write_sheet(given), ROOM)
-        short, _ = fold(write_sheet(given), 0)
+        answer, _ = fold(form, write_sheet(form, given), ROOM)
+        short, _ = fold(form, write_sheet(form, given), 0)
         assert (answer.why, short.why) == (why, NOTHING), name
+
+
+def check_lookups(form: int) -> None:
+    for name, (given, place) in OVERLAPS.items():
+        assert lookup(form, write_sheet(form, given), 2026, 1, 6, 660) == (RANGES_SHARE, 0, 0, place), name
     for date, code in LOOKUPS:
-        assert lookup(EXAMPLE, *date) == (code, 0, 0, 0), date
+        assert lookup(form, EXAMPLES[form], *date) == (code, 0, 0, 0), date
     for date, week in ISO_WEEKS:
-        assert lookup(write_sheet(NUMBERED_WEEKS), *date, 720) == (0, OPEN, week, 0), date
+        assert lookup(form, write_sheet(form, NUMBERED_WEEKS), *date, 720) == (0, OPEN, week, 0), date
+
+
+def check_lines(form: int) -> None:
     for name, (given, wanted) in LINES.items():
-        assert line(write_sheet(given), ROOM) == ((0, len(wanted), 0), wanted.encode()), name
+        assert line(form, write_sheet(form, given), ROOM) == ((0, len(wanted), 0), wanted.encode()), name
     for name, (given, place) in NO_LINES.items():
-        assert line(write_sheet(given), ROOM) == ((NO_LINE, 0, place), b""), name
+        assert line(form, write_sheet(form, given), ROOM) == ((NO_LINE, 0, place), b""), name
+
+
+def check_moved(form: int) -> None:
+    """Sheets without long comments go to the other form and come back."""
+    other = OTHER_FORM[form]
+    for sheets in (EXAMPLES, EMPTY, {either: write_sheet(either, FOLDS["P2"][0]) for either in FORMS}):
+        needed = len(sheets[other])
+        assert convert(form, sheets[form], needed) == ((0, needed, 0), sheets[other])
+        assert convert(form, sheets[form], needed - 1) == ((BUFFER_TOO_SHORT, 0, needed), b"")
+        assert write_back(form, sheets[form], ROOM) == ((0, len(sheets[form]), 0), sheets[form])
+
+
+def check_long_comments() -> None:
+    for comment, (code, place) in COMMENTS.items():
+        sheet, text = write_sheet(2, lunch_off(comment)), f'10:00-18:00; 12:00-13:00 off "{comment}"'
+        assert fold(2, sheet, ROOM)[1] == write_sheet(2, lunch_off_folded(comment)), comment
+        assert lookup(2, sheet, 2000, 2, 29, 720) == (0, CLOSED, comment, 0), comment
+        assert line(2, sheet, ROOM) == ((0, len(text), 0), text.encode()), comment
+        answer, _ = convert(2, sheet, ROOM)
+        assert (answer.code, answer.place) == (code, place), comment
+    left, _ = convert(2, write_sheet(2, LONG_FOLDS["a long comment in a rule left"][0]), 0)
+    assert left == (COMMENT_TOO_LONG, 0, 1)
+
+
+def check_misread() -> None:
+    """A form that is none is refused before a bad sheet and a bad date."""
+    no_forms = {f"form {form}": (form, EXAMPLES[1], (UNLAWFUL, 0)) for form in NO_FORMS}
+    for name, (form, sheet, (code, place)) in (MISREAD | no_forms).items():
+        assert fold(form, sheet, ROOM) == ((code, 0, 0, 0, 0, place, NOTHING), b""), name
+        assert lookup(form, sheet, 1900, 2, 29, 720) == (code, 0, 0, place), name
+        for entry in (write_back, line, convert):
+            assert entry(form, sheet, 0) == ((code, 0, place), b""), name
+    for form in NO_FORMS:
+        assert fold(form, b"", 0)[0].code == UNLAWFUL, form

@@ -2,6 +2,7 @@
 
 use crate::bits::{from_hex, to_hex};
 use crate::fold::fold_rules;
+use crate::form::Form;
 use crate::normalize::canonical_time::normalize_time_rules;
 use crate::outside::Outside;
 use crate::rules::day::DaySelector;
@@ -10,21 +11,23 @@ use crate::sheet_reader::read_sheet;
 use crate::sheet_writer::write_sheet;
 
 /// `DRAINED EMITTED LEFT RESULTHEX` for a sheet in hex, or why it is outside the Rust.
-pub fn fold_line(line: &str) -> String {
-    answer(line, fold)
+pub fn fold_line(form: Form, line: &str) -> String {
+    answer(form, line, |rules| fold(form, rules))
 }
 
 /// `RESULTHEX` for a sheet in hex, the day of all its rules as one list, or why it is outside the Rust.
-pub fn day_line(line: &str) -> String {
-    answer(line, |rules| to_hex(&write_sheet(&day_of_all(rules))))
+pub fn day_line(form: Form, line: &str) -> String {
+    answer(form, line, |rules| {
+        to_hex(&write_sheet(form, &day_of_all(rules)))
+    })
 }
 
-fn answer(line: &str, of_rules: impl FnOnce(Vec<RuleSequence>) -> String) -> String {
+fn answer(form: Form, line: &str, of_rules: impl FnOnce(Vec<RuleSequence>) -> String) -> String {
     let _named = NamedOnPanic(line);
 
     let rules = from_hex(line)
         .ok_or(Outside::NotHex)
-        .and_then(|bytes| read_sheet(&bytes));
+        .and_then(|bytes| read_sheet(form, &bytes));
 
     match rules {
         Ok(rules) => of_rules(rules),
@@ -33,7 +36,7 @@ fn answer(line: &str, of_rules: impl FnOnce(Vec<RuleSequence>) -> String) -> Str
 }
 
 /// The fold's counts and its result, which `OpeningHoursExpression::normalize` must give as well.
-fn fold(rules: Vec<RuleSequence>) -> String {
+fn fold(form: Form, rules: Vec<RuleSequence>) -> String {
     let folded = fold_rules(rules.clone());
 
     assert!(
@@ -46,7 +49,7 @@ fn fold(rules: Vec<RuleSequence>) -> String {
         folded.drained,
         folded.emitted,
         folded.left,
-        to_hex(&write_sheet(&folded.result))
+        to_hex(&write_sheet(form, &folded.result))
     )
 }
 

@@ -3,6 +3,7 @@
 use alloc::collections::VecDeque;
 
 use crate::bits::BitWriter;
+use crate::form::Form;
 use crate::normalize::{canonical_to_ruleseq, drain_ruleseq_into_canonical};
 use crate::outside::Outside;
 use crate::rules::{OpeningHoursExpression, RuleSequence};
@@ -18,25 +19,26 @@ pub struct Folded<Result> {
 }
 
 /// A sheet's fold with its counts, the result before its last byte is filled, or why the sheet is outside the Rust.
-pub fn fold_sheet(sheet: &[u8]) -> Result<Folded<BitWriter>, Outside> {
-    let folded = fold_rules(read_sheet(sheet)?);
+pub fn fold_sheet(form: Form, sheet: &[u8]) -> Result<Folded<BitWriter>, Outside> {
+    let folded = fold_rules(read_sheet(form, sheet)?);
 
     Ok(Folded {
         drained: folded.drained,
         emitted: folded.emitted,
         left: folded.left,
-        result: write_rules(&folded.result),
+        result: write_rules(form, &folded.result),
     })
 }
 
 /// A sheet's fold by `OpeningHoursExpression::normalize` itself, or why the sheet is outside the Rust.
-pub fn normalize_sheet(sheet: &[u8]) -> Result<Vec<u8>, Outside> {
-    Ok(write_sheet(&read_expression(sheet)?.normalize().rules))
+pub fn normalize_sheet(form: Form, sheet: &[u8]) -> Result<Vec<u8>, Outside> {
+    let expression = read_expression(form, sheet)?;
+    Ok(write_sheet(form, &expression.normalize().rules))
 }
 
 /// A sheet as a value of the Rust, or why there is none.
-pub fn read_expression(sheet: &[u8]) -> Result<OpeningHoursExpression, Outside> {
-    read_sheet(sheet).map(|rules| OpeningHoursExpression { rules })
+pub fn read_expression(form: Form, sheet: &[u8]) -> Result<OpeningHoursExpression, Outside> {
+    read_sheet(form, sheet).map(|rules| OpeningHoursExpression { rules })
 }
 
 /// Takes the two steps of `OpeningHoursExpression::normalize` one by one, for the counts between them.

@@ -4,26 +4,23 @@
 //! - `oracle`: `DRAINED EMITTED LEFT RESULTHEX`, the counts of rules drained, emitted and left, and the result sheet;
 //! - `oracle --days`: `RESULTHEX`, the canonical day of all the sheet's rules taken as one list, as rules without day items;
 //! - in either mode `outside REASON` where the sheet stands for no value of the Rust (see `outside.rs`).
+//!
+//! With `--form 2` in front the sheets and the results are of form 2, else of form 1.
 
 use oracle::answer;
+use oracle::form::Form;
 use std::io::{self, BufRead, BufWriter, Write};
 use std::panic::resume_unwind;
 use std::process::ExitCode;
 use std::thread;
 
 fn main() -> ExitCode {
-    let arguments: Vec<String> = std::env::args().skip(1).collect();
-
-    let answer_line: fn(&str) -> String = match arguments.as_slice() {
-        [] => answer::fold_line,
-        [mode] if mode == "--days" => answer::day_line,
-        _ => {
-            eprintln!("usage: oracle [--days] < sheets in hex, one a line");
-            return ExitCode::from(2);
-        }
+    let Some((form, answer_line)) = arguments() else {
+        eprintln!("usage: oracle [--form 1|2] [--days] < sheets in hex, one a line");
+        return ExitCode::from(2);
     };
 
-    match answer_all(answer_line) {
+    match answer_all(&move |line| answer_line(form, line)) {
         Ok(()) => ExitCode::SUCCESS,
         Err(error) => {
             eprintln!("oracle: {error}");
@@ -32,11 +29,29 @@ fn main() -> ExitCode {
     }
 }
 
+/// The form of the sheets, and what is answered to a line.
+fn arguments() -> Option<(Form, fn(Form, &str) -> String)> {
+    let words: Vec<String> = std::env::args().skip(1).collect();
+
+    let (form, rest) = match words.as_slice() {
+        [name, number, rest @ ..] if name == "--form" => (Form::of(number.parse().ok()?)?, rest),
+        rest => (Form::One, rest),
+    };
+
+    match rest {
+        [] => Some((form, answer::fold_line)),
+        [mode] if mode == "--days" => Some((form, answer::day_line)),
+        _ => None,
+    }
+}
+
 /// How many lines are answered at a time: enough to keep every processor busy, few enough to hold.
 const BATCH: usize = 8192;
 
+type AnswerLine = dyn Fn(&str) -> String + Sync;
+
 /// Answers each line of standard input by one line of standard output, in the same order.
-fn answer_all(answer_line: fn(&str) -> String) -> io::Result<()> {
+fn answer_all(answer_line: &AnswerLine) -> io::Result<()> {
     let mut input = io::stdin().lock().lines();
     let mut output = BufWriter::new(io::stdout().lock());
 
@@ -54,7 +69,7 @@ fn answer_all(answer_line: fn(&str) -> String) -> io::Result<()> {
 }
 
 /// The answers to these lines; each processor takes a share of them.
-fn answer_batch(lines: &[String], answer_line: fn(&str) -> String) -> Vec<String> {
+fn answer_batch(lines: &[String], answer_line: &AnswerLine) -> Vec<String> {
     let workers = thread::available_parallelism().map_or(1, usize::from);
 
     thread::scope(|scope| {

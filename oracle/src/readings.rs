@@ -1,8 +1,10 @@
 //! What document 01 takes for granted about the source, each held against docs/src by the smallest sheet that shows it. Sheets and
-//! answers are in hex; the comment over a sheet says it in words, `+` for `open_end` and `/` for repeats or a step.
+//! answers are in hex, of form 1 but for the last test; the comment over a sheet says it in words, `+` for `open_end` and `/` for repeats
+//! or a step.
 
 use crate::answer::{day_line, fold_line};
 use crate::extended_time::ExtendedTime;
+use crate::form::Form;
 use crate::normalize::bounded::{Frame, UpperBounded};
 use crate::rules::day::{Month, WeekNum, WeekRange, Year, YearRange};
 use crate::rules::time::TimeSelector;
@@ -11,7 +13,7 @@ use chrono::Weekday;
 
 #[track_caller]
 fn folds(sheet: &str, answer: &str) {
-    assert_eq!(fold_line(sheet), answer);
+    assert_eq!(fold_line(Form::One, sheet), answer);
 }
 
 /// The sheet drains whole and comes back as it was.
@@ -285,11 +287,36 @@ fn days_of_lists() {
     let p10 =
         "00030000000000000000083C02D006184381800000000000000011680C306000000000000000044B029480";
     assert_eq!(
-        day_line("00020000000000000000043C043818000000000000000212C0A521680C30"),
+        day_line(
+            Form::One,
+            "00020000000000000000043C043818000000000000000212C0A521680C30"
+        ),
         p10
     );
     assert_eq!(
-        day_line("0001000000000000000004000B4000"),
+        day_line(Form::One, "0001000000000000000004000B4000"),
         "0001000000000000000004000B4000"
     );
+}
+
+/// A comment is a text to the Rust, so that its length is no matter.
+#[test]
+fn sheets_of_form_2() {
+    let folds = |sheet: &str, answer: &str| assert_eq!(fold_line(Form::Two, sheet), answer);
+
+    // No rules; the example of the program.
+    folds("20000000", "0 0 0 20000000");
+    let example = "200000100000000000000000000010001680";
+    folds(example, &format!("1 1 0 {example}"));
+    assert_eq!(day_line(Form::Two, example), example);
+    // 00:00-24:00 "65536", then Closed "16777215" over it: operator, kind and comment, the counts, the span
+    let rule = |title: &str| [title, "000000000000001", "0001680"].concat();
+    folds(
+        &format!("2000002{}{}0", rule("0010000"), rule("1FFFFFF")),
+        &format!("2 1 0 2000001{}", rule("1FFFFFF")),
+    );
+    // A head of 0011, no head at all, a sheet of form 1.
+    folds("30000000", "outside unreadable");
+    folds("", "outside unreadable");
+    folds("00010000000000000000040005A000", "outside unreadable");
 }

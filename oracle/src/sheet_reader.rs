@@ -9,6 +9,7 @@ use chrono::Duration;
 
 use crate::bits::BitReader;
 use crate::extended_time::ExtendedTime;
+use crate::form::Form;
 use crate::numbering::{HOLIDAY_KINDS, KINDS, OPERATORS, TIME_EVENTS, WEEKDAYS};
 use crate::outside::Outside;
 use crate::rules::RuleSequence;
@@ -24,8 +25,9 @@ struct NoSheet;
 type Read<T> = Result<T, NoSheet>;
 
 /// The rules of a sheet in their order.
-pub(crate) fn read_sheet(bytes: &[u8]) -> Result<Vec<RuleSequence>, Outside> {
+pub(crate) fn read_sheet(form: Form, bytes: &[u8]) -> Result<Vec<RuleSequence>, Outside> {
     let mut reader = SheetReader {
+        form,
         bits: BitReader::new(bytes),
         outside: None,
     };
@@ -39,6 +41,7 @@ pub(crate) fn read_sheet(bytes: &[u8]) -> Result<Vec<RuleSequence>, Outside> {
 }
 
 struct SheetReader<'a> {
+    form: Form,
     bits: BitReader<'a>,
     /// The first value that the Rust's constructors refuse or change.
     outside: Option<Outside>,
@@ -46,7 +49,11 @@ struct SheetReader<'a> {
 
 impl SheetReader<'_> {
     fn rules(&mut self) -> Read<Vec<RuleSequence>> {
-        let count = self.count(16)?;
+        if let Some(head) = self.form.head() {
+            self.field_within(head.width, head.value, head.value)?;
+        }
+
+        let count = self.count(self.form.rule_count_width())?;
         let rules = self.items(count, Self::rule)?;
 
         if self.bits.only_padding_left() {
@@ -59,12 +66,12 @@ impl SheetReader<'_> {
     fn rule(&mut self) -> Read<RuleSequence> {
         let operator = self.choice(2, &OPERATORS)?;
         let kind = self.choice(2, &KINDS)?;
-        let comment = comment_text(self.field(16)?);
-        let years = self.count(10)?;
-        let monthdays = self.count(10)?;
-        let weeks = self.count(10)?;
-        let weekdays = self.count(10)?;
-        let spans = self.count(10)?;
+        let comment = comment_text(self.field(self.form.comment_width())?);
+        let years = self.item_count()?;
+        let monthdays = self.item_count()?;
+        let weeks = self.item_count()?;
+        let weekdays = self.item_count()?;
+        let spans = self.item_count()?;
 
         Ok(RuleSequence {
             day_selector: DaySelector {
@@ -190,6 +197,10 @@ impl SheetReader<'_> {
         mut item: impl FnMut(&mut Self) -> Read<T>,
     ) -> Read<Vec<T>> {
         (0..count).map(|_| item(self)).collect()
+    }
+
+    fn item_count(&mut self) -> Read<usize> {
+        self.count(self.form.item_count_width())
     }
 
     fn count(&mut self, width: usize) -> Read<usize> {

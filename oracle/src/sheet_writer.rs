@@ -2,6 +2,7 @@
 //! program, since whatever were printed instead would pass for an answer.
 
 use crate::bits::BitWriter;
+use crate::form::Form;
 use crate::rules::RuleSequence;
 use crate::rules::day::{
     DateOffset, Month, MonthdayRange, WeekDayRange, WeekRange, Year, YearRange,
@@ -9,34 +10,45 @@ use crate::rules::day::{
 use crate::rules::time::{Time, TimeSpan};
 
 /// The sheet of these rules in their order.
-pub(crate) fn write_sheet(rules: &[RuleSequence]) -> Vec<u8> {
-    write_rules(rules).into_bytes()
+pub(crate) fn write_sheet(form: Form, rules: &[RuleSequence]) -> Vec<u8> {
+    write_rules(form, rules).into_bytes()
 }
 
 /// The same before its last byte is filled.
-pub(crate) fn write_rules(rules: &[RuleSequence]) -> BitWriter {
+pub(crate) fn write_rules(form: Form, rules: &[RuleSequence]) -> BitWriter {
     let mut bits = BitWriter::default();
-    write_count(&mut bits, "the number of rules", 16, rules.len());
+
+    if let Some(head) = form.head() {
+        bits.field("head", head.width, head.value);
+    }
+    write_count(
+        &mut bits,
+        "the number of rules",
+        form.rule_count_width(),
+        rules.len(),
+    );
 
     for rule in rules {
-        write_rule(&mut bits, rule);
+        write_rule(&mut bits, form, rule);
     }
 
     bits
 }
 
-fn write_rule(bits: &mut BitWriter, rule: &RuleSequence) {
+fn write_rule(bits: &mut BitWriter, form: Form, rule: &RuleSequence) {
     let days = &rule.day_selector;
     let spans = &rule.time_selector.spans;
+    let comment = comment_number(&rule.comment);
+    let items = form.item_count_width();
 
     bits.field("operator", 2, rule.operator as u32);
     bits.field("kind", 2, rule.kind as u32);
-    bits.field("comment", 16, comment_number(&rule.comment));
-    write_count(bits, "the number of years", 10, days.year.len());
-    write_count(bits, "the number of monthdays", 10, days.monthday.len());
-    write_count(bits, "the number of weeks", 10, days.week.len());
-    write_count(bits, "the number of weekdays", 10, days.weekday.len());
-    write_count(bits, "the number of spans", 10, spans.len());
+    bits.field("comment", form.comment_width(), comment);
+    write_count(bits, "the number of years", items, days.year.len());
+    write_count(bits, "the number of monthdays", items, days.monthday.len());
+    write_count(bits, "the number of weeks", items, days.week.len());
+    write_count(bits, "the number of weekdays", items, days.weekday.len());
+    write_count(bits, "the number of spans", items, spans.len());
 
     days.year.iter().for_each(|year| write_year(bits, year));
     days.monthday

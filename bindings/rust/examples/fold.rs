@@ -1,13 +1,13 @@
 //! Folds document 01's example, a sheet of one Normal Open rule 00:00-24:00, and prints what the program foldsheet prints for it.
 
-use hours::{Folded, Reason, fold};
+use hours::{Folded, Form, Reason, fold};
 
 const SHEET: [u8; 15] = [0, 1, 0, 0, 0, 0, 0, 0, 0, 0, 0x04, 0x00, 0x05, 0xA0, 0x00];
 
 fn main() {
     let mut out = vec![0; 65536];
 
-    match fold(&SHEET, &mut out) {
+    match fold(Form::One, &SHEET, &mut out) {
         Ok(folded) => {
             let Folded {
                 drained,

@@ -2,7 +2,7 @@
 
 use std::error::Error;
 
-use hours::{fold, line};
+use hours::{Form, fold, line};
 
 const SHEET: [u8; 35] = [
     0x00, 0x02, 0x00, 0x00, 0x00, 0x00, 0x00, 0x00, 0x00, 0x10, 0x04, 0x20, 0x00, 0x07, 0xFE, 0x25,
@@ -12,10 +12,10 @@ const SHEET: [u8; 35] = [
 
 fn main() -> Result<(), Box<dyn Error>> {
     let mut sheet = vec![0; 65536];
-    let folded = fold(&SHEET, &mut sheet)?;
+    let folded = fold(Form::One, &SHEET, &mut sheet)?;
 
     let mut text = vec![0; 65536];
-    let bytes = line(&sheet[..folded.bytes], &mut text)?;
+    let bytes = line(Form::One, &sheet[..folded.bytes], &mut text)?;
 
     println!("{}", str::from_utf8(&text[..bytes])?);
     Ok(())

@@ -2,24 +2,29 @@
 //!
 //! A packed sheet holds rules, one changing another. [`fold`] folds them up to the first one that can't be folded exactly and copies
 //! those from there on; [`lookup`] tells the state at a minute; [`write_back`] reads a sheet and writes it again; [`line()`] writes it as
-//! text. What each answers is proved for every byte string, date and buffer, so a sheet may hold anything. include/hours.h says the same
-//! for C.
+//! text; [`convert`] moves it to the other [`Form`]. Each takes the sheet's form first. What each answers is proved for every byte string,
+//! date and buffer, so a sheet may hold anything. include/hours.h says the same for C.
 //!
 //! Nothing is kept between calls and nothing is allocated: threads may call at once. The stack must have [`STACK`] bytes left.
 //!
 //! ```
+//! use hours::Form;
+//!
 //! // One Normal Open rule, 00:00-24:00.
 //! let sheet = [0, 1, 0, 0, 0, 0, 0, 0, 0, 0, 4, 0, 5, 0xA0, 0];
 //! let mut out = [0; 64];
 //!
-//! let folded = hours::fold(&sheet, &mut out)?;
+//! let folded = hours::fold(Form::One, &sheet, &mut out)?;
 //! assert_eq!(out[..folded.bytes], sheet);
 //!
 //! let date = hours::Date { year: 2000, month: 2, day: 29 };
-//! assert_eq!(hours::lookup(&sheet, date, 720)?.kind, hours::Kind::Open);
+//! assert_eq!(hours::lookup(Form::One, &sheet, date, 720)?.kind, hours::Kind::Open);
 //!
-//! let bytes = hours::line(&sheet, &mut out)?;
+//! let bytes = hours::line(Form::One, &sheet, &mut out)?;
 //! assert_eq!(out[..bytes], *b"00:00-24:00");
+//!
+//! let bytes = hours::convert(Form::One, &sheet, &mut out)?;
+//! assert_eq!(hours::lookup(Form::Two, &out[..bytes], date, 720)?.kind, hours::Kind::Open);
 //! # Ok::<(), hours::Refusal>(())
 //! ```
 
@@ -28,9 +33,11 @@
 
 #[allow(unsafe_code)]
 mod archive;
+mod form;
 mod reason;
 mod refusal;
 
+pub use form::Form;
 pub use reason::Reason;
 pub use refusal::Refusal;
 
@@ -93,20 +100,20 @@ pub struct State {
     /// Whether it is open.
     pub kind: Kind,
     /// The comment's number.
-    pub comment: u16,
+    pub comment: u32,
 }
 
 /// Folds a sheet's rules up to the first one that can't be folded exactly, and copies the rules from there on.
 ///
-/// The result stands at the front of `out`, and later bytes are unchanged. It may be longer than the sheet; an empty `out` is refused
-/// with the bytes needed.
+/// The result is of the sheet's form. It stands at the front of `out`, and later bytes are unchanged. It may be longer than the sheet; an
+/// empty `out` is refused with the bytes needed.
 ///
 /// # Errors
 ///
 /// Any refusal by codes 1 to 7 and 11, the first reason met. `out` is then unchanged.
-pub fn fold(sheet: &[u8], out: &mut [u8]) -> Result<Folded, Refusal> {
+pub fn fold(form: Form, sheet: &[u8], out: &mut [u8]) -> Result<Folded, Refusal> {
     let [code, drained, emitted, left, bytes, place, why] =
-        numbers(|lent| archive::fold(sheet, out, lent));
+        numbers(|lent| archive::fold(form.number(), sheet, out, lent));
 
     done(code, place)?;
     Ok(Folded {
@@ -125,19 +132,20 @@ pub fn fold(sheet: &[u8], out: &mut [u8]) -> Result<Folded, Refusal> {
 /// # Errors
 ///
 /// Any refusal by codes 1 to 6, 8, 9 and 11, the first reason met.
-pub fn lookup(sheet: &[u8], date: Date, minute: u16) -> Result<State, Refusal> {
+pub fn lookup(form: Form, sheet: &[u8], date: Date, minute: u16) -> Result<State, Refusal> {
     let moment = [
         date.year.into(),
         date.month.into(),
         date.day.into(),
         minute.into(),
     ];
-    let [code, kind, comment, place] = numbers(|lent| archive::lookup(sheet, moment, lent));
+    let [code, kind, comment, place] =
+        numbers(|lent| archive::lookup(form.number(), sheet, moment, lent));
 
     done(code, place)?;
     Ok(State {
         kind: Kind::of(kind),
-        comment: u16::try_from(comment).expect("a comment has 16 bits in a sheet"),
+        comment: u32::try_from(comment).expect("a comment has 24 bits at most"),
     })
 }
 
@@ -147,8 +155,8 @@ pub fn lookup(sheet: &[u8], date: Date, minute: u16) -> Result<State, Refusal> {
 /// # Errors
 ///
 /// Any refusal by codes 1 to 4 and 7, the first reason met. `out` is then unchanged.
-pub fn write_back(sheet: &[u8], out: &mut [u8]) -> Result<usize, Refusal> {
-    written(|lent| archive::write_back(sheet, out, lent))
+pub fn write_back(form: Form, sheet: &[u8], out: &mut [u8]) -> Result<usize, Refusal> {
+    written(|lent| archive::write_back(form.number(), sheet, out, lent))
 }
 
 /// Writes a sheet as one line of text, in the notation of the public OpenStreetMap opening_hours specification, to the front of `out`,
@@ -163,8 +171,18 @@ pub fn write_back(sheet: &[u8], out: &mut [u8]) -> Result<usize, Refusal> {
 /// # Errors
 ///
 /// Any refusal by codes 1 to 4, 7 and 10, the first reason met. `out` is then unchanged.
-pub fn line(sheet: &[u8], out: &mut [u8]) -> Result<usize, Refusal> {
-    written(|lent| archive::line(sheet, out, lent))
+pub fn line(form: Form, sheet: &[u8], out: &mut [u8]) -> Result<usize, Refusal> {
+    written(|lent| archive::line(form.number(), sheet, out, lent))
+}
+
+/// Moves a sheet of this form to the other one, at the front of `out`, and answers the bytes written; later bytes are unchanged. A sheet that
+/// is moved and moved back is the same byte for byte. An empty `out` is refused with the bytes needed.
+///
+/// # Errors
+///
+/// Any refusal by codes 1 to 4, 7 and, from form 2, 12, the first reason met. `out` is then unchanged.
+pub fn convert(form: Form, sheet: &[u8], out: &mut [u8]) -> Result<usize, Refusal> {
+    written(|lent| archive::convert(form.number(), sheet, out, lent))
 }
 
 /// The bytes that an export wrote.

@@ -3,7 +3,7 @@
 use core::error::Error;
 use core::fmt::{Display, Formatter, Result};
 
-/// The first reason to refuse, in the order 1, 2 and 4 as met from the first bit on, then 3, 8, 11, 5, 6, 9, 10, 7. Bits and rules are
+/// The first reason to refuse, in the order 1, 2 and 4 as met from the first bit on, then 3, 8, 11, 5, 6, 9, 10, 12, 7. Bits and rules are
 /// counted from 0, bits from the most significant one on.
 #[derive(Clone, Copy, Debug, PartialEq, Eq)]
 pub enum Refusal {
@@ -12,7 +12,7 @@ pub enum Refusal {
         /// The field's first bit.
         bit: usize,
     },
-    /// 2: a field that isn't a count holds an unlawful value.
+    /// 2: a field that isn't a count holds an unlawful value. Form 2's first four bits are such a field.
     Unlawful {
         /// The field's first bit.
         bit: usize,
@@ -58,10 +58,15 @@ pub enum Refusal {
         /// The first such rule's index.
         rule: usize,
     },
+    /// 12: a conversion from form 2 where a comment is above 65,535.
+    LongComment {
+        /// The first such rule's index.
+        rule: usize,
+    },
 }
 
 impl Refusal {
-    /// The refusal of a code from 1 to 11. The archive answers no other.
+    /// The refusal of a code from 1 to 12. The archive answers no other.
     pub(crate) fn of(code: u64, place: usize) -> Self {
         match code {
             1 => Self::PastEnd { bit: place },
@@ -75,11 +80,12 @@ impl Refusal {
             9 => Self::Unsettled,
             10 => Self::NoLine { rule: place },
             11 => Self::Overlap { rule: place },
+            12 => Self::LongComment { rule: place },
             _ => unreachable!("the archive refuses by no code {code}"),
         }
     }
 
-    /// The code, 1 to 11.
+    /// The code, 1 to 12.
     #[must_use]
     pub fn code(self) -> u8 {
         match self {
@@ -94,6 +100,7 @@ impl Refusal {
             Self::Unsettled => 9,
             Self::NoLine { .. } => 10,
             Self::Overlap { .. } => 11,
+            Self::LongComment { .. } => 12,
         }
     }
 
@@ -109,7 +116,8 @@ impl Refusal {
             | Self::LongList { rule: place }
             | Self::NoRoom { needed: place }
             | Self::NoLine { rule: place }
-            | Self::Overlap { rule: place } => place,
+            | Self::Overlap { rule: place }
+            | Self::LongComment { rule: place } => place,
             Self::NoDate | Self::Unsettled => 0,
         }
     }
@@ -133,6 +141,7 @@ impl Display for Refusal {
             Self::Unsettled => write!(text, "the rules do not settle the state"),
             Self::NoLine { rule } => write!(text, "rule {rule} can't be said in a line"),
             Self::Overlap { rule } => write!(text, "rule {rule} names a day twice"),
+            Self::LongComment { rule } => write!(text, "rule {rule} has a comment above 65535"),
         }
     }
 }

@@ -3,7 +3,7 @@
 mod common;
 
 use common::bytes;
-use hours::{Date, Reason, Refusal, fold, lookup, write_back};
+use hours::{Date, Form, Reason, Refusal, fold, lookup, write_back};
 
 /// Fr-Mo,Mo-Tu.
 const WRAP_SHARES: &str = "0001000000000000002005000007FE040003FF12C10E00";
@@ -46,15 +46,15 @@ fn days_named_twice_are_refused_at_their_rule() {
         assert_eq!((refusal.code(), refusal.place()), (11, rule));
 
         let mut out = [PAINT; ROOM];
-        assert_eq!(fold(&sheet, &mut out), Err(refusal));
+        assert_eq!(fold(Form::One, &sheet, &mut out), Err(refusal));
         assert_eq!(out, [PAINT; ROOM]);
-        assert_eq!(lookup(&sheet, LEAP_DAY, 0), Err(refusal));
+        assert_eq!(lookup(Form::One, &sheet, LEAP_DAY, 0), Err(refusal));
 
         // The date is refused before the sheet, the sheet before the buffer.
-        assert_eq!(lookup(&sheet, NO_DATE, 0), Err(Refusal::NoDate));
-        assert_eq!(fold(&sheet, &mut []), Err(refusal));
+        assert_eq!(lookup(Form::One, &sheet, NO_DATE, 0), Err(Refusal::NoDate));
+        assert_eq!(fold(Form::One, &sheet, &mut []), Err(refusal));
 
-        assert_eq!(write_back(&sheet, &mut out), Ok(sheet.len()));
+        assert_eq!(write_back(Form::One, &sheet, &mut out), Ok(sheet.len()));
     }
 }
 
@@ -64,7 +64,7 @@ fn days_that_only_touch_and_rules_left_are_not() {
         (WRAP_TOUCHES, 0, None),
         (LEFT_MAY_OVERLAP, 2, Some(Reason::WeekStep)),
     ] {
-        let folded = fold(&bytes(sheet), &mut [PAINT; ROOM]).expect("it is folded");
+        let folded = fold(Form::One, &bytes(sheet), &mut [PAINT; ROOM]).expect("it is folded");
         assert_eq!((folded.drained, folded.left, folded.why), (1, left, why));
     }
 }

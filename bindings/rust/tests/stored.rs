@@ -6,7 +6,7 @@ use std::path::Path;
 use std::{fs, thread};
 
 use common::bytes;
-use hours::{Date, Folded, Reason, Refusal, STACK, fold, line, lookup, write_back};
+use hours::{Date, Folded, Form, Reason, Refusal, STACK, convert, fold, line, lookup, write_back};
 
 /// The fields of each stored case, `-` as no bytes.
 fn check_cases(file: &str, check: fn(&[&str])) {
@@ -45,20 +45,28 @@ const PAINT: u8 = 0xC3;
 /// The numbers of an answer, and how many bytes it wrote.
 type Answer = (Vec<usize>, usize);
 
-/// A sheet, a room, numbers and a result held against the numbers and the bytes that a call gives.
-fn check_writing(fields: &[&str], call: fn(&[u8], &mut [u8]) -> Answer) {
-    let [sheet, room, told @ .., result] = fields else {
-        panic!("a writing has a sheet, a room, numbers and a result");
+/// The form of its number. Those that are none can be asked only from C.
+fn form_of(field: &str) -> Option<Form> {
+    [Form::One, Form::Two]
+        .into_iter()
+        .find(|form| form.number().to_string() == field)
+}
+
+/// A form, a sheet, a room, numbers and a result held against the numbers and the bytes that a call gives.
+fn check_writing(fields: &[&str], call: fn(Form, &[u8], &mut [u8]) -> Answer) {
+    let [form, sheet, room, told @ .., result] = fields else {
+        panic!("a writing has a form, a sheet, a room, numbers and a result");
     };
+    let Some(form) = form_of(form) else { return };
     let mut out = vec![PAINT; numbers(&[room])[0]];
 
-    let (answer, written) = call(&bytes(sheet), &mut out);
+    let (answer, written) = call(form, &bytes(sheet), &mut out);
     assert_eq!(answer, numbers(told), "{sheet}");
     assert_eq!(out[..written], bytes(result), "{sheet}");
     assert!(out[written..].iter().all(|byte| *byte == PAINT), "{sheet}");
 }
 
-/// The answer of a write-back or a line: code, bytes and place.
+/// The answer of a write-back, a line or a conversion: code, bytes and place.
 fn written(done: Result<usize, Refusal>) -> Answer {
     match done {
         Ok(bytes) => (vec![0, bytes, 0], bytes),
@@ -69,7 +77,7 @@ fn written(done: Result<usize, Refusal>) -> Answer {
 #[test]
 fn folds() {
     check_cases("fold.txt", |fields| {
-        check_writing(fields, |sheet, out| match fold(sheet, out) {
+        check_writing(fields, |form, sheet, out| match fold(form, sheet, out) {
             Ok(done) => (folded(done), done.bytes),
             Err(refusal) => ([refused(refusal, 4), vec![0]].concat(), 0),
         });
@@ -86,32 +94,47 @@ fn folded(done: Folded) -> Vec<usize> {
 #[test]
 fn write_backs() {
     check_cases("back.txt", |fields| {
-        check_writing(fields, |sheet, out| written(write_back(sheet, out)));
+        check_writing(fields, |form, sheet, out| {
+            written(write_back(form, sheet, out))
+        });
     });
 }
 
 #[test]
 fn lines() {
     check_cases("line.txt", |fields| {
-        check_writing(fields, |sheet, out| written(line(sheet, out)));
+        check_writing(fields, |form, sheet, out| written(line(form, sheet, out)));
+    });
+}
+
+#[test]
+fn conversions() {
+    check_cases("convert.txt", |fields| {
+        check_writing(fields, |form, sheet, out| {
+            written(convert(form, sheet, out))
+        });
     });
 }
 
 #[test]
 fn lookups() {
     check_cases("lookup.txt", |fields| {
-        let [sheet, year, month, day, minute, told @ ..] = fields else {
-            panic!("a lookup has a sheet, a date, a minute and numbers");
+        let [form, sheet, year, month, day, minute, told @ ..] = fields else {
+            panic!("a lookup has a form, a sheet, a date, a minute and numbers");
         };
-        let (Ok(year), Ok(month), Ok(day), Ok(minute)) =
-            (year.parse(), month.parse(), day.parse(), minute.parse())
-        else {
+        let (Some(form), Ok(year), Ok(month), Ok(day), Ok(minute)) = (
+            form_of(form),
+            year.parse(),
+            month.parse(),
+            day.parse(),
+            minute.parse(),
+        ) else {
             // Such numbers can be asked only from C.
             return;
         };
 
-        let answer = match lookup(&bytes(sheet), Date { year, month, day }, minute) {
-            Ok(state) => vec![0, state.kind as usize, state.comment.into(), 0],
+        let answer = match lookup(form, &bytes(sheet), Date { year, month, day }, minute) {
+            Ok(state) => vec![0, state.kind as usize, state.comment as usize, 0],
             Err(refusal) => refused(refusal, 2),
         };
         assert_eq!(

@@ -1,10 +1,10 @@
-//! Document 01's worked days, their lines by 02, a stopped fold for each of its reasons, and a refusal by each code. The sheets of the days are those of
-//! crates/definition/specs/Worked.antt.
+//! Document 01's worked days in form 1, their lines by 02, a stopped fold for each of its reasons, and a refusal by each code but 12. The sheets of the
+//! days are those of crates/definition/specs/Worked.antt.
 
 mod common;
 
 use common::bytes;
-use hours::{Date, Folded, Kind, Reason, Refusal, State, fold, line, lookup, write_back};
+use hours::{Date, Folded, Form, Kind, Reason, Refusal, State, fold, line, lookup, write_back};
 
 const PAINT: u8 = 0xC3;
 const ROOM: usize = 512;
@@ -61,23 +61,29 @@ fn folds(sheet: &str, result: &str, [drained, emitted, left]: [usize; 3], why: O
         bytes: needed,
         why,
     };
-    assert_eq!(fold(&sheet, &mut out), Ok(folded));
+    assert_eq!(fold(Form::One, &sheet, &mut out), Ok(folded));
     assert_eq!(out[..needed], result);
     assert!(out[needed..].iter().all(|byte| *byte == PAINT));
 
     let mut full = vec![PAINT; needed];
-    assert_eq!(fold(&sheet, &mut full), Ok(folded));
+    assert_eq!(fold(Form::One, &sheet, &mut full), Ok(folded));
     assert_eq!(full, result);
 
     let mut short = vec![PAINT; needed - 1];
-    assert_eq!(fold(&sheet, &mut short), Err(Refusal::NoRoom { needed }));
+    assert_eq!(
+        fold(Form::One, &sheet, &mut short),
+        Err(Refusal::NoRoom { needed })
+    );
     assert!(short.iter().all(|byte| *byte == PAINT));
-    assert_eq!(fold(&sheet, &mut []), Err(Refusal::NoRoom { needed }));
+    assert_eq!(
+        fold(Form::One, &sheet, &mut []),
+        Err(Refusal::NoRoom { needed })
+    );
 }
 
 fn fold_refused(sheet: &str) -> Refusal {
     let mut out = [PAINT; ROOM];
-    let refusal = fold(&bytes(sheet), &mut out).expect_err("the fold is refused");
+    let refusal = fold(Form::One, &bytes(sheet), &mut out).expect_err("the fold is refused");
     assert_eq!(out, [PAINT; ROOM]);
     refusal
 }
@@ -85,32 +91,35 @@ fn fold_refused(sheet: &str) -> Refusal {
 /// A sheet that the reader refuses is refused by every function.
 fn unreadable(sheet: &str, refusal: Refusal) {
     assert_eq!(fold_refused(sheet), refusal);
-    assert_eq!(lookup(&bytes(sheet), LEAP_DAY, 0), Err(refusal));
+    assert_eq!(lookup(Form::One, &bytes(sheet), LEAP_DAY, 0), Err(refusal));
 
     let mut out = [PAINT; ROOM];
-    assert_eq!(write_back(&bytes(sheet), &mut out), Err(refusal));
-    assert_eq!(line(&bytes(sheet), &mut out), Err(refusal));
+    assert_eq!(write_back(Form::One, &bytes(sheet), &mut out), Err(refusal));
+    assert_eq!(line(Form::One, &bytes(sheet), &mut out), Err(refusal));
     assert_eq!(out, [PAINT; ROOM]);
 }
 
-type Writing = fn(&[u8], &mut [u8]) -> Result<usize, Refusal>;
+type Writing = fn(Form, &[u8], &mut [u8]) -> Result<usize, Refusal>;
 
 /// A writing that is done, with bytes to spare, exactly enough, and one too few.
 fn writes(writing: Writing, sheet: &[u8], result: &[u8]) {
     let needed = result.len();
 
     let mut out = [PAINT; ROOM];
-    assert_eq!(writing(sheet, &mut out), Ok(needed));
+    assert_eq!(writing(Form::One, sheet, &mut out), Ok(needed));
     assert_eq!(out[..needed], *result);
     assert!(out[needed..].iter().all(|byte| *byte == PAINT));
 
     let mut full = vec![PAINT; needed];
-    assert_eq!(writing(sheet, &mut full), Ok(needed));
+    assert_eq!(writing(Form::One, sheet, &mut full), Ok(needed));
     assert_eq!(full, result);
 
     if needed > 0 {
         let mut short = vec![PAINT; needed - 1];
-        assert_eq!(writing(sheet, &mut short), Err(Refusal::NoRoom { needed }));
+        assert_eq!(
+            writing(Form::One, sheet, &mut short),
+            Err(Refusal::NoRoom { needed })
+        );
         assert!(short.iter().all(|byte| *byte == PAINT));
     }
 }
@@ -192,10 +201,16 @@ fn a_sheet_is_written_as_a_line() {
 fn a_sheet_without_a_line_is_refused_at_its_rule() {
     for (sheet, rule) in [(P9, 0), (SECOND_WITHOUT_SPANS, 1)] {
         let mut out = [PAINT; ROOM];
-        assert_eq!(line(&bytes(sheet), &mut out), Err(Refusal::NoLine { rule }));
+        assert_eq!(
+            line(Form::One, &bytes(sheet), &mut out),
+            Err(Refusal::NoLine { rule })
+        );
         assert_eq!(out, [PAINT; ROOM]);
         // The sheet is refused before the buffer is.
-        assert_eq!(line(&bytes(sheet), &mut []), Err(Refusal::NoLine { rule }));
+        assert_eq!(
+            line(Form::One, &bytes(sheet), &mut []),
+            Err(Refusal::NoLine { rule })
+        );
     }
 }
 
@@ -220,7 +235,7 @@ fn sheets_that_the_fold_does_not_take_are_refused() {
         (&entries_33(), Refusal::LongList { rule: 35 }),
     ] {
         assert_eq!(fold_refused(sheet), refusal);
-        assert_eq!(lookup(&bytes(sheet), LEAP_DAY, 0), Err(refusal));
+        assert_eq!(lookup(Form::One, &bytes(sheet), LEAP_DAY, 0), Err(refusal));
     }
 }
 
@@ -240,7 +255,7 @@ fn the_state_at_a_minute_is_found() {
         (1439, Kind::Closed),
     ] {
         let state = State { kind, comment: 0 };
-        assert_eq!(lookup(&sheet, LEAP_DAY, minute), Ok(state));
+        assert_eq!(lookup(Form::One, &sheet, LEAP_DAY, minute), Ok(state));
     }
 }
 
@@ -256,7 +271,10 @@ fn weeks_are_those_of_iso_8601() {
         (2024, 12, 30, Kind::Closed),
     ] {
         let state = State { kind, comment: 0 };
-        assert_eq!(lookup(&sheet, Date { year, month, day }, 720), Ok(state));
+        assert_eq!(
+            lookup(Form::One, &sheet, Date { year, month, day }, 720),
+            Ok(state)
+        );
     }
 }
 
@@ -265,9 +283,18 @@ fn no_such_date_or_minute_is_refused() {
     let sheet = bytes(ALWAYS);
     let february = |year| Date { year, ..LEAP_DAY };
 
-    assert_eq!(lookup(&sheet, february(1900), 0), Err(Refusal::NoDate));
-    assert_eq!(lookup(&sheet, february(10000), 0), Err(Refusal::NoDate));
-    assert_eq!(lookup(&sheet, LEAP_DAY, 1440), Err(Refusal::NoDate));
+    assert_eq!(
+        lookup(Form::One, &sheet, february(1900), 0),
+        Err(Refusal::NoDate)
+    );
+    assert_eq!(
+        lookup(Form::One, &sheet, february(10000), 0),
+        Err(Refusal::NoDate)
+    );
+    assert_eq!(
+        lookup(Form::One, &sheet, LEAP_DAY, 1440),
+        Err(Refusal::NoDate)
+    );
 }
 
 #[test]
@@ -279,6 +306,12 @@ fn a_state_that_the_rules_do_not_settle_is_refused() {
         ..LEAP_DAY
     };
 
-    assert_eq!(lookup(&bytes(TOUCHING), march, 0), Err(Refusal::Unsettled));
-    assert_eq!(lookup(&bytes(LEAVES), LEAP_DAY, 0), Err(Refusal::Unsettled));
+    assert_eq!(
+        lookup(Form::One, &bytes(TOUCHING), march, 0),
+        Err(Refusal::Unsettled)
+    );
+    assert_eq!(
+        lookup(Form::One, &bytes(LEAVES), LEAP_DAY, 0),
+        Err(Refusal::Unsettled)
+    );
 }

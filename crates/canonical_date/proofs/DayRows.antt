@@ -11,6 +11,7 @@ use lib.ListN.{length, set, length-append}
 use lib.Seq.{sets}
 use borrow.Author.Tests.{leb-true}
 use Rattle.definition.specs.Field.{got, refused, sheetBits}
+use Rattle.definition.specs.Sheet.{Form}
 use Rattle.definition.proofs.Bits.{Bytes}
 use Rattle.definition.proofs.Reading.{field-passed}
 use Rattle.canonical_date.specs.Says.{Told, itemSays}
@@ -59,29 +60,29 @@ module _ (sort : ℕ) (sheet : List ℕ) (b : Bytes sheet) where
       go false k = rw k (omega (arith, items-few n p))
 
 -- a count keeps its limit
-pub count-few : (s : List ℕ) (h sort n q : ℕ) → countAt s h sort ≡ got n q → n ≤ 16
-count-few s h sort n q e = leb-true _ _ (field-passed _ _ _ s (h + 10 * sort) n q e)
+pub count-few : (form : Form) (s : List ℕ) (h n q : ℕ) → countAt form s h ≡ got n q → n ≤ 16
+count-few form s h n q e = leb-true _ _ (field-passed _ _ _ s h n q e)
 
 -- ## One lemma for each return
-module _ (s : List ℕ) (h sort p : ℕ) (l c : List ℕ) where
-  pub rows-refused : (k i q : ℕ) → countAt s h sort ≡ refused i q → loaded l c none ≡ loadRows k s h sort p l c
+module _ (form : Form) (s : List ℕ) (h sort p : ℕ) (l c : List ℕ) where
+  pub rows-refused : (k i q : ℕ) → countAt form s h ≡ refused i q → loaded l c none ≡ loadRows form k s h sort p l c
   unfolding loadRows
   rows-refused zero i q e = sym (rw (e, loadRows))
   rows-refused (suc k) i q e = sym (rw (e, loadRows))
 
-  pub rows-end : (k n q : ℕ) → k ≡ 0 → countAt s h sort ≡ got n q → loaded l c (some (n, p)) ≡ loadRows k s h sort p l c
+  pub rows-end : (k n q : ℕ) → k ≡ 0 → countAt form s h ≡ got n q → loaded l c (some (n, p)) ≡ loadRows form k s h sort p l c
   unfolding loadRows
   rows-end k n q z e = sym (rw (z, e, loadRows))
 
-  pub rows-stop : (k m n q : ℕ) (l′ : List ℕ) → k ≡ suc m → countAt s h sort ≡ got n q → itemsEnd sort n s p ≡ none → l′ ≡ sets l (sort * 64) (flat (rowRanges sort n s p))
-      → loaded l′ c none ≡ loadRows k s h sort p l c
+  pub rows-stop : (k m n q : ℕ) (l′ : List ℕ) → k ≡ suc m → countAt form s h ≡ got n q → itemsEnd sort n s p ≡ none → l′ ≡ sets l (sort * 64) (flat (rowRanges sort n s p))
+      → loaded l′ c none ≡ loadRows form k s h sort p l c
   unfolding loadRows
   rows-stop k m n q l′ z e f g = sym (rw (z, e, f, loadRows) (ap (λ x. loaded x c none) (sym g)))
 
-  pub rows-go : (k m n q i place : ℕ) (l′ l″ c″ : List ℕ) (r : Option (ℕ × ℕ)) (count : ℕ) → k ≡ suc m → countAt s h sort ≡ got n q → itemsEnd sort n s p ≡ some i
+  pub rows-go : (k m n q i place : ℕ) (l′ l″ c″ : List ℕ) (r : Option (ℕ × ℕ)) (count : ℕ) → k ≡ suc m → countAt form s h ≡ got n q → itemsEnd sort n s p ≡ some i
       → l′ ≡ sets l (sort * 64) (flat (rowRanges sort n s p)) → place ≡ sort * 64 + length (flat (rowRanges sort n s p)) → count ≡ (place - sort * 64) / 2
-      → loaded l″ c″ r ≡ loadRows m s h (sort + 1) i l′ (set c sort count) → loaded l″ c″ r ≡ loadRows k s h sort p l c
+      → loaded l″ c″ r ≡ loadRows form m s q (sort + 1) i l′ (set c sort count) → loaded l″ c″ r ≡ loadRows form k s h sort p l c
   unfolding loadRows
   rows-go k m n q i place l′ l″ c″ r count z e f g a b rest =
       let many : count ≡ length (rowRanges sort n s p) = omega (arith, flat-length (rowRanges sort n s p)) in
-      rest ∙ ap₂ (λ x y. loadRows m s h (sort + 1) i x (set c sort y)) g many ∙ sym (rw (z, e, f, loadRows))
+      rest ∙ ap₂ (λ x y. loadRows form m s q (sort + 1) i x (set c sort y)) g many ∙ sym (rw (z, e, f, loadRows))

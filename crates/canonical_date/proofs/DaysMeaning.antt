@@ -13,7 +13,7 @@ use Rattle.laws.specs.Lists.{anyOf, All}
 use Rattle.grid.specs.Cut.{Range}
 use Rattle.definition.specs.Field.{got, sheetBits, readAll}
 use Rattle.definition.specs.Rule.{weekdayBounds, weekBounds, monthBounds, yearBounds, YearRange, MonthdayRange, WeekRange, WeekDayRange, Rule}
-use Rattle.definition.specs.Sheet.{yearRange, monthdayRange, weekRange, weekDayRange}
+use Rattle.definition.specs.Sheet.{Form, titleWidth, headWidth, yearRange, monthdayRange, weekRange, weekDayRange}
 use Rattle.definition.specs.Range.{ranges}
 use Rattle.definition.specs.Stop.{monthdayStops, weekdayStops}
 use Rattle.definition.specs.Point.{monthEnds, weekdayEnds}
@@ -77,72 +77,72 @@ module _ (n : ℕ) (s : List ℕ) (p q : ℕ) where
   weekdays-halted xs e f = items-halt weekDayRange weekdaySays weekdayStops weekdayEnds 3 (λ s p. sym (as-weekdays 3 s p refl refl refl)) weekdays-pass weekdays-halt n s p xs q e f
 
 -- ## Row after row
-module _ (s : List ℕ) (h sort p : ℕ) (l c : List ℕ) (n : ℕ) (count : Counted s h sort n) where
+module _ (form : Form) (s : List ℕ) (h sort p : ℕ) (l c : List ℕ) (n : ℕ) (count : Counted form s h n) where
   row-done : (k q : ℕ) (R : List Range) → Passed sort n s p q R
-      → loadRows (suc k) s h sort p l c ≡ loadRows k s h (sort + 1) q (sets l (sort * 64) (flat R)) (set c sort (length R))
+      → loadRows form (suc k) s h sort p l c ≡ loadRows form k s (h + form .itemCount) (sort + 1) q (sets l (sort * 64) (flat R)) (set c sort (length R))
   unfolding loadRows
-  row-done k q R d = rw (count, d .1, loadRows) (ap (λ Q. loadRows k s h (sort + 1) q (sets l (sort * 64) (flat Q)) (set c sort (length Q))) (d .0))
+  row-done k q R d = rw (count, d .1, loadRows) (ap (λ Q. loadRows form k s (h + form .itemCount) (sort + 1) q (sets l (sort * 64) (flat Q)) (set c sort (length Q))) (d .0))
 
-  row-ends : (k : ℕ) → itemsEnd sort n s p ≡ none → (loadRows (suc k) s h sort p l c) .spans ≡ none
+  row-ends : (k : ℕ) → itemsEnd sort n s p ≡ none → (loadRows form (suc k) s h sort p l c) .spans ≡ none
   unfolding loadRows
   row-ends k e = rw (count, e, loadRows)
 
-  spans-found : loadRows 0 s h sort p l c ≡ loaded l c (some (n, p))
+  spans-found : loadRows form 0 s h sort p l c ≡ loaded l c (some (n, p))
   unfolding loadRows
   spans-found = rw (count, loadRows)
 
-module _ (s : List ℕ) (p : ℕ) (r : Rule) (q : ℕ) (w : RuleParts s p r q) (l c : List ℕ) where
+module _ (form : Form) (s : List ℕ) (p : ℕ) (r : Rule) (q : ℕ) (w : RuleParts form s p r q) (l c : List ℕ) where
   -- THE DAYS PASS
-  pub days-pass : daysStop r ≡ false → daysLoaded s p l c ≡ loaded (layRows 0 (daysRows r) l) (countRows 0 (daysRows r) c) (some (length (r .spans), w .spans-at))
+  pub days-pass : daysStop r ≡ false → daysLoaded form s p l c ≡ loaded (layRows 0 (daysRows r) l) (countRows 0 (daysRows r) c) (some (length (r .spans), w .spans-at))
   unfolding daysStop layRows countRows
   days-pass f =
       let a = split-or _ _ f in
       let b = split-or _ _ (a .1) in
       let d = split-or _ _ (b .1) in
-      row-done s (p + 20) 0 (p + 70) _ _ _ (w .count-years) 3 _ _ (years-passed _ s (p + 70) _ (r .years) (w .years-read) (a .0))
-      ∙ row-done s (p + 20) 1 (w .monthdays-at) _ _ _ (w .count-monthdays) 2 _ _ (months-passed _ s (w .monthdays-at) _ (r .monthdays) (w .monthdays-read) (b .0))
-      ∙ row-done s (p + 20) 2 (w .weeks-at) _ _ _ (w .count-weeks) 1 _ _ (weeks-passed _ s (w .weeks-at) _ (r .weeks) (w .weeks-read) (d .0))
-      ∙ row-done s (p + 20) 3 (w .weekdays-at) _ _ _ (w .count-weekdays) 0 _ _ (weekdays-passed _ s (w .weekdays-at) _ (r .weekdays) (w .weekdays-read) (d .1))
-      ∙ spans-found s (p + 20) 4 (w .spans-at) _ _ _ (w .count-spans)
+      row-done form s (p + titleWidth form) 0 (p + headWidth form) _ _ _ (w .count-years) 3 _ _ (years-passed _ s (p + headWidth form) _ (r .years) (w .years-read) (a .0))
+      ∙ row-done form s (p + titleWidth form + form .itemCount) 1 (w .monthdays-at) _ _ _ (w .count-monthdays) 2 _ _ (months-passed _ s (w .monthdays-at) _ (r .monthdays) (w .monthdays-read) (b .0))
+      ∙ row-done form s (p + titleWidth form + form .itemCount + form .itemCount) 2 (w .weeks-at) _ _ _ (w .count-weeks) 1 _ _ (weeks-passed _ s (w .weeks-at) _ (r .weeks) (w .weeks-read) (d .0))
+      ∙ row-done form s (p + titleWidth form + form .itemCount + form .itemCount + form .itemCount) 3 (w .weekdays-at) _ _ _ (w .count-weekdays) 0 _ _ (weekdays-passed _ s (w .weekdays-at) _ (r .weekdays) (w .weekdays-read) (d .1))
+      ∙ spans-found form s (p + titleWidth form + form .itemCount + form .itemCount + form .itemCount + form .itemCount) 4 (w .spans-at) _ _ _ (w .count-spans)
 
   -- THE DAYS STOP
-  pub days-halt : daysStop r ≡ true → (daysLoaded s p l c) .spans ≡ none
+  pub days-halt : daysStop r ≡ true → (daysLoaded form s p l c) .spans ≡ none
   unfolding daysStop
   days-halt f = go (anyOf (λ y. not (eqb (y .step) 1)) (r .years)) refl (anyOf monthdayStops (r .monthdays)) refl (anyOf (λ w. not (eqb (w .step) 1)) (r .weeks)) refl f
     where
       go : (a : Bool) → anyOf (λ y. not (eqb (y .step) 1)) (r .years) ≡ a → (b : Bool) → anyOf monthdayStops (r .monthdays) ≡ b → (d : Bool) → anyOf (λ w. not (eqb (w .step) 1)) (r .weeks) ≡ d
-          → a || (b || (d || anyOf weekdayStops (r .weekdays))) ≡ true → (daysLoaded s p l c) .spans ≡ none
-      go true ha b hb d hd t = row-ends s (p + 20) 0 (p + 70) _ _ _ (w .count-years) 3 (years-halted _ s (p + 70) _ (r .years) (w .years-read) ha)
+          → a || (b || (d || anyOf weekdayStops (r .weekdays))) ≡ true → (daysLoaded form s p l c) .spans ≡ none
+      go true ha b hb d hd t = row-ends form s (p + titleWidth form) 0 (p + headWidth form) _ _ _ (w .count-years) 3 (years-halted _ s (p + headWidth form) _ (r .years) (w .years-read) ha)
       go false ha true hb d hd t =
-          ap (λ x. x .spans) (row-done s (p + 20) 0 (p + 70) _ _ _ (w .count-years) 3 _ _ (years-passed _ s (p + 70) _ (r .years) (w .years-read) ha))
-          ∙ row-ends s (p + 20) 1 (w .monthdays-at) _ _ _ (w .count-monthdays) 2 (months-halted _ s (w .monthdays-at) _ (r .monthdays) (w .monthdays-read) hb)
+          ap (λ x. x .spans) (row-done form s (p + titleWidth form) 0 (p + headWidth form) _ _ _ (w .count-years) 3 _ _ (years-passed _ s (p + headWidth form) _ (r .years) (w .years-read) ha))
+          ∙ row-ends form s (p + titleWidth form + form .itemCount) 1 (w .monthdays-at) _ _ _ (w .count-monthdays) 2 (months-halted _ s (w .monthdays-at) _ (r .monthdays) (w .monthdays-read) hb)
       go false ha false hb true hd t =
-          ap (λ x. x .spans) (row-done s (p + 20) 0 (p + 70) _ _ _ (w .count-years) 3 _ _ (years-passed _ s (p + 70) _ (r .years) (w .years-read) ha)
-          ∙ row-done s (p + 20) 1 (w .monthdays-at) _ _ _ (w .count-monthdays) 2 _ _ (months-passed _ s (w .monthdays-at) _ (r .monthdays) (w .monthdays-read) hb))
-          ∙ row-ends s (p + 20) 2 (w .weeks-at) _ _ _ (w .count-weeks) 1 (weeks-halted _ s (w .weeks-at) _ (r .weeks) (w .weeks-read) hd)
+          ap (λ x. x .spans) (row-done form s (p + titleWidth form) 0 (p + headWidth form) _ _ _ (w .count-years) 3 _ _ (years-passed _ s (p + headWidth form) _ (r .years) (w .years-read) ha)
+          ∙ row-done form s (p + titleWidth form + form .itemCount) 1 (w .monthdays-at) _ _ _ (w .count-monthdays) 2 _ _ (months-passed _ s (w .monthdays-at) _ (r .monthdays) (w .monthdays-read) hb))
+          ∙ row-ends form s (p + titleWidth form + form .itemCount + form .itemCount) 2 (w .weeks-at) _ _ _ (w .count-weeks) 1 (weeks-halted _ s (w .weeks-at) _ (r .weeks) (w .weeks-read) hd)
       go false ha false hb false hd t =
-          ap (λ x. x .spans) (row-done s (p + 20) 0 (p + 70) _ _ _ (w .count-years) 3 _ _ (years-passed _ s (p + 70) _ (r .years) (w .years-read) ha)
-          ∙ row-done s (p + 20) 1 (w .monthdays-at) _ _ _ (w .count-monthdays) 2 _ _ (months-passed _ s (w .monthdays-at) _ (r .monthdays) (w .monthdays-read) hb)
-          ∙ row-done s (p + 20) 2 (w .weeks-at) _ _ _ (w .count-weeks) 1 _ _ (weeks-passed _ s (w .weeks-at) _ (r .weeks) (w .weeks-read) hd))
-          ∙ row-ends s (p + 20) 3 (w .weekdays-at) _ _ _ (w .count-weekdays) 0 (weekdays-halted _ s (w .weekdays-at) _ (r .weekdays) (w .weekdays-read) t)
+          ap (λ x. x .spans) (row-done form s (p + titleWidth form) 0 (p + headWidth form) _ _ _ (w .count-years) 3 _ _ (years-passed _ s (p + headWidth form) _ (r .years) (w .years-read) ha)
+          ∙ row-done form s (p + titleWidth form + form .itemCount) 1 (w .monthdays-at) _ _ _ (w .count-monthdays) 2 _ _ (months-passed _ s (w .monthdays-at) _ (r .monthdays) (w .monthdays-read) hb)
+          ∙ row-done form s (p + titleWidth form + form .itemCount + form .itemCount) 2 (w .weeks-at) _ _ _ (w .count-weeks) 1 _ _ (weeks-passed _ s (w .weeks-at) _ (r .weeks) (w .weeks-read) hd))
+          ∙ row-ends form s (p + titleWidth form + form .itemCount + form .itemCount + form .itemCount) 3 (w .weekdays-at) _ _ _ (w .count-weekdays) 0 (weekdays-halted _ s (w .weekdays-at) _ (r .weekdays) (w .weekdays-read) t)
 
 -- each dimension has at most 32 ranges
-pub days-few : (sheet : List ℕ) → Bytes sheet → (p : ℕ) (r : Rule) (q : ℕ) → RuleParts (sheetBits sheet) p r q → daysStop r ≡ false → All (λ R. length R ≤ 32) (daysRows r)
+pub days-few : (form : Form) (sheet : List ℕ) → Bytes sheet → (p : ℕ) (r : Rule) (q : ℕ) → RuleParts form (sheetBits sheet) p r q → daysStop r ≡ false → All (λ R. length R ≤ 32) (daysRows r)
 unfolding daysStop
-days-few sheet b p r q w f =
+days-few form sheet b p r q w f =
     let s = sheetBits sheet in
     let a = split-or _ _ f in
     let d = split-or _ _ (a .1) in
     let e = split-or _ _ (d .1) in (
-      few 0 _ (p + 70) _ _ (w .count-years) (years-passed _ s (p + 70) _ (r .years) (w .years-read) (a .0)),
+      few 0 _ _ (p + headWidth form) _ _ (w .count-years) (years-passed _ s (p + headWidth form) _ (r .years) (w .years-read) (a .0)),
       (
-        few 1 _ (w .monthdays-at) _ _ (w .count-monthdays) (months-passed _ s (w .monthdays-at) _ (r .monthdays) (w .monthdays-read) (d .0)),
+        few 1 _ _ (w .monthdays-at) _ _ (w .count-monthdays) (months-passed _ s (w .monthdays-at) _ (r .monthdays) (w .monthdays-read) (d .0)),
         (
-          few 2 _ (w .weeks-at) _ _ (w .count-weeks) (weeks-passed _ s (w .weeks-at) _ (r .weeks) (w .weeks-read) (e .0)),
-          (few 3 _ (w .weekdays-at) _ _ (w .count-weekdays) (weekdays-passed _ s (w .weekdays-at) _ (r .weekdays) (w .weekdays-read) (e .1)), tt),
+          few 2 _ _ (w .weeks-at) _ _ (w .count-weeks) (weeks-passed _ s (w .weeks-at) _ (r .weeks) (w .weeks-read) (e .0)),
+          (few 3 _ _ (w .weekdays-at) _ _ (w .count-weekdays) (weekdays-passed _ s (w .weekdays-at) _ (r .weekdays) (w .weekdays-read) (e .1)), tt),
         ),
       ),
     )
   where
-    few : (sort n i j : ℕ) (R : List Range) → Counted (sheetBits sheet) (p + 20) sort n → Passed sort n (sheetBits sheet) i j R → length R ≤ 32
-    few sort n i j R c d = subst (λ Q. length Q ≤ 32) (d .0) (row-few sort sheet b n i (count-few (sheetBits sheet) (p + 20) sort n _ c))
+    few : (sort h n i j : ℕ) (R : List Range) → Counted form (sheetBits sheet) h n → Passed sort n (sheetBits sheet) i j R → length R ≤ 32
+    few sort h n i j R c d = subst (λ Q. length Q ≤ 32) (d .0) (row-few sort sheet b n i (count-few form (sheetBits sheet) h n _ c))

@@ -1,11 +1,14 @@
 // A rule's days: four rows of items, one behind the other, each with its row of ranges.
 use crate::row::Row;
 use field::Taken;
-use field::width;
+use forms::Form;
+use forms::head_width;
+use forms::title_width;
 ghost use mathlib.Core.Path.{_≡_};
 ghost use Prim.Native.Nat.{_+_, _-_, _*_, _/_, _≤_, _<_, _^_};
 ghost use lib.ListN.{length};
 ghost use Rattle.definition.specs.Field.{sheetBits};
+ghost use Rattle.forms.specs.Form.{asForm};
 ghost use Rattle.sheet.specs.Begin.{ruleReadAt, Readable};
 ghost use Rattle.canonical_date.specs.Days.{loaded, daysOf, loadRows, daysLoaded};
 ghost use Rattle.canonical_date.specs.Found.{Found};
@@ -26,6 +29,7 @@ fn ranges_before(sort: usize, place: usize) -> u16
 
 // The rows from a sort on; their counts stand one behind the other from `head` on.
 fn rows(
+    form: Form,
     sheet: &[u8],
     head: usize,
     at: usize,
@@ -33,11 +37,11 @@ fn rows(
     ranges: &mut [u16],
     range_counts: &mut [u16],
 ) -> Days
-    requires { ⌜ (sort ≤ 4) × (head < 2 ^ 27) × (at + (4 - sort) * 832 < 2 ^ 27) × (256 ≤ length (now ranges)) × (4 ≤ length (now «range_counts»)) ⌝ }
+    requires { ⌜ (sort ≤ 4) × (head + (5 - sort) * 16 < 2 ^ 27) × (at + (4 - sort) * 832 < 2 ^ 27) × (256 ≤ length (now ranges)) × (4 ≤ length (now «range_counts»)) ⌝ }
     ensures { λ r. ⌜ loaded (now (ranges .exit)) (now («range_counts» .exit)) (daysOf r)
-        ≡ loadRows (4 - sort) (sheetBits (now (sheet .entry))) head sort at (now (ranges .entry)) (now («range_counts» .entry)) ⌝ }
+        ≡ loadRows (asForm form) (4 - sort) (sheetBits (now (sheet .entry))) head sort at (now (ranges .entry)) (now («range_counts» .entry)) ⌝ }
 {
-    let count = field::count_at(sheet, head + width::ITEM_COUNT * sort);
+    let count = field::count_at(form, sheet, head);
     let Taken::Value(items, after) = count else {
         return Days::Stops;
     };
@@ -48,23 +52,30 @@ fn rows(
     match row {
         Row::Ranges(place, next) => {
             range_counts[sort] = ranges_before(sort, place);
-            rows(sheet, head, next, sort + 1, ranges, range_counts)
+            rows(form, sheet, after, next, sort + 1, ranges, range_counts)
         }
         Row::Stops => Days::Stops,
     }
 }
 
 // The days of the rule at a bit: their ranges in the table, up to the first item that stops.
-pub fn rule_ranges(sheet: &[u8], at: usize, ranges: &mut [u16], range_counts: &mut [u16]) -> Days
-    requires { ⌜ Readable (sheetBits (now sheet)) at ⌝ }
+pub fn rule_ranges(
+    form: Form,
+    sheet: &[u8],
+    at: usize,
+    ranges: &mut [u16],
+    range_counts: &mut [u16],
+) -> Days
+    requires { ⌜ Readable (asForm form) (sheetBits (now sheet)) at ⌝ }
     requires { ⌜ (at < 2 ^ 25) × (256 ≤ length (now ranges)) × (4 ≤ length (now «range_counts»)) ⌝ }
-    ensures { λ r. ⌜ (loaded (now (ranges .exit)) (now («range_counts» .exit)) (daysOf r) ≡ daysLoaded (sheetBits (now (sheet .entry))) at (now (ranges .entry)) (now («range_counts» .entry)))
-        × Found (sheetBits (now (sheet .entry))) (ruleReadAt (sheetBits (now (sheet .entry))) at) r ⌝ }
+    ensures { λ r. ⌜ (loaded (now (ranges .exit)) (now («range_counts» .exit)) (daysOf r) ≡ daysLoaded (asForm form) (sheetBits (now (sheet .entry))) at (now (ranges .entry)) (now («range_counts» .entry)))
+        × Found (sheetBits (now (sheet .entry))) (ruleReadAt (asForm form) (sheetBits (now (sheet .entry))) at) r ⌝ }
 {
     rows(
+        form,
         sheet,
-        at + width::TITLE,
-        at + width::HEAD,
+        at + title_width(form),
+        at + head_width(form),
         0,
         ranges,
         range_counts,

@@ -10,7 +10,7 @@ use lib.Seq.{sets, length-sets, getD-set-same}
 use Rattle.laws.specs.Lists.{All}
 use Rattle.laws.proofs.Stores.{sets-append}
 use Rattle.definition.specs.Day.{simple, day}
-use Rattle.codes.specs.Number.{spanAt}
+use Rattle.codes.specs.Number.{closedNumber, spanAt}
 use Rattle.words.specs.Words.{part}
 use Rattle.day_paint.specs.Stroke.{strokesOfRun, strokesFrom, shown}
 use Rattle.day_paint.specs.Piece.{Piece, pieceStart, pieceState, dayPieces}
@@ -72,7 +72,7 @@ pub cuts-bounded : (before cuts q : List ℕ) (k m : ℕ) → cuts ≡ sets befo
 cuts-bounded before cuts q k m e f room j l =
     let ws : List ℕ = map pieceStart (dayPieces q k) ++ 1440 ∷ [] in
     let size : length ws ≡ suc m = length-append (map pieceStart (dayPieces q k)) (1440 ∷ []) ∙ omega (arith, length-map (dayPieces q k) pieceStart) in
-    let small = tiles-small (shown 65536 (part q 0 k)) 0 1440 (dayPieces q k) (omega arith) (pieces-tile q k 0 1440 (omega arith)) in
+    let small = tiles-small (shown closedNumber (part q 0 k)) 0 1440 (dayPieces q k) (omega arith) (pieces-tile q k 0 1440 (omega arith)) in
     let b = laid-small before 0 ws small (omega (arith, size)) j (omega (arith, size)) in
     let z : 0 + j ≡ j = omega arith in
     let g : getD cuts j 0 ≡ getD (sets before 0 ws) (0 + j) 0 = ap₂ (λ v i. getD v i 0) e (sym z) in omega arith
@@ -112,7 +112,7 @@ module _ (states counts spans list xs₀ xs ps₀ ps q₀ q cs₀ cs vs₀ vs ou
       let q-read : part q 0 k ≡ Q =
       ap₂ (λ v w. part v 0 w) (stroked .0) (stroked .1) ∙ part-sets q₀ 0 Q (omega (arith, stroked .1, few, flat-list .3, room .2)) in
       let P : List Piece = dayPieces q k in
-      let tiles : Tiles (shown 65536 Q) 0 1440 P = subst (λ v. Tiles (shown 65536 v) 0 1440 P) q-read (pieces-tile q k 0 1440 (omega arith)) in
+      let tiles : Tiles (shown closedNumber Q) 0 1440 P = subst (λ v. Tiles (shown closedNumber v) 0 1440 P) q-read (pieces-tile q k 0 1440 (omega arith)) in
       let W : List ℕ = map pieceStart P ++ 1440 ∷ [] in
       let mW : suc m ≡ length W = sym (length-append (map pieceStart P) (1440 ∷ []) ∙ omega (arith, length-map P pieceStart, pieced .2)) in
       let c-read : part cs 0 (suc m) ≡ W =

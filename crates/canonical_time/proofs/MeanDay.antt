@@ -13,7 +13,7 @@ use Rattle.grid.specs.Cut.{Range, sameRange, between, starts, asJoined}
 use Rattle.grid.proofs.Interval.{Rising}
 use Rattle.definition.specs.Rule.{State, closed, sameState}
 use Rattle.definition.specs.Day.{Stated, Day, flattened, painting, grouped, stateClass, stateClasses, painted, asEntry, paintedEntries, sortedEntry, dayOf, entryOf, day}
-use Rattle.codes.specs.Number.{stateNumber, stateCoded, spanNumber}
+use Rattle.codes.specs.Number.{stateNumber, stateCoded, closedNumber, spanNumber}
 use Rattle.words.specs.Words.{part, entryWords}
 use Rattle.day_paint.specs.Stroke.{strokesFrom, shown}
 use Rattle.day_paint.specs.Piece.{Piece, pieceStart, pieceState}
@@ -94,7 +94,7 @@ part-at vs cs h j (suc r) e k l m = go (eqb k j) refl (part-at vs cs h (j + 1) r
 -- THE WORDS OF A LIST ARE THE FLAT FORM OF ITS DAY
 module _ (states counts spans list : List ℕ) (i r : ℕ) (xs ps cs vs : List ℕ) (N n : ℕ) (P : List Piece)
     (flat-states : part xs 0 N ≡ statesFrom states counts list i r) (flat-spans : part ps 0 N ≡ spansFrom counts spans list i r)
-    (tiles : Tiles (shown 65536 (strokesFrom xs ps 0 N)) 0 1440 P) (counted : n ≡ length P) (size : n ≤ length vs)
+    (tiles : Tiles (shown closedNumber (strokesFrom xs ps 0 N)) 0 1440 P) (counted : n ≡ length P) (size : n ≤ length vs)
     (laid-cuts : part cs 0 (suc n) ≡ map pieceStart P ++ 1440 ∷ []) (laid-cells : part vs 0 n ≡ map pieceState P) where
   abbrev strokes : List ℕ
   strokes = strokesFrom xs ps 0 N
@@ -109,28 +109,28 @@ module _ (states counts spans list : List ℕ) (i r : ℕ) (xs ps cs vs : List �
   paints = ap painting whole ∙ sym (strokes-paint xs ps 0 N)
 
   same-intervals : intervalsAt cs 0 n ≡ map pieceRange P
-  same-intervals = sym (between-part cs 0 n) ∙ ap between laid-cuts ∙ tiles-between (shown 65536 strokes) 0 1440 P tiles
+  same-intervals = sym (between-part cs 0 n) ∙ ap between laid-cuts ∙ tiles-between (shown closedNumber strokes) 0 1440 P tiles
 
   climbs : (k : ℕ) → k < n → getD cs k 0 < getD cs (k + 1) 0
-  climbs k h = rising-climbs cs 0 0 n (subst (Rising 0) (sym same-intervals) (tiles-rise (shown 65536 strokes) 0 1440 P tiles)) k (omega arith) (omega arith)
+  climbs k h = rising-climbs cs 0 0 n (subst (Rising 0) (sym same-intervals) (tiles-rise (shown closedNumber strokes) 0 1440 P tiles)) k (omega arith) (omega arith)
 
-  cells : part vs 0 n ≡ map (shown 65536 strokes) (part cs 0 n)
+  cells : part vs 0 n ≡ map (shown closedNumber strokes) (part cs 0 n)
   cells =
-      laid-cells ∙ tiles-shown (shown 65536 strokes) 0 1440 P tiles
-      ∙ ap (map (shown 65536 strokes)) (sym (part-front cs 0 n (map pieceStart P) 1440 laid-cuts (counted ∙ sym (length-map P pieceStart))))
+      laid-cells ∙ tiles-shown (shown closedNumber strokes) 0 1440 P tiles
+      ∙ ap (map (shown closedNumber strokes)) (sym (part-front cs 0 n (map pieceStart P) 1440 laid-cuts (counted ∙ sym (length-map P pieceStart))))
 
-  means : (m : ℕ) → painted ys (m ∷ []) ≡ stateCoded (shown 65536 strokes m)
-  means m = sym (shown-mean 65536 strokes m ∙ (unfold stateCoded in refl))
+  means : (m : ℕ) → painted ys (m ∷ []) ≡ stateCoded (shown closedNumber strokes m)
+  means m = sym (shown-mean closedNumber strokes m ∙ (unfold stateCoded in refl))
 
   shows : Agree cs (λ is. painted ys (starts is)) vs 0 n
-  shows k l h = means (getD cs k 0) ∙ ap stateCoded (sym (part-at vs cs (shown 65536 strokes) 0 n cells k l h))
+  shows k l h = means (getD cs k 0) ∙ ap stateCoded (sym (part-at vs cs (shown closedNumber strokes) 0 n cells k l h))
 
   painted-words : classesWords cs n 1 vs 5 ≡ flat (paintedEntries ys)
   unfolding paintedEntries upFrom
   painted-words =
       classes-mean cs n climbs 5 1 vs (λ is. painted ys (starts is)) (omega arith) size shows
       ∙ ap (λ D. flat (map asEntry (map asJoined (groups sameState sameRange closed stateClasses (D ∷ []) (λ is. painted ys (starts is)))))) same-intervals
-      ∙ ap (λ G. flat (map asEntry G)) (sym (groups-pieces (shown 65536 strokes) P tiles (painted ys) means))
+      ∙ ap (λ G. flat (map asEntry G)) (sym (groups-pieces (shown closedNumber strokes) P tiles (painted ys) means))
 
   pub day-words : classesWords cs n 1 vs 5 ++ groupWords xs ps 0 N ≡ flat (day (listRules states counts spans list i r))
   unfolding day dayOf

@@ -1,4 +1,4 @@
--- Every span and every state that a sheet can carry has a number of its own. Rests on the layouts' tests.
+-- What a sheet carries of a rule's spans; and every span that it can carry has a number of its own. Rests on the layouts' tests.
 use mathlib.Core.Path.{_≡_}
 use mathlib.Core.Option.{Option, none, some}
 use mathlib.Core.Bool.{true, _&&_}
@@ -8,9 +8,9 @@ use lib.Dec.{leb, ltb}
 use borrow.Author.Tests.{ltb-true}
 use Rattle.laws.proofs.Flags.{split-and}
 use Rattle.definition.specs.Field.{Layout, field, _then_, via, tagged}
-use Rattle.definition.specs.Rule.{operatorNumber, kindNumber, Time, fixed, variable, Span, repeatsKey, Rule}
-use Rattle.definition.specs.Sheet.{form1, limits1, timeOf, time, repeatsOf, repeatsLayout, span, flagBit, headOf, bodyOf, Title, title, counts, head, body, rule}
-use Rattle.codes.specs.Number.{NumberedState, timeNumber, NumberedTime, Numbered}
+use Rattle.definition.specs.Rule.{Time, fixed, variable, Span, repeatsKey}
+use Rattle.definition.specs.Sheet.{timeOf, time, repeatsOf, repeatsLayout, span, flagBit}
+use Rattle.codes.specs.Number.{timeNumber, NumberedTime, Numbered}
 use Rattle.codes.specs.Carried.{CarriedTime, CarriedSpan}
 
 pub time-carried : (t : Time) → time .fits t ≡ true → CarriedTime t
@@ -53,19 +53,3 @@ span-numbered x h = record {
   early = time-below (x .end) (h .ends);
   few = h .few;
 }
-
-title-comment : (t : Title) → (title form1 limits1) .fits t ≡ true → t .1 .1 < 65536
-unfolding title via _then_ field
-title-comment t f =
-    let operator = ltb (operatorNumber (t .0)) 4 && ltb (operatorNumber (t .0)) 3 in
-    let kind = ltb (kindNumber (t .1 .0)) 4 && ltb (kindNumber (t .1 .0)) 3 in
-    let comment = ltb (t .1 .1) 65536 && true in
-    let k = split-and kind comment (split-and operator (kind && comment) f .1) .1 in
-    ltb-true (t .1 .1) 65536 (split-and (ltb (t .1 .1) 65536) true k .0)
-
-pub state-numbered : (r : Rule) → (rule form1 limits1) .fits r ≡ true → NumberedState (r .state)
-unfolding rule tagged via head _then_
-state-numbered r f =
-    let h = headOf r in
-    let k = split-and ((head form1 limits1) .fits h) ((body form1 limits1 (h .1)) .fits (bodyOf r)) f .0 in
-    title-comment (h .0) (split-and ((title form1 limits1) .fits (h .0)) ((counts form1 limits1) .fits (h .1)) k .0)

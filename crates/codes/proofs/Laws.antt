@@ -1,16 +1,14 @@
--- The code's tests on numbers are the definition's: when a span is simple, when it can't overlap with the next day, and a state's kind and
--- class.
+-- The code's tests on numbers are the definition's: when a span is simple, when it can't overlap with the next day, and a state's class.
 use mathlib.Core.Path.{_≡_, refl, sym, ap, ap₂, _∙_}
 use mathlib.Core.Bool.{Bool, true, false, _&&_, not, cond}
-use Prim.Native.Nat.{ℕ, _-_, _/_, _%_, _≤_, _<_}
+use Prim.Native.Nat.{ℕ, _/_, _%_, _≤_, _<_}
 use native.Mathlib.Omega.{arith}
 use lib.Dec.{eqb, leb, ltb}
 use borrow.Author.Tests.{ltb-true, ltb-false, leb-true, lt-ltb, le-ltb, eqb-true, eqb-false, eq-eqb, ne-eqb}
 use Rattle.laws.proofs.Flags.{not-true, split-and, and-true, and-false}
-use Rattle.definition.specs.Rule.{kindNumber}
 use Rattle.definition.specs.Day.{simple, noRepeats, fixedWithinDay, stateClass}
 use Rattle.definition.specs.Stop.{staysToday, spanStops}
-use Rattle.codes.specs.Number.{stateCoded, timeAt, repeatsAt, spanAt}
+use Rattle.codes.specs.Number.{stateCoded, closedNumber, timeAt, repeatsAt, spanAt}
 
 -- ## Spans
 too-late : (b : ℕ) → 262144 ≤ b → leb b 1440 ≡ false
@@ -96,39 +94,28 @@ simple-bounds n h =
     (ltb-true (n / 8589934592) (n / 16384 % 524288) (b .0), leb-true (n / 16384 % 524288) 1440 (b .1), eqb-true (n % 16384) 0 (a .1))
 
 -- ## States
-pub open-class : (n : ℕ) → 1 ≤ n → n < 65536 → 2 ≡ stateClass (stateCoded n)
+-- commented states
+pub open-class : (n : ℕ) → 3 ≤ n → n % 3 ≡ 0 → 2 ≡ stateClass (stateCoded n)
 unfolding stateCoded
-open-class n h k = rw (lt-ltb n 65536 k, ne-eqb n 0 (omega arith))
+open-class n h k = rw (k, ne-eqb (n / 3) 0 (omega arith))
 
-pub closed-class : (n : ℕ) → 65537 ≤ n → n < 131072 → 5 ≡ stateClass (stateCoded n)
+pub closed-class : (n : ℕ) → 3 ≤ n → n % 3 ≡ 1 → 5 ≡ stateClass (stateCoded n)
 unfolding stateCoded
-closed-class n h k = rw (le-ltb n 65536 (omega arith), lt-ltb n 131072 k, ne-eqb (n - 65536) 0 (omega arith))
+closed-class n h k = rw (k, ne-eqb (n / 3) 0 (omega arith))
 
-pub unknown-class : (n : ℕ) → 131073 ≤ n → 4 ≡ stateClass (stateCoded n)
+pub unknown-class : (n : ℕ) → 3 ≤ n → n % 3 ≡ 2 → 4 ≡ stateClass (stateCoded n)
 unfolding stateCoded
-unknown-class n h = rw (le-ltb n 65536 (omega arith), le-ltb n 131072 (omega arith), ne-eqb (n - 131072) 0 (omega arith))
+unknown-class n h k = rw (k, ne-eqb (n / 3) 0 (omega arith))
 
 -- plain states
 pub plain-open : (n : ℕ) → n ≡ 0 → 1 ≡ stateClass (stateCoded n)
 unfolding stateCoded
 plain-open n e = rw e
 
-pub plain-closed : (n : ℕ) → n ≡ 65536 → 0 ≡ stateClass (stateCoded n)
+pub plain-closed : (n : ℕ) → n ≡ closedNumber → 0 ≡ stateClass (stateCoded n)
 unfolding stateCoded
 plain-closed n e = rw e
 
-pub plain-unknown : (n : ℕ) → n ≡ 131072 → 3 ≡ stateClass (stateCoded n)
+pub plain-unknown : (n : ℕ) → n ≡ 2 → 3 ≡ stateClass (stateCoded n)
 unfolding stateCoded
 plain-unknown n e = rw e
-
-pub open-kind : (n : ℕ) → n < 65536 → 0 ≡ kindNumber ((stateCoded n) .kind)
-unfolding stateCoded
-open-kind n h = rw (lt-ltb n 65536 h)
-
-pub closed-kind : (n : ℕ) → 65536 ≤ n → n < 131072 → 1 ≡ kindNumber ((stateCoded n) .kind)
-unfolding stateCoded
-closed-kind n h k = rw (le-ltb n 65536 h, lt-ltb n 131072 k)
-
-pub unknown-kind : (n : ℕ) → 131072 ≤ n → 2 ≡ kindNumber ((stateCoded n) .kind)
-unfolding stateCoded
-unknown-kind n h = rw (le-ltb n 65536 (omega arith), le-ltb n 131072 h)

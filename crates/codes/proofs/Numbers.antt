@@ -8,37 +8,43 @@ use native.Mathlib.Omega.{arith}
 use lib.Dec.{eqb, leb, ltb}
 use borrow.Author.Tests.{ltb-true, ltb-false, lt-ltb, le-ltb, eqb-true, eqb-false, eq-eqb, ne-eqb}
 use Rattle.laws.proofs.Flags.{same-flag, bit-flag}
-use Rattle.definition.specs.Rule.{Kind, Open, Closed, Unknown, State, sameState, Time, fixed, variable, Span, bySize, timeKey, repeatsKey, spanKey, notAbove}
+use Rattle.definition.specs.Rule.{Kind, Open, Closed, Unknown, kindNumber, kindOf, State, sameState, Time, fixed, variable, Span, bySize, timeKey, repeatsKey, spanKey, notAbove}
 use Rattle.definition.proofs.Same.{exact-state}
-use Rattle.codes.specs.Number.{stateNumber, stateCoded, NumberedState, timeNumber, timeAt, NumberedTime, partsNumber, spanNumber, repeatsAt, spanAt, Numbered}
+use Rattle.codes.specs.Number.{stateNumber, stateCoded, timeNumber, timeAt, NumberedTime, partsNumber, spanNumber, repeatsAt, spanAt, Numbered}
 use Rattle.codes.proofs.Digits.{digit-step, not-above}
 
 -- ## States
+kind-below : (k : Kind) → kindNumber k < 3
+kind-below Open = omega arith
+kind-below Closed = omega arith
+kind-below Unknown = omega arith
+
+kind-back : (k : Kind) → kindOf (kindNumber k) ≡ k
+kind-back Open = refl
+kind-back Closed = refl
+kind-back Unknown = refl
+
+-- the kind is the lowest digit
+pub kind-number : (n : ℕ) → kindNumber (stateCoded n .kind) ≡ n % 3
+unfolding stateCoded
+kind-number n = go (eqb (n % 3) 0) refl (eqb (n % 3) 1) refl
+  where
+    go : (s : Bool) → eqb (n % 3) 0 ≡ s → (t : Bool) → eqb (n % 3) 1 ≡ t → kindNumber (stateCoded n .kind) ≡ n % 3
+    go true p t q = rw p (sym (eqb-true (n % 3) 0 p))
+    go false p true q = rw (p, q) (sym (eqb-true (n % 3) 1 q))
+    go false p false q = rw (p, q) (omega (arith, eqb-false (n % 3) 0 p, eqb-false (n % 3) 1 q))
+
 pub state-number : (n : ℕ) → stateNumber (stateCoded n) ≡ n
 unfolding stateNumber stateCoded
-state-number n = go (ltb n 65536) refl (ltb n 131072) refl
-  where
-    go : (s : Bool) → ltb n 65536 ≡ s → (t : Bool) → ltb n 131072 ≡ t → stateNumber (stateCoded n) ≡ n
-    go true p t q = rw p (omega arith)
-    go false p true q = rw (p, q) (omega (arith, ltb-false n 65536 p))
-    go false p false q = rw (p, q) (omega (arith, ltb-false n 131072 q))
+state-number n = omega (arith, kind-number n)
 
-pub number-state : (S : State) → NumberedState S → stateCoded (stateNumber S) ≡ S
+pub number-state : (S : State) → stateCoded (stateNumber S) ≡ S
 unfolding stateNumber stateCoded
-number-state S h = go (S .kind) refl
-  where
-    go : (k : Kind) → S .kind ≡ k → stateCoded (stateNumber S) ≡ S
-    go Open e =
-        let c : 0 * 65536 + S .comment ≡ S .comment = omega arith in
-        rw (e, lt-ltb (0 * 65536 + S .comment) 65536 (omega arith)) (λ i. record { kind = Open; comment = c i })
-    go Closed e =
-        let c : 1 * 65536 + S .comment - 65536 ≡ S .comment = omega arith in
-        rw (e, le-ltb (1 * 65536 + S .comment) 65536 (omega arith), lt-ltb (1 * 65536 + S .comment) 131072 (omega arith))
-        (λ i. record { kind = Closed; comment = c i })
-    go Unknown e =
-        let c : 2 * 65536 + S .comment - 131072 ≡ S .comment = omega arith in
-        rw (e, le-ltb (2 * 65536 + S .comment) 65536 (omega arith), le-ltb (2 * 65536 + S .comment) 131072 (omega arith))
-        (λ i. record { kind = Unknown; comment = c i })
+number-state S =
+    let below = kind-below (S .kind) in
+    let kind : (S .comment * 3 + kindNumber (S .kind)) % 3 ≡ kindNumber (S .kind) = omega arith in
+    let comment : (S .comment * 3 + kindNumber (S .kind)) / 3 ≡ S .comment = omega arith in
+    λ i. record { kind = (ap kindOf kind ∙ kind-back (S .kind)) i; comment = comment i }
 
 -- equal numbers, equal states
 pub same-states : (m n : ℕ) → sameState (stateCoded m) (stateCoded n) ≡ eqb m n

@@ -1,7 +1,7 @@
 -- What the numbers of a rule's operator and kind stand for, one lemma for each case that the code tells apart.
 use mathlib.Core.Path.{_≡_, refl}
 use mathlib.Core.Bool.{Bool, true, false, cond}
-use Prim.Native.Nat.{ℕ, _+_}
+use Prim.Native.Nat.{ℕ, _+_, _*_}
 use native.Mathlib.Omega.{arith}
 use lib.Dec.{eqb}
 use borrow.Author.Tests.{eq-eqb, ne-eqb}
@@ -26,15 +26,16 @@ other-kind k f = rw (ne-eqb k 1 f) (go (eqb k 0))
     go true = refl
     go false = refl
 
-module _ (k c : ℕ) where
-  pub state-open : k ≡ 0 → c ≡ stateNumber (stateOf (kindOf k) c)
+-- a state's number n, from the numbers of its kind k and its comment c
+module _ (k c n : ℕ) where
+  pub state-open : k ≡ 0 → n ≡ c * 3 → n ≡ stateNumber (stateOf (kindOf k) c)
   unfolding stateNumber
-  state-open e = rw (eq-eqb k 0 e) (omega arith)
+  state-open e h = rw (eq-eqb k 0 e) (omega arith)
 
-  pub state-closed : k ≡ 1 → 65536 + c ≡ stateNumber (stateOf (kindOf k) c)
+  pub state-closed : k ≡ 1 → n ≡ c * 3 + 1 → n ≡ stateNumber (stateOf (kindOf k) c)
   unfolding stateNumber
-  state-closed e = rw (ne-eqb k 0 (λ z. omega arith), eq-eqb k 1 e) (omega arith)
+  state-closed e h = rw (ne-eqb k 0 (λ z. omega arith), eq-eqb k 1 e) (omega arith)
 
-  pub state-unknown : (k ≡ 0 → ⊥) → (k ≡ 1 → ⊥) → 131072 + c ≡ stateNumber (stateOf (kindOf k) c)
+  pub state-unknown : (k ≡ 0 → ⊥) → (k ≡ 1 → ⊥) → n ≡ c * 3 + 2 → n ≡ stateNumber (stateOf (kindOf k) c)
   unfolding stateNumber
-  state-unknown e f = rw (ne-eqb k 0 e, ne-eqb k 1 f) (omega arith)
+  state-unknown e f h = rw (ne-eqb k 0 e, ne-eqb k 1 f) (omega arith)

@@ -7,22 +7,23 @@ use mathlib.Core.Option.{Option, none, some}
 use mathlib.Core.Bool.{cond}
 use Prim.Native.Nat.{ℕ, _+_, _*_, _-_, _/_, _%_, _<_}
 use lib.Dec.{eqb, ltb}
-use Rattle.definition.specs.Rule.{Kind, Open, Closed, Unknown, kindNumber, State, Time, fixed, variable, Span, bySize, repeatsKey}
+use Rattle.definition.specs.Rule.{Kind, kindNumber, kindOf, State, Time, fixed, variable, Span, bySize, repeatsKey}
 
 -- ## States
--- kind and comment; plain Closed is 65536
+-- the kind is the lowest digit and the comment all above it, so that every state has a number of its own, however many comments there are;
+-- plain Open, Closed and Unknown are 0, 1 and 2
 unfoldable pub stateNumber : State → ℕ
-stateNumber S = kindNumber (S .kind) * 65536 + S .comment
+stateNumber S = S .comment * 3 + kindNumber (S .kind)
 
 abbrev pub stateOf : Kind → ℕ → State
 stateOf k c = record { kind = k; comment = c }
 
 unfoldable pub stateCoded : ℕ → State
-stateCoded n = cond (ltb n 65536) (stateOf Open n) (cond (ltb n 131072) (stateOf Closed (n - 65536)) (stateOf Unknown (n - 131072)))
+stateCoded n = stateOf (kindOf (n % 3)) (n / 3)
 
--- the states that have a number of their own: every one that a sheet can carry
-abbrev pub NumberedState : State → Type 0
-NumberedState S = S .comment < 65536
+-- plain Closed
+abbrev pub closedNumber : ℕ
+closedNumber = 1
 
 -- ## Times
 unfoldable pub timeNumber : Time → ℕ

@@ -12,7 +12,7 @@ ghost use Rattle.definition.specs.Stop.{spanStops};
 ghost use Rattle.codes.specs.Number.{stateCoded, timeNumber, partsNumber, spanAt};
 
 // A state is one number; this one is plain Closed.
-pub const CLOSED: u64 = 65536;
+pub const CLOSED: u64 = 1;
 
 // ## Times
 
@@ -86,11 +86,13 @@ pub fn state_class(state: u64) -> u8
 {
     match state {
         0 => 1,
-        1..=65535 => 2,
-        65536 => 0,
-        65537..=131071 => 5,
-        131072 => 3,
-        _ => 4,
+        CLOSED => 0,
+        2 => 3,
+        _ => match state % 3 {
+            0 => 2,
+            1 => 5,
+            _ => 4,
+        },
     }
 }
 
@@ -98,9 +100,12 @@ pub fn state_class(state: u64) -> u8
 pub fn kind_of(state: u64) -> u8
     ensures { λ r. ⌜ r ≡ kindNumber (stateCoded state .kind) ⌝ }
 {
-    match state {
-        0..=65535 => 0,
-        65536..=131071 => 1,
-        _ => 2,
-    }
+    (state % 3) as u8
+}
+
+// The comment of a state.
+pub fn comment_of(state: u64) -> u64
+    ensures { λ r. ⌜ r ≡ stateCoded state .comment ⌝ }
+{
+    state / 3
 }

@@ -1,7 +1,7 @@
 // What a rule's title says, as numbers: whether the rule is a Fallback, whether it replaces a list, and its state.
 ghost use mathlib.Core.Path.{_≡_};
 ghost use mathlib.Core.Bool.{_&&_, not, cond};
-ghost use Prim.Native.Nat.{_<_};
+ghost use Prim.Native.Nat.{_<_, _^_};
 ghost use Rattle.definition.specs.Rule.{operatorOf, kindOf};
 ghost use Rattle.definition.specs.Stop.{isFallback};
 ghost use Rattle.definition.specs.Point.{isNormal, isClosed};
@@ -28,14 +28,15 @@ pub fn replace_number(operator: u64, kind: u64) -> u8
     }
 }
 
+// The number of a state, from its kind and its comment.
 pub fn state_number(kind: u64, comment: u64) -> u32
-    requires { ⌜ comment < 65536 ⌝ }
+    requires { ⌜ comment < 2 ^ 24 ⌝ }
     ensures { λ r. ⌜ r ≡ stateNumber (stateOf (kindOf kind) comment) ⌝ }
 {
-    let narrow = comment as u32;
+    let commented = comment as u32 * 3;
     match kind {
-        0 => narrow,
-        1 => 65536 + narrow,
-        _ => 131072 + narrow,
+        0 => commented,
+        1 => commented + 1,
+        _ => commented + 2,
     }
 }

@@ -11,7 +11,7 @@ use Rattle.definition.specs.Rule.{kindNumber, Span}
 use Rattle.definition.specs.Day.{Entry, Day}
 use Rattle.definition.specs.Group.{dayClass}
 use Rattle.codes.specs.Number.{stateCoded}
-use Rattle.codes.proofs.Laws.{open-kind, closed-kind, unknown-kind}
+use Rattle.codes.proofs.Numbers.{kind-number}
 use Rattle.words.specs.Words.{part}
 use Rattle.words.proofs.Sets.{left-none}
 use Rattle.day_flat.specs.Day.{unflatFrom, unflat, ofKind}
@@ -107,30 +107,29 @@ module _ (e : Entry) (d : Day) where
   unfolding dayClass every
   entry-unknown q = rw q
 
-module _ (words : List ℕ) (n : ℕ) (some : n ≡ 0 → ⊥) where
+-- k is the kind of the first entry
+module _ (words : List ℕ) (n : ℕ) (some : n ≡ 0 → ⊥) (k : ℕ) (e : k ≡ kindNumber (stateCoded (getD words 0 0) .kind)) where
   -- whatever holds of every day that begins with the first word's state
   first-day : (P : Day → Type 0) → ((spans : List Span) (d : Day) → P ((stateCoded (getD words 0 0), spans) ∷ d)) → P (unflat (part words 0 n))
   first-day P h = let z : n - 0 ≡ n = omega arith in subst (λ r. P (unflat (part words 0 r))) z (first words 0 n P (omega arith) h)
 
-  pub class-closed : 65536 ≤ getD words 0 0 → getD words 0 0 < 131072 → 5 ≡ dayClass (unflat (part words 0 n))
-  class-closed h l = first-day (λ d. 5 ≡ dayClass d) (λ spans d. entry-closed (stateCoded (getD words 0 0), spans) d (sym (closed-kind (getD words 0 0) h l)))
+  pub class-closed : k ≡ 1 → 5 ≡ dayClass (unflat (part words 0 n))
+  class-closed q = first-day (λ d. 5 ≡ dayClass d) (λ spans d. entry-closed (stateCoded (getD words 0 0), spans) d (sym e ∙ q))
 
-  module _ (k : ℕ) (e : k ≡ kindNumber (stateCoded (getD words 0 0) .kind)) (alike : Bool) (l : alike ≡ every (ofKind k) (unflat (part words 0 (n - 0))))
-      (v : Bool) (f : alike ≡ v) where
-    told : (j : ℕ) → j ≡ kindNumber (stateCoded (getD words 0 0) .kind) → every (ofKind j) (unflat (part words 0 n)) ≡ v
-    told j q = let z : n - 0 ≡ n = omega arith in ap₂ (λ i r. every (ofKind i) (unflat (part words 0 r))) (q ∙ sym e) (sym z) ∙ sym l ∙ f
+  module _ (alike : Bool) (l : alike ≡ every (ofKind k) (unflat (part words 0 (n - 0)))) (v : Bool) (f : alike ≡ v) where
+    told : (j : ℕ) → k ≡ j → every (ofKind j) (unflat (part words 0 n)) ≡ v
+    told j q = let z : n - 0 ≡ n = omega arith in ap₂ (λ i r. every (ofKind i) (unflat (part words 0 r))) (sym q) (sym z) ∙ sym l ∙ f
 
-    pub class-open : getD words 0 0 < 65536 → cond v 1 2 ≡ dayClass (unflat (part words 0 n))
-    class-open h =
-        let q = open-kind (getD words 0 0) h in
+    pub class-open : k ≡ 0 → cond v 1 2 ≡ dayClass (unflat (part words 0 n))
+    class-open q =
         ap (λ b. cond b 1 2) (sym (told 0 q))
-        ∙ first-day (λ d. cond (every (ofKind 0) d) 1 2 ≡ dayClass d) (λ spans d. entry-open (stateCoded (getD words 0 0), spans) d (sym q))
+        ∙ first-day (λ d. cond (every (ofKind 0) d) 1 2 ≡ dayClass d) (λ spans d. entry-open (stateCoded (getD words 0 0), spans) d (sym e ∙ q))
 
-    pub class-unknown : 131072 ≤ getD words 0 0 → cond v 3 4 ≡ dayClass (unflat (part words 0 n))
-    class-unknown h =
-        let q = unknown-kind (getD words 0 0) h in
+    pub class-unknown : (k ≡ 0 → ⊥) → (k ≡ 1 → ⊥) → cond v 3 4 ≡ dayClass (unflat (part words 0 n))
+    class-unknown o c =
+        let q : k ≡ 2 = omega (arith, e, kind-number (getD words 0 0)) in
         ap (λ b. cond b 3 4) (sym (told 2 q))
-        ∙ first-day (λ d. cond (every (ofKind 2) d) 3 4 ≡ dayClass d) (λ spans d. entry-unknown (stateCoded (getD words 0 0), spans) d (sym q))
+        ∙ first-day (λ d. cond (every (ofKind 2) d) 3 4 ≡ dayClass d) (λ spans d. entry-unknown (stateCoded (getD words 0 0), spans) d (sym e ∙ q))
 
 pub class-none : (words : List ℕ) (n : ℕ) → n ≡ 0 → 0 ≡ dayClass (unflat (part words 0 n))
 unfolding dayClass part unflatFrom

@@ -1,5 +1,5 @@
--- FLAT FORMS TELL DAYS APART: a day is read back from its flat form, if its states and spans have numbers of their own. Rests on the
--- numbers of states and spans.
+-- FLAT FORMS TELL DAYS APART: a day is read back from its flat form, if its spans have numbers of their own. Rests on the numbers of states
+-- and spans.
 use mathlib.Core.Path.{_≡_, refl, sym, ap, ap₂, _∙_}
 use mathlib.Core.List.{List, [], _∷_, _++_, map}
 use Prim.Native.Nat.{ℕ, zero}
@@ -8,6 +8,7 @@ use Rattle.laws.specs.Lists.{All}
 use Rattle.definition.specs.Rule.{Span}
 use Rattle.definition.specs.Day.{Day}
 use Rattle.codes.specs.Number.{spanNumber, spanAt}
+use Rattle.codes.proofs.Numbers.{number-state}
 use Rattle.words.specs.Words.{entryWords}
 use Rattle.day_flat.specs.Day.{flat, unflatFrom, unflat, OwnSpan, OwnNumbers}
 
@@ -30,13 +31,13 @@ after-spans (w ∷ ws) rest = λ i. (spanAt w ∷ after-spans ws rest i .0, afte
 pub unflat-flat : (d : Day) → OwnNumbers d → unflat (flat d) ≡ d
 unfolding flat unflatFrom entryWords
 unflat-flat [] h = refl
-unflat-flat (e ∷ d) h = let back : unflat (flat d) ≡ d = unflat-flat d (h .1) in λ i. (h .0 .0 i, spans i) ∷ (rest ∙ back) i
+unflat-flat (e ∷ d) h = let back : unflat (flat d) ≡ d = unflat-flat d (h .1) in λ i. (number-state (e .0) i, spans i) ∷ (rest ∙ back) i
   where
     read : unflatFrom (length (map spanNumber (e .1))) (map spanNumber (e .1) ++ flat d) ≡ (map spanAt (map spanNumber (e .1)), unflat (flat d))
     read = after-spans (map spanNumber (e .1)) (flat d)
 
     spans : unflatFrom (length (map spanNumber (e .1))) (map spanNumber (e .1) ++ flat d) .0 ≡ e .1
-    spans = ap (λ r. r .0) read ∙ spans-back (e .1) (h .0 .1)
+    spans = ap (λ r. r .0) read ∙ spans-back (e .1) (h .0)
 
     rest : unflatFrom (length (map spanNumber (e .1))) (map spanNumber (e .1) ++ flat d) .1 ≡ unflat (flat d)
     rest = ap (λ r. r .1) read

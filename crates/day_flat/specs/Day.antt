@@ -7,7 +7,7 @@ use Prim.Native.Nat.{ℕ, zero, suc, _+_, _*_, _%_}
 use lib.Dec.{eqb}
 use lib.ListN.{getD}
 use Rattle.laws.specs.Lists.{All}
-use Rattle.definition.specs.Rule.{Normal, kindNumber, State, Span, Rule}
+use Rattle.definition.specs.Rule.{Normal, kindNumber, Span, Rule}
 use Rattle.definition.specs.Day.{Stated, Entry, Day}
 use Rattle.definition.specs.Group.{asRule}
 use Rattle.codes.specs.Number.{stateNumber, stateCoded, spanNumber, spanAt}
@@ -28,15 +28,12 @@ unflatFrom (suc k) (w ∷ ws) = let r = unflatFrom k ws in (spanAt w ∷ r .0, r
 abbrev pub unflat : List ℕ → Day
 unflat ws = unflatFrom 0 ws .1
 
--- a day whose states and spans have numbers of their own
-abbrev pub OwnState : State → Type 0
-OwnState S = stateCoded (stateNumber S) ≡ S
-
+-- a day whose spans have numbers of their own, as every state has
 abbrev pub OwnSpan : Span → Type 0
 OwnSpan s = spanAt (spanNumber s) ≡ s
 
 abbrev pub OwnNumbers : Day → Type 0
-OwnNumbers = All (λ e. OwnState (e .0) × All OwnSpan (e .1))
+OwnNumbers = All (λ e. All OwnSpan (e .1))
 
 -- an entry of the kind with this number
 abbrev pub ofKind : ℕ → Entry → Bool

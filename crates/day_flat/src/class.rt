@@ -38,11 +38,11 @@ pub fn day_class(words: &[u64], n: usize) -> u8
     if n == 0 {
         return 0;
     }
-    let first = words[0];
-    let alike = all_of_kind(words, kind_of(first), 0, n);
-    match first {
-        0..=65535 => if alike { 1 } else { 2 },
-        65536..=131071 => 5,
+    let kind = kind_of(words[0]);
+    let alike = all_of_kind(words, kind, 0, n);
+    match kind {
+        0 => if alike { 1 } else { 2 },
+        1 => 5,
         _ => if alike { 3 } else { 4 },
     }
 }

@@ -7,6 +7,7 @@ use native.Mathlib.Omega.{arith}
 use lib.Dec.{leb, ltb}
 use lib.ListN.{getD}
 use borrow.Author.Tests.{lt-ltb, le-ltb, le-leb, lt-leb, ltb-true, ltb-false}
+use Rattle.codes.specs.Number.{closedNumber}
 use Rattle.words.specs.Words.{part}
 use Rattle.day_paint.specs.Stroke.{strokeStart, strokeEnd, strokeState, strokeOver, shown}
 use Rattle.day_paint.specs.Piece.{Piece, pieceStart, pieceEnd, pieceState, meetsFrom, meetsUpTo, meets, pieces}
@@ -59,10 +60,10 @@ over-after x m S h = go (leb (strokeStart x) m) refl
 
 module _ (q : List ℕ) where
   abbrev at : ℕ → ℕ → ℕ
-  at i m = shown 65536 (part q 0 i) m
+  at i m = shown closedNumber (part q 0 i) m
 
   more : (i m : ℕ) → at (suc i) m ≡ strokeOver (getD q i 0) m (at i m)
-  more i m = let z : 0 + i ≡ i = omega arith in shown-last q 65536 m 0 i ∙ ap (λ k. strokeOver (getD q k 0) m (at i m)) z
+  more i m = let z : 0 + i ≡ i = omega arith in shown-last q closedNumber m 0 i ∙ ap (λ k. strokeOver (getD q k 0) m (at i m)) z
 
   -- THE PIECES OF A RANGE
   pub pieces-tile : (i a b : ℕ) → a ≤ b → Tiles (at i) a b (pieces q i a b)

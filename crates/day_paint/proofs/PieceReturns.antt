@@ -7,6 +7,7 @@ use native.Mathlib.Omega.{arith}
 use lib.ListN.{length, getD, set, length-append, length-map}
 use lib.Seq.{sets}
 use Rattle.laws.proofs.Stores.{sets-append}
+use Rattle.codes.specs.Number.{closedNumber}
 use Rattle.words.proofs.Sets.{sets-next}
 use Rattle.day_paint.specs.Stroke.{strokeState, strokeStart, strokeEnd}
 use Rattle.day_paint.specs.Piece.{Piece, pieceStart, pieceState, earlier, meetsUpTo, meets, lastMeeting, pieces, dayPieces}
@@ -78,14 +79,14 @@ module _ (q : List ℕ) (i a b k : ℕ) (cs₀ vs₀ : List ℕ) (below m place 
 
     -- none does
     module _ (none : j ≡ 0) (h : m < b) where
-      bare : pieces q below m b ≡ (m, b, 65536) ∷ []
+      bare : pieces q below m b ≡ (m, b, closedNumber) ∷ []
       bare = same ∙ ap (λ n. pieces q n m b) none ∙ pieces-bare q m b h
 
       pub bare-room : (place < length cs) × (place < length vs)
       bare-room = (omega (arith, on .room, ap length bare), omega (arith, on .room, ap length bare))
 
-      pub bare-laid : (cs₁ vs₁ : List ℕ) (r : ℕ) → Laid cs vs place cs₁ vs₁ r ((m, b, 65536) ∷ []) → Laid cs₀ vs₀ k cs₁ vs₁ r (pieces q i a b)
-      bare-laid = done ((m, b, 65536) ∷ []) bare
+      pub bare-laid : (cs₁ vs₁ : List ℕ) (r : ℕ) → Laid cs vs place cs₁ vs₁ r ((m, b, closedNumber) ∷ []) → Laid cs₀ vs₀ k cs₁ vs₁ r (pieces q i a b)
+      bare-laid = done ((m, b, closedNumber) ∷ []) bare
 
     module _ (some : j ≡ 0 → ⊥) (s : ℕ) (es : s ≡ strokeStart (getD q (j - 1) 0)) where
       met : meets (getD q (j - 1) 0) m b ≡ true

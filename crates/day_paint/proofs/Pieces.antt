@@ -7,6 +7,7 @@ use native.Mathlib.Omega.{arith}
 use lib.Dec.{ltb}
 use lib.ListN.{length, getD, length-append}
 use borrow.Author.Tests.{lt-ltb, le-ltb, ltb-true, ltb-false}
+use Rattle.codes.specs.Number.{closedNumber}
 use Rattle.day_paint.specs.Stroke.{strokeStart, strokeEnd, strokeState}
 use Rattle.day_paint.specs.Piece.{Piece, earlier, meetsFrom, meetsUpTo, meets, lastMeeting, paintedOver, pieces}
 use Rattle.day_paint.proofs.Meeting.{later-up, later-own, earlier-down, later-bound, earlier-bound, meets-true, meets-at, meets-none}
@@ -28,7 +29,7 @@ module _ (q : List ℕ) where
   pieces-none zero a b h = rw (le-ltb a b h)
   pieces-none (suc i) a b h = step-over i a b (meets-none (getD q i 0) a b h) ∙ pieces-none i a b h
 
-  pub pieces-bare : (a b : ℕ) → a < b → pieces q 0 a b ≡ (a, b, 65536) ∷ []
+  pub pieces-bare : (a b : ℕ) → a < b → pieces q 0 a b ≡ (a, b, closedNumber) ∷ []
   unfolding pieces
   pieces-bare a b h = rw (lt-ltb a b h)
 

@@ -5,6 +5,7 @@ use mathlib.Core.Bool.{Bool, true, false, cond}
 use Prim.Native.Nat.{ℕ, zero, suc}
 use lib.Dec.{ltb}
 use lib.ListN.{getD}
+use Rattle.codes.specs.Number.{closedNumber}
 use Rattle.day_paint.specs.Stroke.{strokeStart, strokeEnd, strokeState}
 
 -- from a minute up to another, excluded, with a state
@@ -50,7 +51,7 @@ paintedOver x before a b = elim (meets x a b) [
 
 -- the pieces of a range under the first i strokes; what none covers is plain Closed
 unfoldable pub pieces : List ℕ → ℕ → ℕ → ℕ → List Piece
-pieces strokes zero a b = cond (ltb a b) ((a, b, 65536) ∷ []) []
+pieces strokes zero a b = cond (ltb a b) ((a, b, closedNumber) ∷ []) []
 pieces strokes (suc i) a b = paintedOver (getD strokes i 0) (pieces strokes i) a b
 
 -- the pieces of a whole day

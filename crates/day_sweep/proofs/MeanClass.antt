@@ -18,7 +18,7 @@ use Rattle.grid.proofs.Steps.{sweep-unroll}
 use Rattle.definition.specs.Rule.{State, closed, sameState}
 use Rattle.definition.specs.Day.{stateClass, plainSpan, asEntry}
 use Rattle.definition.proofs.Same.{exact-state}
-use Rattle.codes.specs.Number.{stateNumber, stateCoded, timeNumber, spanNumber}
+use Rattle.codes.specs.Number.{stateNumber, stateCoded, closedNumber, timeNumber, spanNumber}
 use Rattle.codes.proofs.Numbers.{state-number, same-states}
 use Rattle.words.specs.Words.{entryWords}
 use Rattle.day_sweep.specs.Row.{runsFrom, clearFrom, isOfClass, classWords, classLeft}
@@ -178,7 +178,7 @@ module _ (cs : List ℕ) (n : ℕ) (climbs : (k : ℕ) → k < n → getD cs k 0
         ∙ ap₂ (λ u v. cond (sameState u v) closed u) (a k l m) value ∙ ap (λ b. cond b closed (stateCoded (getD vs k 0))) (same-states (getD vs k 0) (getD vs j 0))
         ∙ go (eqb (getD vs k 0) (getD vs j 0)) ∙ ap stateCoded (sym (clear-at vs (getD vs j 0) j (suc r) k size l m))
       where
-        go : (b : Bool) → cond b closed (stateCoded (getD vs k 0)) ≡ stateCoded (cond b 65536 (getD vs k 0))
+        go : (b : Bool) → cond b closed (stateCoded (getD vs k 0)) ≡ stateCoded (cond b closedNumber (getD vs k 0))
         go true = unfold stateCoded in refl
         go false = refl
 

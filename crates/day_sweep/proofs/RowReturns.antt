@@ -12,7 +12,7 @@ use Rattle.laws.specs.Lists.{every}
 use Rattle.laws.proofs.Flags.{split-and}
 use Rattle.laws.proofs.Stores.{sets-append}
 use Rattle.definition.specs.Day.{stateClass}
-use Rattle.codes.specs.Number.{stateCoded, partsNumber}
+use Rattle.codes.specs.Number.{stateCoded, closedNumber, partsNumber}
 use Rattle.words.specs.Words.{part, entryWords}
 use Rattle.day_sweep.specs.Row.{classLimit, wordLimit, entryLimit, runUpTo, runsFrom, clearFrom, isOfClass, classWords, classLeft, classesWords, allClosed}
 use Rattle.words.proofs.Sets.{Laid, none-laid, left-in, left-none, part-sets, length-part}
@@ -69,7 +69,7 @@ module _ (cs vs : List ℕ) (S n : ℕ) (s₀ : List ℕ) (a j : ℕ) where
 
 -- ## Emptying
 module _ (vs : List ℕ) (S j n : ℕ) where
-  pub clear-hit : j < n → getD vs j 0 ≡ S → clearFrom (set vs j 65536) S (j + 1) (n - (j + 1)) ≡ clearFrom vs S j (n - j)
+  pub clear-hit : j < n → getD vs j 0 ≡ S → clearFrom (set vs j closedNumber) S (j + 1) (n - (j + 1)) ≡ clearFrom vs S j (n - j)
   unfolding clearFrom
   clear-hit h e = sym (ap (clearFrom vs S j) (left-in j n h) ∙ rw (eq-eqb (getD vs j 0) S e, clearFrom))
 
@@ -189,9 +189,9 @@ module _ (cs vs₀ : List ℕ) (n : ℕ) (s₀ b₀ : List ℕ) (class place : �
   unfolding classWords classLeft isOfClass stateCoded every part
   no-words c pos j zero h = (refl, refl)
   no-words c pos j (suc r) h =
-      let both = split-and (eqb 65536 (getD vs j 0)) (allClosed vs (j + 1) r) h in
+      let both = split-and (eqb closedNumber (getD vs j 0)) (allClosed vs (j + 1) r) h in
       let e : isOfClass c (getD vs j 0) ≡ false =
-      ap (λ v. eqb (stateClass (stateCoded v)) c) (sym (eqb-true 65536 (getD vs j 0) (both .0))) ∙ ne-eqb 0 c (omega arith) in
+      ap (λ v. eqb (stateClass (stateCoded v)) c) (sym (eqb-true closedNumber (getD vs j 0) (both .0))) ∙ ne-eqb 0 c (omega arith) in
       let later = no-words c pos (j + 1) r (both .1) in (rw (e, classWords) (later .0), rw (e, classLeft) (later .1))
 
   no-classes : allClosed vs 0 n ≡ true → (k c : ℕ) → 1 ≤ c → classesWords cs n c vs k ≡ []
@@ -220,15 +220,15 @@ pub closed-start : (vs : List ℕ) (n : ℕ) → allClosed vs 0 (n - 0) ≡ allC
 closed-start vs n = let z : n - 0 ≡ n = omega arith in ap (allClosed vs 0) z
 
 module _ (vs : List ℕ) (i n : ℕ) where
-  next : i < n → allClosed vs i (n - i) ≡ eqb 65536 (getD vs i 0) && allClosed vs (i + 1) (n - (i + 1))
+  next : i < n → allClosed vs i (n - i) ≡ eqb closedNumber (getD vs i 0) && allClosed vs (i + 1) (n - (i + 1))
   unfolding every part
   next h = ap (allClosed vs i) (left-in i n h)
 
-  pub closed-on : i < n → getD vs i 0 ≡ 65536 → allClosed vs (i + 1) (n - (i + 1)) ≡ allClosed vs i (n - i)
-  closed-on h e = sym (rw (eq-eqb 65536 (getD vs i 0) (sym e)) at next h)
+  pub closed-on : i < n → getD vs i 0 ≡ closedNumber → allClosed vs (i + 1) (n - (i + 1)) ≡ allClosed vs i (n - i)
+  closed-on h e = sym (rw (eq-eqb closedNumber (getD vs i 0) (sym e)) at next h)
 
-  pub closed-not : i < n → (getD vs i 0 ≡ 65536 → ⊥) → false ≡ allClosed vs i (n - i)
-  closed-not h e = sym (rw (ne-eqb 65536 (getD vs i 0) (λ q. e (sym q))) at next h)
+  pub closed-not : i < n → (getD vs i 0 ≡ closedNumber → ⊥) → false ≡ allClosed vs i (n - i)
+  closed-not h e = sym (rw (ne-eqb closedNumber (getD vs i 0) (λ q. e (sym q))) at next h)
 
   pub closed-end : n ≤ i → true ≡ allClosed vs i (n - i)
   unfolding every part

@@ -6,7 +6,7 @@ use lib.Dec.{eqb, ltb}
 use lib.ListN.{getD, set}
 use Rattle.laws.specs.Lists.{every}
 use Rattle.definition.specs.Day.{stateClass}
-use Rattle.codes.specs.Number.{stateCoded, partsNumber}
+use Rattle.codes.specs.Number.{stateCoded, closedNumber, partsNumber}
 use Rattle.words.specs.Words.{part, entryWords}
 
 -- ## Bounds
@@ -46,7 +46,7 @@ runsFrom cuts cells S a j (suc r) = elim (eqb (getD cells j 0) S) [
 -- the cells with a state emptied
 unfoldable pub clearFrom : List ℕ → ℕ → ℕ → ℕ → List ℕ
 clearFrom cells S j zero = cells
-clearFrom cells S j (suc r) = clearFrom (cond (eqb (getD cells j 0) S) (set cells j 65536) cells) S (j + 1) r
+clearFrom cells S j (suc r) = clearFrom (cond (eqb (getD cells j 0) S) (set cells j closedNumber) cells) S (j + 1) r
 
 unfoldable pub isOfClass : ℕ → ℕ → Bool
 isOfClass c S = eqb (stateClass (stateCoded S)) c
@@ -70,4 +70,4 @@ classesWords cuts n c cells (suc k) = classWords cuts c cells 0 n ++ classesWord
 
 -- whether n cells from j on are all plain Closed: then there is nothing to sweep
 abbrev pub allClosed : List ℕ → ℕ → ℕ → Bool
-allClosed cells j n = every (eqb 65536) (part cells j n)
+allClosed cells j n = every (eqb closedNumber) (part cells j n)

@@ -1,14 +1,14 @@
--- A day in words, entry by entry: the first entry's state, count and spans, and the day behind them. Rests on the numbers of states.
+-- A day in words, entry by entry: the first entry's state, count and spans, and the day behind them.
 use mathlib.Core.Path.{_≡_, refl, sym, ap, ap₂, _∙_, subst}
 use mathlib.Core.List.{List, [], _∷_, _++_, map}
-use Prim.Native.Nat.{ℕ, zero, suc, _+_, _-_, _*_, _≤_, _<_, _^_}
+use Prim.Native.Nat.{ℕ, zero, suc, _+_, _-_, _≤_, _<_, _^_}
 use native.Mathlib.Omega.{arith}
 use lib.ListN.{length, drop, getD}
 use Rattle.laws.specs.Lists.{All}
-use Rattle.definition.specs.Rule.{Kind, Open, Closed, Unknown, kindNumber, Span}
+use Rattle.definition.specs.Rule.{Span}
+use Rattle.definition.specs.Sheet.{Form}
 use Rattle.definition.specs.Day.{Day}
-use Rattle.codes.specs.Number.{stateNumber, stateCoded, spanNumber, spanAt}
-use Rattle.codes.proofs.Numbers.{state-number}
+use Rattle.codes.specs.Number.{stateCoded, spanNumber, spanAt}
 use Rattle.words.specs.Words.{part, entryWords}
 use Rattle.words.proofs.Sets.{part-taken}
 use Rattle.day_flat.specs.Day.{flat, unflatFrom, unflat}
@@ -51,35 +51,21 @@ spans-read words at (suc m) (suc n) h =
     let b : n - m ≡ suc n - suc m = omega arith in
     λ i. (spanAt (getD words at 0) ∷ k i .0, (ap (λ r. r .1) k ∙ ap₂ (dayIn words) a b) i)
 
--- ## States
-kind-below : (k : Kind) → kindNumber k < 3
-kind-below Open = omega arith
-kind-below Closed = omega arith
-kind-below Unknown = omega arith
-
-state-below : (n : ℕ) → stateCoded n .comment < 65536 → n < 196608
-unfolding stateNumber
-state-below n h =
-    let k : kindNumber (stateCoded n .kind) * 65536 + stateCoded n .comment ≡ n = state-number n in
-    omega (arith, h, k, kind-below (stateCoded n .kind))
-
 -- ## The first entry
 -- what stands where a day in words goes on
-pub record Step (words : List ℕ) (at n many : ℕ) : Type 0 where
+pub record Step (form : Form) (words : List ℕ) (at n many : ℕ) : Type 0 where
   pub within : 2 + many ≤ n
   pub few : many < 2 ^ 10
-  pub state : getD words at 0 < 196608
-  pub first : Carried (stateCoded (getD words at 0), spansAt words (at + 2) many)
+  pub first : Carried form (stateCoded (getD words at 0), spansAt words (at + 2) many)
   pub entry : dayIn words at n ≡ (stateCoded (getD words at 0), spansAt words (at + 2) many) ∷ dayIn words (at + 2 + many) (n - 2 - many)
-  pub behind : Whole words (at + 2 + many) (n - 2 - many)
+  pub behind : Whole form words (at + 2 + many) (n - 2 - many)
 
-module _ (words : List ℕ) (at : ℕ) where
-  two-words : (n : ℕ) → Whole words at (suc (suc n)) → Step words at (suc (suc n)) (getD words (at + 1) 0)
+module _ (form : Form) (words : List ℕ) (at : ℕ) where
+  two-words : (n : ℕ) → Whole form words at (suc (suc n)) → Step form words at (suc (suc n)) (getD words (at + 1) 0)
   unfolding part unflatFrom flat entryWords spansAt
   two-words n w = record {
     within = omega (arith, fits);
     few = omega (arith, each .0 .few, spans-length words (at + 2) many reached);
-    state = state-below (getD words at 0) (each .0 .stated);
     first = each .0;
     entry = entry;
     behind = record { inside = omega (arith, w .inside, fits); flatly = back; carried = each .1 };
@@ -125,14 +111,14 @@ module _ (words : List ℕ) (at : ℕ) where
       entry : dayIn words at (suc (suc n)) ≡ (stateCoded (getD words at 0), spansAt words (at + 2) many) ∷ dayIn words (at + 2 + many) (suc (suc n) - 2 - many)
       entry = λ i. (stateCoded (getD words at 0), spans i) ∷ day i
 
-      each : Carried (stateCoded (getD words at 0), spansAt words (at + 2) many) × All Carried (dayIn words (at + 2 + many) (suc (suc n) - 2 - many))
-      each = subst (All Carried) entry (w .carried)
+      each : Carried form (stateCoded (getD words at 0), spansAt words (at + 2) many) × All (Carried form) (dayIn words (at + 2 + many) (suc (suc n) - 2 - many))
+      each = subst (All (Carried form)) entry (w .carried)
 
       back : part words (at + 2 + many) (suc (suc n) - 2 - many) ≡ flat (dayIn words (at + 2 + many) (suc (suc n) - 2 - many))
       back = sym (ap₂ (part words) next left) ∙ ap (λ k. part words (at + 1 + 1 + k) (n - k)) counted ∙ split .0 ∙ ap flat day
 
-  pub step : (n many : ℕ) → (n ≡ 0 → ⊥) → many ≡ getD words (at + 1) 0 → Whole words at n → Step words at n many
+  pub step : (n many : ℕ) → (n ≡ 0 → ⊥) → many ≡ getD words (at + 1) 0 → Whole form words at n → Step form words at n many
   unfolding part unflatFrom flat entryWords
   step zero many some e w = absurd (some refl)
   step (suc zero) many some e w = absurd (let z : 1 ≡ 2 = ap length (w .flatly) in omega (arith, z))
-  step (suc (suc n)) many some e w = subst (Step words at (suc (suc n))) (sym e) (two-words n w)
+  step (suc (suc n)) many some e w = subst (Step form words at (suc (suc n))) (sym e) (two-words n w)

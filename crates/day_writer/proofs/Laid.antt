@@ -7,6 +7,7 @@ use native.Mathlib.Omega.{arith}
 use lib.ListN.{length, getD, length-append}
 use Rattle.grid.specs.Cut.{Range}
 use Rattle.definition.specs.Rule.{Normal, Additional, Rule}
+use Rattle.definition.specs.Sheet.{Form}
 use Rattle.definition.specs.Range.{Ends}
 use Rattle.definition.specs.Point.{dimensions}
 use Rattle.definition.specs.Day.{Day}
@@ -42,7 +43,7 @@ day-laid Rs d = each (asRules d)
     each (r ∷ rs) = ap₂ _∷_ (sym (over-laid dimensions Rs r)) (each rs)
 
 -- ## In words
-module _ (operator : ℕ) (ends counts words : List ℕ) (at n : ℕ) where
+module _ (form : Form) (operator : ℕ) (ends counts words : List ℕ) (at n : ℕ) where
   abbrev entered : List Rule
   entered = entryRules operator (rowsBelow ends counts 4) (dayIn words at n)
 
@@ -50,21 +51,21 @@ module _ (operator : ℕ) (ends counts words : List ℕ) (at n : ℕ) where
   unfolding entryRules part unflatFrom
   no-entries e = ap (λ k. entryRules operator (rowsBelow ends counts 4) (dayIn words at k)) e
 
-  pub no-bits : n ≡ 0 → rulesBits entered ≡ []
+  pub no-bits : n ≡ 0 → rulesBits form entered ≡ []
   unfolding flatMap
-  no-bits e = ap rulesBits (no-entries e)
+  no-bits e = ap (rulesBits form) (no-entries e)
 
-  pub no-size : n ≡ 0 → (length entered ≡ 0) × (length (rulesBits entered) ≡ 0)
+  pub no-size : n ≡ 0 → (length entered ≡ 0) × (length (rulesBits form entered) ≡ 0)
   no-size e = (ap length (no-entries e), ap length (no-bits e))
 
-  module _ (many : ℕ) (s : Step words at n many) where
+  module _ (many : ℕ) (s : Step form words at n many) where
     -- the rules behind the first
     abbrev later : List Rule
     later = entryRules 1 (rowsBelow ends counts 4) (dayIn words (at + 2 + many) (n - 2 - many))
 
-    pub entries-bits : rulesBits entered ≡ ruleBits operator (getD words at 0) ends counts (spansAt words (at + 2) many) ++ rulesBits later
+    pub entries-bits : rulesBits form entered ≡ ruleBits form operator (getD words at 0) ends counts (spansAt words (at + 2) many) ++ rulesBits form later
     unfolding entryRules flatMap
-    entries-bits = ap (λ d. rulesBits (entryRules operator (rowsBelow ends counts 4) d)) (s .entry)
+    entries-bits = ap (λ d. rulesBits form (entryRules operator (rowsBelow ends counts 4) d)) (s .entry)
 
     pub entries-count : (rules : ℕ) → length later ≡ rules → length entered ≡ rules + 1
     unfolding entryRules
@@ -72,9 +73,9 @@ module _ (operator : ℕ) (ends counts words : List ℕ) (at n : ℕ) where
         let more : length entered ≡ suc (length later) = ap (λ d. length (entryRules operator (rowsBelow ends counts 4) d)) (s .entry) in
         omega (arith, more, e)
 
-    pub entries-size : (first behind : ℕ) → length (ruleBits operator (getD words at 0) ends counts (spansAt words (at + 2) many)) ≡ first
-        → length (rulesBits later) ≡ behind
-        → length (rulesBits entered) ≡ first + behind
+    pub entries-size : (first behind : ℕ) → length (ruleBits form operator (getD words at 0) ends counts (spansAt words (at + 2) many)) ≡ first
+        → length (rulesBits form later) ≡ behind
+        → length (rulesBits form entered) ≡ first + behind
     entries-size first behind e f =
         ap length entries-bits
-        ∙ omega (arith, length-append (ruleBits operator (getD words at 0) ends counts (spansAt words (at + 2) many)) (rulesBits later), e, f)
+        ∙ omega (arith, length-append (ruleBits form operator (getD words at 0) ends counts (spansAt words (at + 2) many)) (rulesBits form later), e, f)

@@ -7,7 +7,7 @@ use lib.ListN.{length}
 use Rattle.laws.specs.Lists.{All}
 use Rattle.definition.specs.Rule.{operatorOf, Rule}
 use Rattle.definition.specs.Range.{Ends}
-use Rattle.definition.specs.Sheet.{form1, limits1, rule}
+use Rattle.definition.specs.Sheet.{Form, limits1, rule}
 use Rattle.definition.specs.Point.{dimensions}
 use Rattle.definition.specs.Day.{Day}
 use Rattle.definition.specs.Group.{asRule}
@@ -25,16 +25,16 @@ unfoldable pub entryRules : ℕ → List (List Ends) → Day → List Rule
 entryRules operator E [] = []
 entryRules operator E (e ∷ d) = overItems dimensions E (asRule (operatorOf operator) e) ∷ entryRules 1 E d
 
--- rules one behind the other, as bits
-abbrev pub rulesBits : List Rule → List ℕ
-rulesBits rs = flatMap (rule form1 limits1 .write) rs
+-- rules one behind the other, as the bits of a form
+abbrev pub rulesBits : Form → List Rule → List ℕ
+rulesBits form rs = flatMap (rule form limits1 .write) rs
 
 -- the day in so many words from a place on
 abbrev pub dayIn : List ℕ → ℕ → ℕ → Day
 dayIn words at n = unflat (part words at n)
 
--- these words are a whole number of entries, and a sheet can carry each
-pub record Whole (words : List ℕ) (at n : ℕ) : Type 0 where
+-- these words are a whole number of entries, and a sheet of the form can carry each
+pub record Whole (form : Form) (words : List ℕ) (at n : ℕ) : Type 0 where
   pub inside : at + n ≤ length words
   pub flatly : part words at n ≡ flat (dayIn words at n)
-  pub carried : All Carried (dayIn words at n)
+  pub carried : All (Carried form) (dayIn words at n)

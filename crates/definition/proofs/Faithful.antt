@@ -46,6 +46,18 @@ stand-append bs cs s p q e a b = record {
   stands = a .stands ∙ ap (bs ++_) (b .stands) ∙ sym (append-assoc bs cs (drop e s));
 }
 
+-- bits that stand as two parts: each part stands; and bits that stand can be taken out
+pub stand-parts : (bs cs s : List ℕ) (p q : ℕ) → Stand (bs ++ cs) s p q → Stand bs s p (p + length bs) × Stand cs s (p + length bs) q
+stand-parts bs cs s p q a =
+    let rest = a .stands ∙ append-assoc bs cs (drop q s) in
+    let behind = sym (drop-drop (length bs) p s) ∙ ap (drop (length bs)) rest ∙ drop-at bs (cs ++ drop q s) (length bs) refl in (
+      record { ends = refl; stands = rest ∙ ap (bs ++_) (sym behind) },
+      record { ends = omega (arith, a .ends, length-append bs cs); stands = behind },
+    )
+
+pub stand-taken : (bs s : List ℕ) (p q n : ℕ) → Stand bs s p q → n ≡ length bs → take n (drop p s) ≡ bs
+stand-taken bs s p q n a e = ap (take n) (a .stands) ∙ take-at bs (drop q s) n (sym e)
+
 -- a reading that begins within the bits ends within them
 pub read-within : {A : Type 0} {P : A → Type 0} {L : Layout A} → Faithful P L → (s : List ℕ) → Bits s → (p : ℕ) (x : A) (q : ℕ) → p ≤ length s
     → L .read s p ≡ got x q → q ≤ length s

@@ -13,9 +13,9 @@ use Rattle.laws.proofs.Lists.{All-map, All-image, every-all}
 use Rattle.laws.proofs.Spread.{flatMap-all}
 use Rattle.grid.specs.Cut.{Range, holds}
 use Rattle.grid.proofs.Cut.{Inside, holds-in}
-use Rattle.definition.specs.Field.{Layout, field, counted, _then_, via, tagged, several}
+use Rattle.definition.specs.Field.{Layout, field, _then_, via, tagged, several}
 use Rattle.definition.specs.Rule.{weekdayBounds, weekBounds, monthBounds, yearBounds, YearRange, MonthdayRange, months, monthsOf, dated, WeekRange, WeekDayRange, fixedDays, holiday, Rule}
-use Rattle.definition.specs.Sheet.{Form, Limits, yearRange, monthdayOf, monthdayRange, weekRange, weekdayOf, weekDayRange, span, body, head, headOf, rule, rules}
+use Rattle.definition.specs.Sheet.{Form, Limits, yearRange, monthdayOf, monthdayRange, weekRange, weekdayOf, weekDayRange, span, body, head, headOf, rule, opening, rules}
 use Rattle.definition.specs.Range.{Ends, split, ranges}
 use Rattle.definition.specs.Point.{Dimension, weekdayDimension, weekDimension, monthDimension, yearDimension, dimensions, monthEnds, weekdayEnds}
 
@@ -147,7 +147,7 @@ module _ (form : Form) (limits : Limits) where
   unfolding rules tagged
   rules-each rs f =
       several-fits (rule form limits) (length rs) rs
-      (split-and ((counted (form .ruleCount) (limits .rules)) .fits (length rs)) ((several (length rs) (rule form limits)) .fits rs) f .1) .1
+      (split-and ((opening form limits) .fits (length rs)) ((several (length rs) (rule form limits)) .fits rs) f .1) .1
 
   pub rules-lawful : (rs : List Rule) → (rules form limits) .fits rs ≡ true → All Lawful rs
   rules-lawful rs f = every-all Lawful ((rule form limits) .fits) rule-lawful rs (rules-each rs f)

@@ -6,11 +6,11 @@ use mathlib.Core.Option.{none}
 use mathlib.Core.Bool.{Bool, true, false}
 use Prim.Native.Nat.{ℕ, zero, suc, _+_, _*_, _%_, _^_, _≤_}
 use native.Mathlib.Omega.{arith}
-use lib.Dec.{eqb}
+use lib.Dec.{eqb, leb}
 use lib.ListN.{length}
 use borrow.Author.Tests.{leb-true}
 use Rattle.definition.specs.Field.{got, Layout, noBits}
-use Rattle.definition.specs.Sheet.{yearRange, monthsLayout, monthsOfLayout, monthdayOf, monthdayRange, weekRange, holidayLayout, weekdayOf, weekDayRange, fixedLayout, timeOf, time, repeatsOf, repeatsLayout, span, form1, limits1, Counts, Title, Head, title, counts, head, body, rule}
+use Rattle.definition.specs.Sheet.{yearRange, monthsLayout, monthsOfLayout, monthdayOf, monthdayRange, weekRange, holidayLayout, weekdayOf, weekDayRange, fixedLayout, timeOf, time, repeatsOf, repeatsLayout, span, Form, limits1, openingWidth, titleWidth, headWidth, Counts, Title, Head, title, counts, head, body, rule, opening}
 use Rattle.definition.specs.Text.{digits}
 use Rattle.definition.proofs.Reading.{then-parts, via-parts, tagged-parts, field-passed, Short, field-end, field-short, none-short, then-short, via-short, tagged-short, several-short}
 
@@ -80,72 +80,88 @@ span-short = via-short _ _ _ 52
     (then-short _ _ 19 33 time-short
     (then-short _ _ 19 14 time-short (then-short _ _ 1 13 (field-short _ _ 1) (tagged-short _ _ _ 1 12 (field-short _ _ 1) repeats-body))))
 
--- ## How far a rule goes
--- counts keep their limit, and take fifty bits
-pub counts-low : (s : List ℕ) (p : ℕ) (n : Counts) (q : ℕ) → (counts form1 limits1) .read s p ≡ got n q
-    → (n .0 ≤ limits1 .items) × (n .1 .0 ≤ limits1 .items) × (n .1 .1 .0 ≤ limits1 .items) × (n .1 .1 .1 .0 ≤ limits1 .items) ×
-    (n .1 .1 .1 .1 ≤ limits1 .spans) × (q ≡ p + 50)
-unfolding counts
-counts-low s p n q e =
-    let y = then-parts _ _ s p n q e in
-    let m = then-parts _ _ s (y .0) (n .1) q (y .2) in
-    let w = then-parts _ _ s (m .0) (n .1 .1) q (m .2) in
-    let d = then-parts _ _ s (w .0) (n .1 .1 .1) q (w .2) in (
-      leb-true _ _ (field-passed _ _ _ s p _ _ (y .1)),
-      leb-true _ _ (field-passed _ _ _ s (y .0) _ _ (m .1)),
-      leb-true _ _ (field-passed _ _ _ s (m .0) _ _ (w .1)),
-      leb-true _ _ (field-passed _ _ _ s (w .0) _ _ (d .1)),
-      leb-true _ _ (field-passed _ _ _ s (d .0) _ _ (d .2)),
+-- ## How far a sheet's opening and a rule go
+module _ (form : Form) where
+  -- a rule count keeps its limit, and the opening takes the bits of mark and count
+  pub opening-low : (s : List ℕ) (p n q : ℕ) → (opening form limits1) .read s p ≡ got n q → (n ≤ limits1 .rules) × (q ≡ p + openingWidth form)
+  unfolding opening
+  opening-low s p n q e =
+      let v = via-parts _ _ _ s p n q e in
+      let k = then-parts _ _ s p (v .0) q (v .1) in (
+        omega (arith, v .2, leb-true (v .0 .1) 64 (field-passed _ (λ n. leb n 64) _ s (k .0) (v .0 .1) q (k .2))),
+        omega (arith, field-end _ _ (form .markWidth) s p (v .0 .0) (k .0) (k .1), field-end _ _ (form .ruleCount) s (k .0) (v .0 .1) q (k .2)),
+      )
+
+  -- counts keep their limit, and take as many bits as five of them
+  pub counts-low : (s : List ℕ) (p : ℕ) (n : Counts) (q : ℕ) → (counts form limits1) .read s p ≡ got n q
+      → (n .0 ≤ limits1 .items) × (n .1 .0 ≤ limits1 .items) × (n .1 .1 .0 ≤ limits1 .items) × (n .1 .1 .1 .0 ≤ limits1 .items) ×
+      (n .1 .1 .1 .1 ≤ limits1 .spans) × (q ≡ p + 5 * form .itemCount)
+  unfolding counts
+  counts-low s p n q e =
+      let w = form .itemCount in
+      let y = then-parts _ _ s p n q e in
+      let m = then-parts _ _ s (y .0) (n .1) q (y .2) in
+      let k = then-parts _ _ s (m .0) (n .1 .1) q (m .2) in
+      let d = then-parts _ _ s (k .0) (n .1 .1 .1) q (k .2) in (
+        leb-true _ _ (field-passed _ _ _ s p _ _ (y .1)),
+        leb-true _ _ (field-passed _ _ _ s (y .0) _ _ (m .1)),
+        leb-true _ _ (field-passed _ _ _ s (m .0) _ _ (k .1)),
+        leb-true _ _ (field-passed _ _ _ s (k .0) _ _ (d .1)),
+        leb-true _ _ (field-passed _ _ _ s (d .0) _ _ (d .2)),
+        omega (
+          arith,
+          field-end _ _ w s p (n .0) (y .0) (y .1),
+          field-end _ _ w s (y .0) (n .1 .0) (m .0) (m .1),
+          field-end _ _ w s (m .0) (n .1 .1 .0) (k .0) (k .1),
+          field-end _ _ w s (k .0) (n .1 .1 .1 .0) (d .0) (d .1),
+          field-end _ _ w s (d .0) (n .1 .1 .1 .1) q (d .2),
+        ),
+      )
+
+  pub title-end : (s : List ℕ) (p : ℕ) (t : Title) (q : ℕ) → (title form limits1) .read s p ≡ got t q → q ≡ p + titleWidth form
+  unfolding title
+  title-end s p t q e =
+      let o = then-parts _ _ s p t q e in
+      let k = then-parts _ _ s (o .0) (t .1) q (o .2) in
+      let a = via-parts _ _ _ s p _ _ (o .1) in
+      let b = via-parts _ _ _ s (o .0) _ _ (k .1) in
       omega (
         arith,
-        field-end _ _ 10 s p (n .0) (y .0) (y .1),
-        field-end _ _ 10 s (y .0) (n .1 .0) (m .0) (m .1),
-        field-end _ _ 10 s (m .0) (n .1 .1 .0) (w .0) (w .1),
-        field-end _ _ 10 s (w .0) (n .1 .1 .1 .0) (d .0) (d .1),
-        field-end _ _ 10 s (d .0) (n .1 .1 .1 .1) q (d .2),
-      ),
-    )
+        field-end _ _ 2 s p (a .0) (o .0) (a .1),
+        field-end _ _ 2 s (o .0) (b .0) (k .0) (b .1),
+        field-end _ _ (form .comment) s (k .0) (t .1 .1) q (k .2),
+      )
 
--- a title takes twenty
-pub title-end : (s : List ℕ) (p : ℕ) (t : Title) (q : ℕ) → (title form1 limits1) .read s p ≡ got t q → q ≡ p + 20
-unfolding title
-title-end s p t q e =
-    let o = then-parts _ _ s p t q e in
-    let k = then-parts _ _ s (o .0) (t .1) q (o .2) in
-    let a = via-parts _ _ _ s p _ _ (o .1) in
-    let b = via-parts _ _ _ s (o .0) _ _ (k .1) in
-    omega (arith, field-end _ _ 2 s p (a .0) (o .0) (a .1), field-end _ _ 2 s (o .0) (b .0) (k .0) (b .1), field-end _ _ 16 s (k .0) (t .1 .1) q (k .2))
+  body-short : (n : Counts) → Short (body n) (n .0 * 44 + (n .1 .0 * 34 + (n .1 .1 .0 * 20 + (n .1 .1 .1 .0 * 33 + n .1 .1 .1 .1 * 52))))
+  unfolding body
+  body-short n =
+      then-short _ _ _ _ (several-short _ 44 years-short (n .0)) (then-short _ _ _ _ (several-short _ 34 monthdays-short (n .1 .0))
+      (then-short _ _ _ _ (several-short _ 20 weeks-short (n .1 .1 .0))
+      (then-short _ _ _ _ (several-short _ 33 weekdays-short (n .1 .1 .1 .0)) (several-short _ 52 span-short (n .1 .1 .1 .1)))))
 
-body-short : (n : Counts) → Short (body form1 limits1 n) (n .0 * 44 + (n .1 .0 * 34 + (n .1 .1 .0 * 20 + (n .1 .1 .1 .0 * 33 + n .1 .1 .1 .1 * 52))))
-unfolding body
-body-short n =
-    then-short _ _ _ _ (several-short _ 44 years-short (n .0)) (then-short _ _ _ _ (several-short _ 34 monthdays-short (n .1 .0))
-    (then-short _ _ _ _ (several-short _ 20 weeks-short (n .1 .1 .0))
-    (then-short _ _ _ _ (several-short _ 33 weekdays-short (n .1 .1 .1 .0)) (several-short _ 52 span-short (n .1 .1 .1 .1)))))
+  pub head-parts : (s : List ℕ) (p : ℕ) (h : Head) (q : ℕ) → (head form limits1) .read s p ≡ got h q
+      → (j : ℕ) × ((title form limits1) .read s p ≡ got (h .0) j) × ((counts form limits1) .read s j ≡ got (h .1) q)
+  unfolding head
+  head-parts s p h q e = then-parts _ _ s p h q e
 
-pub head-parts : (s : List ℕ) (p : ℕ) (h : Head) (q : ℕ) → (head form1 limits1) .read s p ≡ got h q
-    → (j : ℕ) × ((title form1 limits1) .read s p ≡ got (h .0) j) × ((counts form1 limits1) .read s j ≡ got (h .1) q)
-unfolding head
-head-parts s p h q e = then-parts _ _ s p h q e
-
--- "16 items of each sort, 16 spans": 70 bits of head, then 183 bits sixteen times
-pub rule-short : Short (rule form1 limits1) 2998
-unfolding rule
-rule-short s p r q e =
-    let w = tagged-parts _ _ _ s p r q e in
-    let k = head-parts s p (w .0) (w .1) (w .2) in
-    let low = counts-low s (k .0) (w .0 .1) (w .1) (k .2) in
-    omega (
-      arith,
-      title-end s p (w .0 .0) (k .0) (k .1),
-      low .0,
-      low .1,
-      low .2,
-      low .3,
-      low .4,
-      low .5,
-      via-short _ _ _ _ (body-short (w .0 .1)) s (w .1) r q (w .3),
-    )
+  -- "16 items of each sort, 16 spans": the head, then 183 bits sixteen times
+  pub rule-short : Short (rule form limits1) (headWidth form + 2928)
+  unfolding rule
+  rule-short s p r q e =
+      let w = tagged-parts _ _ _ s p r q e in
+      let k = head-parts s p (w .0) (w .1) (w .2) in
+      let low = counts-low s (k .0) (w .0 .1) (w .1) (k .2) in
+      omega (
+        arith,
+        title-end s p (w .0 .0) (k .0) (k .1),
+        low .0,
+        low .1,
+        low .2,
+        low .3,
+        low .4,
+        low .5,
+        via-short _ _ _ _ (body-short (w .0 .1)) s (w .1) r q (w .3),
+      )
 
 -- ## Digits
 pub length-digits : (w v : ℕ) → length (digits w v) ≡ w

@@ -8,6 +8,7 @@ pub mod SheetRead
 pub mod Same
 pub mod DayBox
 pub mod Lawful
+pub mod Carried
 pub mod Overlap
 pub mod Once
 pub mod Points
@@ -18,6 +19,7 @@ pub mod Groups
 pub mod Spans
 pub mod Counts
 pub mod RuleCounts
+pub mod OtherForm
 pub mod PaintedShows
 pub mod DayShows
 pub mod DaySize
@@ -27,6 +29,7 @@ pub mod Writing
 pub mod Worked
 pub mod WorkedLines
 pub mod WorkedDates
+pub mod WorkedForms
 pub mod Drained
 pub mod Why
 pub mod FoldCases

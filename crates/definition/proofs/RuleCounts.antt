@@ -14,9 +14,9 @@ use Rattle.laws.proofs.Flags.{split-and}
 use Rattle.laws.proofs.Lists.{All-map, All-map₂, All-append, every-all}
 use Rattle.laws.proofs.Spread.{flatMap-all, flatMap-length}
 use Rattle.grid.specs.Cut.{Range}
-use Rattle.definition.specs.Field.{got, field, lawful, counted, _then_, tagged, several}
+use Rattle.definition.specs.Field.{got, field, lawful, counted, _then_, via, tagged, several}
 use Rattle.definition.specs.Rule.{Operator, Normal, Additional, Rule}
-use Rattle.definition.specs.Sheet.{Form, Limits, form1, limits1, title, counts, head, headOf, rule, rules, decode}
+use Rattle.definition.specs.Sheet.{Form, Limits, form1, form2, limits1, title, counts, head, headOf, rule, opening, rules, decode}
 use Rattle.definition.specs.Range.{Ends}
 use Rattle.definition.specs.Stop.{stops, drained, left}
 use Rattle.definition.specs.Point.{Dimension, weekdayDimension, weekDimension, monthDimension, yearDimension, dimensions}
@@ -131,6 +131,9 @@ pub record Roomy (form : Form) (limits : Limits) : Type 0 where
 pub roomy1 : Roomy form1 limits1
 roomy1 = omega arith
 
+pub roomy2 : Roomy form2 limits1
+roomy2 = omega arith
+
 pub record CountsFit (form : Form) (rs : List Rule) : Type 0 where
   pub rule-count : length rs < 2 ^ form .ruleCount
   pub item-counts : All (Sized (2 ^ form .itemCount - 1) (2 ^ form .itemCount - 1)) rs
@@ -168,11 +171,12 @@ module _ (form : Form) (limits : Limits) where
         count-fits (limits .spans) (length (r .spans)) (kd .1) .1,
       )
 
-  rule-count-fits : (rs : List Rule) → (rules form limits) .fits rs ≡ true → length rs ≤ limits .rules
-  unfolding rules tagged field
+  pub rule-count-fits : (rs : List Rule) → (rules form limits) .fits rs ≡ true → length rs ≤ limits .rules
+  unfolding rules tagged opening via _then_ field
   rule-count-fits rs f =
-      let k = split-and (ltb (length rs) (2 ^ form .ruleCount) && leb (length rs) (limits .rules)) ((several (length rs) (rule form limits)) .fits rs) f .0 in
-      leb-true (length rs) (limits .rules) (split-and (ltb (length rs) (2 ^ form .ruleCount)) (leb (length rs) (limits .rules)) k .1)
+      let k = split-and ((opening form limits) .fits (length rs)) ((several (length rs) (rule form limits)) .fits rs) f .0 in
+      let n = split-and (ltb (form .mark) (2 ^ form .markWidth) && eqb (form .mark) (form .mark)) _ k .1 in
+      leb-true (length rs) (limits .rules) (split-and (ltb (length rs) (2 ^ form .ruleCount)) (leb (length rs) (limits .rules)) n .1)
 
   left-all : (P : Rule → Type 0) (rs : List Rule) → All P rs → All P (left rs) × (length (left rs) ≤ length rs)
   unfolding left

@@ -3,17 +3,18 @@
 use mathlib.Core.Path.{_≡_, refl, sym, ap, ap₂, _∙_, subst}
 use mathlib.Core.List.{List, [], _∷_, _++_}
 use mathlib.Core.Option.{Option, none, some}
-use mathlib.Core.Bool.{Bool, true, false}
-use Prim.Native.Nat.{ℕ, zero, suc, _+_, _*_, _-_, _≤_}
+use mathlib.Core.Bool.{Bool, true, false, _&&_}
+use Prim.Native.Nat.{ℕ, zero, suc, _+_, _*_, _-_, _^_, _≤_}
 use native.Mathlib.Omega.{arith}
-use lib.Dec.{eqb, ltb}
+use lib.Dec.{eqb, leb, ltb}
 use lib.ListN.{length, take, drop, replicate, length-append, length-drop, length-replicate}
 use lib.Seq.{drop-at, take-all}
 use borrow.Author.Tests.{eqb-true, ltb-false, le-ltb}
+use Rattle.laws.proofs.Flags.{split-and}
 use Rattle.laws.proofs.Lists.{All-append}
-use Rattle.definition.specs.Field.{Read, got, refused, andThen, bytesFor, bytes, packed, sheetBits, badEnd, Layout, counted, via}
+use Rattle.definition.specs.Field.{Read, got, refused, andThen, bytesFor, bytes, packed, sheetBits, badEnd, Layout, field, counted, _then_, via}
 use Rattle.definition.specs.Rule.{Rule}
-use Rattle.definition.specs.Sheet.{Form, Limits, Counts, title, counts, Head, headOf, head, Body, bodyOf, body, ruleWith, rule, rules, firstSet, ended, decode, encode}
+use Rattle.definition.specs.Sheet.{Form, Limits, Counts, title, counts, Head, headOf, head, Body, bodyOf, body, ruleWith, rule, opening, rules, firstSet, ended, decode, encode}
 use Rattle.definition.proofs.Bits.{Bits, Bytes, sheet-bits, length-sheetBits, bytes-sheet, sheet-bytes}
 use Rattle.definition.proofs.Faithful.{Faithful, Always, field-faithful, then-faithful, via-faithful, tagged-faithful, several-faithful}
 use Rattle.definition.proofs.Items.{year-faithful, monthday-faithful, week-faithful, weekday-faithful, span-faithful, operator-faithful, kind-faithful}
@@ -40,7 +41,7 @@ module _ (form : Form) (limits : Limits) where
   Long n b = (length (b .0) ≡ n .0) × ((length (b .1 .0) ≡ n .1 .0) × ((length (b .1 .1 .0) ≡ n .1 .1 .0)
       × ((length (b .1 .1 .1 .0) ≡ n .1 .1 .1 .0) × (length (b .1 .1 .1 .1) ≡ n .1 .1 .1 .1))))
 
-  body-faithful : (n : Counts) → Faithful (Long n) (body form limits n)
+  body-faithful : (n : Counts) → Faithful (Long n) (body n)
   unfolding body
   body-faithful n =
       then-faithful (several-faithful year-faithful (n .0)) (then-faithful (several-faithful monthday-faithful (n .1 .0))
@@ -59,13 +60,25 @@ module _ (form : Form) (limits : Limits) where
       into : (h : Head) (b : Body) → Long (h .1) b → headOf (ruleWith h b) ≡ h
       into h b l = λ i. (h .0, (l .0 i, (l .1 .0 i, (l .1 .1 .0 i, (l .1 .1 .1 .0 i, l .1 .1 .1 .1 i)))))
 
-      whole : (h : Head) → Faithful (λ r. headOf r ≡ h) (via (ruleWith h) bodyOf (body form limits (h .1)))
+      whole : (h : Head) → Faithful (λ r. headOf r ≡ h) (via (ruleWith h) bodyOf (body (h .1)))
       whole h = via-faithful _ (ruleWith h) bodyOf (body-faithful (h .1)) (under h) (λ r e. ap (λ k. ruleWith k (bodyOf r)) (sym e))
           (λ b l f. (refl, into h b l))
 
+  pub opening-faithful : Faithful Always (opening form limits)
+  unfolding opening field _then_
+  opening-faithful =
+      via-faithful Always _ _ (then-faithful (field-faithful _ _ (form .markWidth)) (field-faithful _ _ (form .ruleCount))) (λ n u. (tt, tt)) (λ n u. refl)
+      (λ x u f. (ap (λ m. (m, x .1)) (sym (marked x f)), tt))
+    where
+      marked : (x : ℕ × ℕ) → (ltb (x .0) (2 ^ form .markWidth) && eqb (x .0) (form .mark)) && (ltb (x .1) (2 ^ form .ruleCount) && leb (x .1) (limits .rules)) ≡ true
+          → x .0 ≡ form .mark
+      marked x f =
+          let k = split-and (ltb (x .0) (2 ^ form .markWidth) && eqb (x .0) (form .mark)) _ f .0 in
+          eqb-true (x .0) (form .mark) (split-and (ltb (x .0) (2 ^ form .markWidth)) _ k .1)
+
   pub rules-faithful : Faithful Always (rules form limits)
   unfolding rules
-  rules-faithful = tagged-faithful length (field-faithful _ _ (form .ruleCount)) (λ rs. tt) (λ n u f. several-faithful rule-faithful n)
+  rules-faithful = tagged-faithful length opening-faithful (λ rs. tt) (λ n u f. several-faithful rule-faithful n)
 
 -- ## Zero bits to the byte's end
 all-zero : (bs : List ℕ) (p : ℕ) → firstSet bs p ≡ none → bs ≡ replicate (length bs) 0

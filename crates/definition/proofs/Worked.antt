@@ -14,7 +14,7 @@ use Rattle.grid.specs.Group.{size, somewhere, agree, grow, pop, clear, takeOut,
 use Rattle.grid.specs.Cut.{cutAt, cuts, between, intervals, boxes, glue, joined}
 use Rattle.definition.specs.Field.{bits, number, sheetBits, bytes, packed, fieldAt, readField, readAll, field, noBits, _then_, via, tagged, several}
 use Rattle.definition.specs.Rule.{notAbove, insertSpan, sorted, sameTime}
-use Rattle.definition.specs.Sheet.{yearRange, monthdayOf, monthdayRange, weekRange, weekdayOf, weekDayRange, timeOf, time, repeatsOf, repeatsLayout, span, title, counts, head, body, rule, rules, firstSet, ended, decode, encode}
+use Rattle.definition.specs.Sheet.{yearRange, monthdayOf, monthdayRange, weekRange, weekdayOf, weekDayRange, timeOf, time, repeatsOf, repeatsLayout, span, title, counts, head, body, rule, opening, rules, firstSet, ended, decode, encode}
 use Rattle.definition.specs.Range.{split, ranges}
 use Rattle.definition.specs.Stop.{stops, firstThatApplies, reason, drained, left, why}
 use Rattle.definition.specs.Point.{selector, combinations, after, listFrom, tooLong}
@@ -39,12 +39,12 @@ computed : (every agrees cases ≡ true) × (every agrees overlapCases ≡ true)
 unfolding agrees flatMap from firstOf every anyOf anyPair firstIndex count keep sameList sameOption size somewhere agree grow pop clear takeOut sweepFor sweep groups
     cutAt cuts between intervals boxes glue joined bits number sheetBits bytes packed fieldAt readField readAll field noBits _then_ via tagged several
     notAbove insertSpan sorted sameTime yearRange monthdayOf monthdayRange weekRange weekdayOf weekDayRange timeOf time repeatsOf repeatsLayout span
-    title counts head body rule rules firstSet ended decode encode split ranges stops firstThatApplies reason drained left why selector combinations after listFrom tooLong boxCount
+    title counts head body rule opening rules firstSet ended decode encode split ranges stops firstThatApplies reason drained left why selector combinations after listFrom tooLong boxCount
     simple flattened runOf afterRun painting joinGroup byState grouped lastOver itemsOf laidOver rulesOf judged fitted foldRules paintedOverIntervals
     dayOverIntervals overlapsOverEnds firstOverlapOverEnds firstTooLongOverBoxes pagesOverBoxes foldedOverBoxes foldOverBoxes
 computed = (refl, refl)
 
-are-bytes : (s : List ℕ) → every (λ b. ltb b 256) s ≡ true → Bytes s
+pub are-bytes : (s : List ℕ) → every (λ b. ltb b 256) s ≡ true → Bytes s
 are-bytes = every-all (λ b. b < 256) (λ b. ltb b 256) (λ b. ltb-true b 256)
 
 each : (cs : List Case) → every agrees cs ≡ true → All Worked cs

@@ -9,7 +9,7 @@ use Rattle.laws.proofs.Flags.{split-and}
 use Rattle.laws.proofs.Lists.{every-all}
 use Rattle.laws.proofs.Tests.{exact-eqb, exact-list}
 use Rattle.definition.specs.Field.{bits, number, sheetBits, bytes, fieldAt, readField, readAll, field, noBits, _then_ as _thenBits_, via, tagged, several as severalBits}
-use Rattle.definition.specs.Sheet.{form1, limits1, yearRange, monthdayOf, monthdayRange, weekRange, weekdayOf, weekDayRange, timeOf, time, repeatsOf, repeatsLayout, span, title, counts, head, body, rule, rules, firstSet, ended, decode}
+use Rattle.definition.specs.Sheet.{form1, limits1, yearRange, monthdayOf, monthdayRange, weekRange, weekdayOf, weekDayRange, timeOf, time, repeatsOf, repeatsLayout, span, title, counts, head, body, rule, opening, rules, firstSet, ended, decode}
 use Rattle.definition.specs.Fold.{Written, writtenNumbers, writtenInto}
 use Rattle.definition.specs.Text.{ascii, digits, decimalIn, word, padded, plain, named, _then_, of, unless, only, several}
 use Rattle.definition.specs.Line.{item, yearText, weekText, monthText, weekdayText, clock, spanText, stateText, part, ruleText, lineOf, line}
@@ -24,7 +24,7 @@ agrees c = sameList eqb (writtenNumbers (answer c)) (c .answer) && sameList eqb 
 
 computed : every agrees cases ≡ true
 unfolding agrees flatMap every anyOf sameList bits number sheetBits bytes fieldAt readField readAll field noBits _thenBits_ via tagged severalBits
-    yearRange monthdayOf monthdayRange weekRange weekdayOf weekDayRange timeOf time repeatsOf repeatsLayout span title counts head body rule rules
+    yearRange monthdayOf monthdayRange weekRange weekdayOf weekDayRange timeOf time repeatsOf repeatsLayout span title counts head body rule opening rules
     firstSet ended decode
     ascii digits decimalIn word padded plain named _then_ of unless only several
     item yearText weekText monthText weekdayText clock spanText stateText part ruleText lineOf line firstIndex wordless firstWordless writtenInto

@@ -80,6 +80,10 @@ noWords = 10
 abbrev pub daysTwice : ℕ
 daysTwice = 11
 
+-- conversion only (02, M-106): a comment has no room in the other form
+abbrev pub longComment : ℕ
+longComment = 12
+
 -- ## Readings
 -- a value and the bit after it, or a refusal: its code and its place
 pub data Read (A : Type 0) : Type 0 where

@@ -16,8 +16,10 @@ pub mod OverBoxes
 pub mod Text
 pub mod Line
 pub mod Show
+pub mod Forms
 pub mod Worked
 pub mod WorkedOverlaps
 pub mod WorkedLines
 pub mod WorkedDates
 pub mod WorkedReasons
+pub mod WorkedForms

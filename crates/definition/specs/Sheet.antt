@@ -1,9 +1,11 @@
--- 01, "The packed sheet": "Rule count 16 bits, the rules, then zero bits to the byte's end, then nothing."
+-- 01, "The packed sheet": "Rule count 16 bits, the rules, then zero bits to the byte's end, then nothing." 02, M-106: "Form 2 of the packed
+-- sheet starts with the four bits 0010, then a rule count of 24 bits; comments have 24 bits and the five counts 12 each; the rest is as in form 1."
+-- One layout serves both forms: form 1 starts with no bits.
 -- Reading refuses by 1, 2 and 4 as met from the first bit on, then by 3; each number of the layout is a field of its own.
 use mathlib.Core.List.{List, [], _∷_}
 use mathlib.Core.Option.{Option, none, some}
 use mathlib.Core.Bool.{Bool, true, false, cond}
-use Prim.Native.Nat.{ℕ, suc, _*_, _-_}
+use Prim.Native.Nat.{ℕ, suc, _+_, _*_, _-_}
 use lib.Dec.{eqb, leb, ltb}
 use lib.ListN.{length, take, drop}
 use Rattle.grid.specs.Cut.{holds}
@@ -11,8 +13,12 @@ use Rattle.definition.specs.Field.{Read, got, refused, andThen, badEnd, 
 use Rattle.definition.specs.Rule.{weekdayBounds, weekBounds, monthBounds, yearBounds, Operator, operatorNumber, operatorOf, Kind, kindNumber, kindOf, Time, fixed, variable, Span, YearRange, MonthdayRange, months, monthsOf, dated, WeekRange, WeekDayRange, fixedDays, holiday, Rule}
 
 -- ## Form and limits
--- the widths that a form of the sheet sets
+-- the number that a caller names a form by; the mark that its sheets start with, as so many bits and the number they stand for; and the widths
+-- that it sets
 pub record Form : Type 0 where
+  pub number : ℕ
+  pub markWidth : ℕ
+  pub mark : ℕ
   pub ruleCount : ℕ
   pub comment : ℕ
   pub itemCount : ℕ
@@ -27,7 +33,21 @@ pub record Limits : Type 0 where
 
 -- "Rule count 16 bits", "comment 16; five counts of 10 each"
 abbrev pub form1 : Form
-form1 = record { ruleCount = 16; comment = 16; itemCount = 10 }
+form1 = record { number = 1; markWidth = 0; mark = 0; ruleCount = 16; comment = 16; itemCount = 10 }
+
+-- "starts with the four bits 0010, then a rule count of 24 bits; comments have 24 bits and the five counts 12 each"
+abbrev pub form2 : Form
+form2 = record { number = 2; markWidth = 4; mark = 2; ruleCount = 24; comment = 24; itemCount = 12 }
+
+-- how many bits mark and rule count take; operator, kind and comment of a rule; and with them its five counts
+abbrev pub openingWidth : Form → ℕ
+openingWidth form = form .markWidth + form .ruleCount
+
+abbrev pub titleWidth : Form → ℕ
+titleWidth form = 4 + form .comment
+
+abbrev pub headWidth : Form → ℕ
+headWidth form = titleWidth form + 5 * form .itemCount
 
 -- "Limits: 64 rules, 16 items of each sort, 16 spans", and of the table: 1,024 boxes, 32 entries
 abbrev pub limits1 : Limits
@@ -207,29 +227,33 @@ ruleWith h b = record {
   spans = b .1 .1 .1 .1;
 }
 
+-- "then these items in that order", as many of each sort as the counts say; no form changes them
+unfoldable pub body : Counts → Layout Body
+body n = several (n .0) yearRange then several (n .1 .0) monthdayRange then several (n .1 .1 .0) weekRange
+    then several (n .1 .1 .1 .0) weekDayRange then several (n .1 .1 .1 .1) span
+
 module _ (form : Form) (limits : Limits) where
-  -- "Rule: operator 2 (0 Normal, 1 Additional, 2 Fallback); kind 2 (0 Open, 1 Closed, 2 Unknown); comment 16"
+  -- "Rule: operator 2 (0 Normal, 1 Additional, 2 Fallback); kind 2 (0 Open, 1 Closed, 2 Unknown); comment 16", 24 in form 2
   unfoldable pub title : Layout Title
   title = via operatorOf operatorNumber choice then via kindOf kindNumber choice then plain (form .comment)
 
-  -- "five counts of 10 each: years, monthdays, weeks, weekdays, spans"
+  -- "five counts of 10 each: years, monthdays, weeks, weekdays, spans", of 12 in form 2
   unfoldable pub counts : Layout Counts
   counts = let items = counted (form .itemCount) (limits .items) in items then items then items then items then counted (form .itemCount) (limits .spans)
 
   unfoldable pub head : Layout Head
   head = title then counts
 
-  -- "then these items in that order"
-  unfoldable pub body : Counts → Layout Body
-  body n = several (n .0) yearRange then several (n .1 .0) monthdayRange then several (n .1 .1 .0) weekRange
-      then several (n .1 .1 .1 .0) weekDayRange then several (n .1 .1 .1 .1) span
-
   unfoldable pub rule : Layout Rule
   rule = tagged head (λ h. via (ruleWith h) bodyOf (body (h .1))) headOf
 
+  -- the mark, and behind it the rule count
+  unfoldable pub opening : Layout ℕ
+  opening = via (λ x. x .1) (λ n. (form .mark, n)) (lawful (form .markWidth) (λ v. eqb v (form .mark)) then counted (form .ruleCount) (limits .rules))
+
   -- "Rule count 16 bits, the rules"
   unfoldable pub rules : Layout (List Rule)
-  rules = tagged (counted (form .ruleCount) (limits .rules)) (λ n. several n rule) length
+  rules = tagged opening (λ n. several n rule) length
 
 -- ## A whole sheet
 -- the place of the first bit that is set, p being the place of the first bit

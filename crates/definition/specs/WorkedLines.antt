@@ -68,7 +68,7 @@ fourParts = shows (hex 28 0x00010000100401004010047E81FA80004B2D3401500001FF8004
 abbrev pub closedRule : Case
 closedRule = shows (hex 15 0x00011000000000000000044B043800) "10:00-18:00 off"
 
--- an Unknown rule, with the largest comment.
+-- an Unknown rule, with the largest comment of form 1.
 abbrev pub unknownRule : Case
 unknownRule = shows (hex 15 0x00012FFFF00000000000044B043800) "10:00-18:00 unknown \"65535\""
 

@@ -3,7 +3,7 @@ use mathlib.Core.Path.{_≡_, refl, sym, ap, ap₂, _∙_, subst}
 use mathlib.Core.List.{List, map}
 use mathlib.Core.Option.{none, some}
 use mathlib.Core.Bool.{Bool, true, false, _&&_, _||_, not, cond}
-use Prim.Native.Nat.{ℕ, _+_, _*_, _≤_, _<_, _^_}
+use Prim.Native.Nat.{ℕ, _*_, _≤_, _<_, _^_}
 use native.Mathlib.Omega.{arith}
 use lib.Dec.{eqb}
 use lib.ListN.{length, set}
@@ -12,18 +12,19 @@ use Rattle.laws.specs.Lists.{anyOf}
 use Rattle.laws.proofs.Flags.{or-assoc}
 use Rattle.definition.specs.Field.{got, sheetBits, several}
 use Rattle.definition.specs.Rule.{Operator, operatorOf, Kind, kindOf, Rule}
-use Rattle.definition.specs.Sheet.{form1, limits1, span, title}
+use Rattle.definition.specs.Sheet.{Form, limits1, span, title}
 use Rattle.definition.specs.Stop.{isFallback, monthdayStops, weekdayStops, spanStops, stops}
 use Rattle.definition.specs.Point.{isNormal, isClosed}
 use Rattle.definition.proofs.Bits.{Bytes}
 use Rattle.definition.proofs.Reading.{several-short}
 use Rattle.definition.proofs.Lengths.{span-short}
 use Rattle.definition.proofs.RuleParts.{rule-parts}
+use Rattle.definition.proofs.Carried.{comment-carried}
 use Rattle.definition.proofs.SheetRead.{carried, rule-faithful}
+use Rattle.forms.specs.Form.{Narrow}
 use Rattle.sheet.specs.Begin.{ruleReadAt, Readable}
 use Rattle.sheet.proofs.Titles.{title-same}
 use Rattle.codes.specs.Number.{stateNumber, stateOf, spanNumber}
-use Rattle.codes.proofs.Carried.{state-numbered}
 use Rattle.canonical_date.specs.declared.days.Days.{Days}
 use Rattle.canonical_date.specs.declared.days.Days.the-variants.{Spans, Stops}
 use Rattle.canonical_date.specs.Rule.{daysStop}
@@ -83,29 +84,29 @@ pub found-stops : (s : List ℕ) (r : Rule) (v : Days) → v ≡ Stops → Found
 found-stops s r v e h = subst (Found s r) e h
 
 -- ## A rule's title
-module _ (s : List ℕ) (p : ℕ) (readable : Readable s p) where
-  pub spans-few : length ((ruleReadAt s p) .spans) ≤ 16
+module _ (form : Form) (s : List ℕ) (p : ℕ) (readable : Readable form s p) where
+  pub spans-few : length ((ruleReadAt form s p) .spans) ≤ 16
   spans-few =
-      let w = rule-parts s p (ruleReadAt s p) (readable .end) (readable .read) in
-      count-few s (p + 20) 4 (length ((ruleReadAt s p) .spans)) _ (w .count-spans)
+      let w = rule-parts form s p (ruleReadAt form s p) (readable .end) (readable .read) in
+      count-few form s _ (length ((ruleReadAt form s p) .spans)) _ (w .count-spans)
 
-  module _ (o k c q i n : ℕ) (e : (title form1 limits1) .read s p ≡ got (operatorOf o, (kindOf k, c)) q) (states counts replacing : List ℕ) (t : Bool) (h : t ≡ isFallback (operatorOf o)) where
-    stopped-same : t ≡ isFallback ((ruleReadAt s p) .operator)
-    stopped-same = h ∙ ap isFallback (title-same s p readable (operatorOf o) (kindOf k) c q e .0)
+  module _ (o k c q i n : ℕ) (e : (title form limits1) .read s p ≡ got (operatorOf o, (kindOf k, c)) q) (states counts replacing : List ℕ) (t : Bool) (h : t ≡ isFallback (operatorOf o)) where
+    stopped-same : t ≡ isFallback ((ruleReadAt form s p) .operator)
+    stopped-same = h ∙ ap isFallback (title-same form s p readable (operatorOf o) (kindOf k) c q e .0)
 
-    pub set-fallback : t ≡ true → SetRule (ruleReadAt s p) i n states counts replacing states counts replacing true
+    pub set-fallback : t ≡ true → SetRule (ruleReadAt form s p) i n states counts replacing states counts replacing true
     set-fallback f =
-        let g : isFallback ((ruleReadAt s p) .operator) ≡ true = sym stopped-same ∙ f in
+        let g : isFallback ((ruleReadAt form s p) .operator) ≡ true = sym stopped-same ∙ f in
         record { stopped = sym g; states-set = sym (rw g); counts-set = sym (rw g); replacing-set = sym (rw g) }
 
     pub set-rule : (u v w : ℕ) → t ≡ false → u ≡ stateNumber (stateOf (kindOf k) c) → v ≡ n → w ≡ cond (isNormal (operatorOf o) && not (isClosed (kindOf k))) 1 0
-        → SetRule (ruleReadAt s p) i n states counts replacing (set states i u) (set counts i v) (set replacing i w) false
+        → SetRule (ruleReadAt form s p) i n states counts replacing (set states i u) (set counts i v) (set replacing i w) false
     unfolding stateNumber
     set-rule u v w f hu hv hw =
-        let g : isFallback ((ruleReadAt s p) .operator) ≡ false = sym stopped-same ∙ f in
-        let same = title-same s p readable (operatorOf o) (kindOf k) c q e in
-        let state : u ≡ stateNumber ((ruleReadAt s p) .state) = hu ∙ ap₂ (λ x y. stateNumber (stateOf x y)) (same .1) (same .2) in
-        let replace : w ≡ replaceNumber (ruleReadAt s p) = hw ∙ ap₂ (λ x y. cond (isNormal x && not (isClosed y)) 1 0) (same .0) (same .1) in
+        let g : isFallback ((ruleReadAt form s p) .operator) ≡ false = sym stopped-same ∙ f in
+        let same = title-same form s p readable (operatorOf o) (kindOf k) c q e in
+        let state : u ≡ stateNumber ((ruleReadAt form s p) .state) = hu ∙ ap₂ (λ x y. stateNumber (stateOf x y)) (same .1) (same .2) in
+        let replace : w ≡ replaceNumber (ruleReadAt form s p) = hw ∙ ap₂ (λ x y. cond (isNormal x && not (isClosed y)) 1 0) (same .0) (same .1) in
         record {
           stopped = sym g;
           states-set = ap (set states i) state ∙ sym (rw g);
@@ -113,12 +114,13 @@ module _ (s : List ℕ) (p : ℕ) (readable : Readable s p) where
           replacing-set = ap (set replacing i) replace ∙ sym (rw g);
         }
 
--- a comment that was read has sixteen bits
-pub comment-low : (sheet : List ℕ) → Bytes sheet → (p : ℕ) → Readable (sheetBits sheet) p → (a : Operator) (b : Kind) (c q : ℕ)
-    → (title form1 limits1) .read (sheetBits sheet) p ≡ got (a, (b, c)) q → c < 65536
-comment-low sheet b p readable x y c q e =
-    let low = state-numbered (ruleReadAt (sheetBits sheet) p) (carried (rule-faithful form1 limits1) sheet b p (ruleReadAt (sheetBits sheet) p) (readable .end) (readable .read)) in
-    omega (arith, low, title-same (sheetBits sheet) p readable x y c q e .2)
+-- a comment that was read is as low as `state_number` requires
+pub comment-low : (form : Form) → Narrow form → (sheet : List ℕ) → Bytes sheet → (p : ℕ) → Readable form (sheetBits sheet) p → (a : Operator) (b : Kind) (c q : ℕ)
+    → (title form limits1) .read (sheetBits sheet) p ≡ got (a, (b, c)) q → c < 2 ^ 24
+comment-low form narrow sheet b p readable x y c q e =
+    let r = ruleReadAt form (sheetBits sheet) p in
+    let low = comment-carried form limits1 r (carried (rule-faithful form limits1) sheet b p r (readable .end) (readable .read)) in
+    omega (arith, low, narrow .comment-narrow, title-same form (sheetBits sheet) p readable x y c q e .2)
 
 -- ## The whole rule
 pub load-some : (p : Bool) (n m : ℕ) → some n ≡ cond p none (some m) → (p ≡ false) × (n ≡ m)

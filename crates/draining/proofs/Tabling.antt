@@ -14,6 +14,7 @@ use Rattle.definition.specs.Stop.{spanStops, stops, reason, drained, why}
 use Rattle.definition.proofs.Bits.{Bytes}
 use Rattle.definition.proofs.Drained.{drained-fewer, drained-each}
 use Rattle.definition.proofs.Why.{why-none, why-first}
+use Rattle.definition.specs.Sheet.{Form}
 use Rattle.sheet.specs.Begin.{ruleReadAt, Readable}
 use Rattle.tables.specs.Ranges.{tableRow}
 use Rattle.tables.specs.Rules.{TimesAt, DaysHeld}
@@ -79,82 +80,82 @@ module _ (x : Rule) (i : ℕ) (st co sp re st′ co′ sp′ re′ : List ℕ) (
         ap (λ l. getD l i 0) replacing ∙ getD-set-same re i (replaceNumber x) 0 hr
 
 -- ## The rules before the first stopper
-module _ (s begins : List ℕ) where
-  pub rules-at : (n i k : ℕ) → k < n → getD (rulesFrom s begins i n) k noRule ≡ ruleReadAt s (getD begins (i + k) 0)
+module _ (form : Form) (s begins : List ℕ) where
+  pub rules-at : (n i k : ℕ) → k < n → getD (rulesFrom form s begins i n) k noRule ≡ ruleReadAt form s (getD begins (i + k) 0)
   unfolding rulesFrom
   rules-at zero i k h = absurd (omega arith)
-  rules-at (suc n) i zero h = let z : i ≡ i + 0 = omega arith in ap (λ j. ruleReadAt s (getD begins j 0)) z
-  rules-at (suc n) i (suc k) h = let z : i + 1 + k ≡ i + suc k = omega arith in rules-at n (i + 1) k (omega arith) ∙ ap (λ j. ruleReadAt s (getD begins j 0)) z
+  rules-at (suc n) i zero h = let z : i ≡ i + 0 = omega arith in ap (λ j. ruleReadAt form s (getD begins j 0)) z
+  rules-at (suc n) i (suc k) h = let z : i + 1 + k ≡ i + suc k = omega arith in rules-at n (i + 1) k (omega arith) ∙ ap (λ j. ruleReadAt form s (getD begins j 0)) z
 
-  pub rules-length : (n i : ℕ) → length (rulesFrom s begins i n) ≡ n
+  pub rules-length : (n i : ℕ) → length (rulesFrom form s begins i n) ≡ n
   unfolding rulesFrom
   rules-length zero i = refl
   rules-length (suc n) i = ap suc (rules-length n (i + 1))
 
   -- from place i on: one more, none, or the end
-  pub drained-more : (n m i : ℕ) → n ≡ suc m → stops (ruleReadAt s (getD begins i 0)) ≡ false → length (drained (rulesFrom s begins i n)) ≡ suc (length (drained (rulesFrom s begins (i + 1) m)))
+  pub drained-more : (n m i : ℕ) → n ≡ suc m → stops (ruleReadAt form s (getD begins i 0)) ≡ false → length (drained (rulesFrom form s begins i n)) ≡ suc (length (drained (rulesFrom form s begins (i + 1) m)))
   unfolding rulesFrom drained
   drained-more n m i z e = rw (z, e, rulesFrom, drained)
 
-  pub drained-none : (n m i : ℕ) → n ≡ suc m → stops (ruleReadAt s (getD begins i 0)) ≡ true → length (drained (rulesFrom s begins i n)) ≡ 0
+  pub drained-none : (n m i : ℕ) → n ≡ suc m → stops (ruleReadAt form s (getD begins i 0)) ≡ true → length (drained (rulesFrom form s begins i n)) ≡ 0
   unfolding rulesFrom drained
   drained-none n m i z e = rw (z, e, rulesFrom, drained)
 
-  pub drained-end : (n i : ℕ) → n ≡ 0 → length (drained (rulesFrom s begins i n)) ≡ 0
+  pub drained-end : (n i : ℕ) → n ≡ 0 → length (drained (rulesFrom form s begins i n)) ≡ 0
   unfolding rulesFrom drained
   drained-end n i z = rw (z, rulesFrom, drained)
 
   -- why the drain ends: the rule behind the drained ones tells, where there is one
-  pub why-ends : (n : ℕ) → n ≡ length (drained (rulesFrom s begins 0 n)) → 0 ≡ why (rulesFrom s begins 0 n)
-  why-ends n e = sym (why-none (rulesFrom s begins 0 n) (sym e ∙ sym (rules-length n 0)))
+  pub why-ends : (n : ℕ) → n ≡ length (drained (rulesFrom form s begins 0 n)) → 0 ≡ why (rulesFrom form s begins 0 n)
+  why-ends n e = sym (why-none (rulesFrom form s begins 0 n) (sym e ∙ sym (rules-length n 0)))
 
-  pub why-halts : (n i v : ℕ) → i < n → i ≡ length (drained (rulesFrom s begins 0 n)) → v ≡ reason (ruleReadAt s (getD begins i 0)) → v ≡ why (rulesFrom s begins 0 n)
+  pub why-halts : (n i v : ℕ) → i < n → i ≡ length (drained (rulesFrom form s begins 0 n)) → v ≡ reason (ruleReadAt form s (getD begins i 0)) → v ≡ why (rulesFrom form s begins 0 n)
   why-halts n i v l e told =
-      let rs = rulesFrom s begins 0 n in
+      let rs = rulesFrom form s begins 0 n in
       let z : 0 + i ≡ i = omega arith in
-      told ∙ ap reason (sym (rules-at n 0 i l ∙ ap (λ j. ruleReadAt s (getD begins j 0)) z)) ∙ ap (λ k. reason (getD rs k noRule)) e ∙ sym (why-first rs (omega (arith, e, rules-length n 0)))
+      told ∙ ap reason (sym (rules-at n 0 i l ∙ ap (λ j. ruleReadAt form s (getD begins j 0)) z)) ∙ ap (λ k. reason (getD rs k noRule)) e ∙ sym (why-first rs (omega (arith, e, rules-length n 0)))
 
   -- rows for each rule below the number of drained rules are the tables of the drained rules
-  pub tabled : (n i : ℕ) (st co sp re cn ra : List ℕ) → i ≡ length (drained (rulesFrom s begins 0 n)) → ((k : ℕ) → k < i → TabledAt st co sp re cn ra k (ruleReadAt s (getD begins k 0)))
-      → Tabled st co sp re cn ra (drained (rulesFrom s begins 0 n))
+  pub tabled : (n i : ℕ) (st co sp re cn ra : List ℕ) → i ≡ length (drained (rulesFrom form s begins 0 n)) → ((k : ℕ) → k < i → TabledAt st co sp re cn ra k (ruleReadAt form s (getD begins k 0)))
+      → Tabled st co sp re cn ra (drained (rulesFrom form s begins 0 n))
   tabled n i st co sp re cn ra e h k m =
       let z : 0 + k ≡ k = omega arith in
-      let below : k < n = omega (arith, drained-fewer (rulesFrom s begins 0 n), rules-length n 0) in
-      let same = drained-each (rulesFrom s begins 0 n) k m .0 ∙ rules-at n 0 k below ∙ ap (λ j. ruleReadAt s (getD begins j 0)) z in
+      let below : k < n = omega (arith, drained-fewer (rulesFrom form s begins 0 n), rules-length n 0) in
+      let same = drained-each (rulesFrom form s begins 0 n) k m .0 ∙ rules-at n 0 k below ∙ ap (λ j. ruleReadAt form s (getD begins j 0)) z in
       subst (TabledAt st co sp re cn ra k) (sym same) (h k (omega arith))
 
 -- ## Rule after rule
 -- the first i of n rules are drained into the tables
-pub record Draining (s begins : List ℕ) (n : ℕ) (st co sp re cn ra : List ℕ) (i : ℕ) : Type 0 where
+pub record Draining (form : Form) (s begins : List ℕ) (n : ℕ) (st co sp re cn ra : List ℕ) (i : ℕ) : Type 0 where
   pub within : i ≤ n
-  pub number : i + length (drained (rulesFrom s begins i (n - i))) ≡ length (drained (rulesFrom s begins 0 n))
-  pub rows : (k : ℕ) → k < i → TabledAt st co sp re cn ra k (ruleReadAt s (getD begins k 0))
+  pub number : i + length (drained (rulesFrom form s begins i (n - i))) ≡ length (drained (rulesFrom form s begins 0 n))
+  pub rows : (k : ℕ) → k < i → TabledAt st co sp re cn ra k (ruleReadAt form s (getD begins k 0))
 
-module _ (s begins : List ℕ) (n : ℕ) (st co sp re cn ra : List ℕ) where
-  pub drain-first : Draining s begins n st co sp re cn ra 0
+module _ (form : Form) (s begins : List ℕ) (n : ℕ) (st co sp re cn ra : List ℕ) where
+  pub drain-first : Draining form s begins n st co sp re cn ra 0
   drain-first = record {
     within = omega arith;
-    number = let z : n - 0 ≡ n = omega arith in omega (arith, ap (λ m. length (drained (rulesFrom s begins 0 m))) z);
+    number = let z : n - 0 ≡ n = omega arith in omega (arith, ap (λ m. length (drained (rulesFrom form s begins 0 m))) z);
     rows = λ k h. absurd (omega arith);
   }
 
-  pub drain-ends : (i : ℕ) → n ≤ i → Draining s begins n st co sp re cn ra i
-      → (n ≡ length (drained (rulesFrom s begins 0 n))) × (0 ≡ why (rulesFrom s begins 0 n)) × Tabled st co sp re cn ra (drained (rulesFrom s begins 0 n))
+  pub drain-ends : (i : ℕ) → n ≤ i → Draining form s begins n st co sp re cn ra i
+      → (n ≡ length (drained (rulesFrom form s begins 0 n))) × (0 ≡ why (rulesFrom form s begins 0 n)) × Tabled st co sp re cn ra (drained (rulesFrom form s begins 0 n))
   drain-ends i l w =
       let z : i ≡ n = omega (arith, w .within) in
-      let e : i ≡ length (drained (rulesFrom s begins 0 n)) = omega (arith, w .number, drained-end s begins (n - i) i (omega arith)) in
-      (sym z ∙ e, why-ends s begins n (sym z ∙ e), tabled s begins n i st co sp re cn ra e (w .rows))
+      let e : i ≡ length (drained (rulesFrom form s begins 0 n)) = omega (arith, w .number, drained-end form s begins (n - i) i (omega arith)) in
+      (sym z ∙ e, why-ends form s begins n (sym z ∙ e), tabled form s begins n i st co sp re cn ra e (w .rows))
 
 -- rule i, with its own row of the ranges and of their counts written anew
-module _ (sheet : List ℕ) (bytes : Bytes sheet) (begins : List ℕ) (n : ℕ) (st co sp re cn ra : List ℕ) (i : ℕ) (l : i < n) (w : Draining (sheetBits sheet) begins n st co sp re cn ra i)
-    (st′ co′ sp′ re′ : List ℕ) (d : DrainedRule (ruleReadAt (sheetBits sheet) (getD begins i 0)) i st co sp re st′ co′ sp′ re′)
-    (t : Bool) (h : t ≡ stops (ruleReadAt (sheetBits sheet) (getD begins i 0)))
+module _ (form : Form) (sheet : List ℕ) (bytes : Bytes sheet) (begins : List ℕ) (n : ℕ) (st co sp re cn ra : List ℕ) (i : ℕ) (l : i < n) (w : Draining form (sheetBits sheet) begins n st co sp re cn ra i)
+    (st′ co′ sp′ re′ : List ℕ) (d : DrainedRule (ruleReadAt form (sheetBits sheet) (getD begins i 0)) i st co sp re st′ co′ sp′ re′)
+    (t : Bool) (h : t ≡ stops (ruleReadAt form (sheetBits sheet) (getD begins i 0)))
     (all-counts : i * 4 + 4 ≤ length cn) (all-ranges : i * 256 + 256 ≤ length ra) where
   abbrev s : List ℕ
   s = sheetBits sheet
 
   abbrev r : Rule
-  r = ruleReadAt s (getD begins i 0)
+  r = ruleReadAt form s (getD begins i 0)
 
   -- the rows as they were, and as the rule's days fill them
   abbrev old-ranges : List ℕ
@@ -164,7 +165,7 @@ module _ (sheet : List ℕ) (bytes : Bytes sheet) (begins : List ℕ) (n : ℕ) 
   old-counts = take (i * 4 + 4 - i * 4) (drop (i * 4) cn)
 
   abbrev loads : Loaded
-  loads = daysLoaded s (getD begins i 0) old-ranges old-counts
+  loads = daysLoaded form s (getD begins i 0) old-ranges old-counts
 
   module _ (counts ranges : List ℕ) (ranges-read : ranges ≡ loads .ranges) (counts-read : counts ≡ loads .counts) where
     abbrev cn′ : List ℕ
@@ -173,33 +174,33 @@ module _ (sheet : List ℕ) (bytes : Bytes sheet) (begins : List ℕ) (n : ℕ) 
     abbrev ra′ : List ℕ
     ra′ = take (i * 256) ra ++ (ranges ++ drop (i * 256 + 256 - i * 256) (drop (i * 256) ra))
 
-    kept : (k : ℕ) → k < i → TabledAt st′ co′ sp′ re′ cn′ ra′ k (ruleReadAt s (getD begins k 0))
+    kept : (k : ℕ) → k < i → TabledAt st′ co′ sp′ re′ cn′ ra′ k (ruleReadAt form s (getD begins k 0))
     kept k m =
         let before = w .rows k m in (
-          times-kept r i st co sp re st′ co′ sp′ re′ d k (ruleReadAt s (getD begins k 0)) m (before .0),
+          times-kept r i st co sp re st′ co′ sp′ re′ d k (ruleReadAt form s (getD begins k 0)) m (before .0),
           record {
             replacing-held = replacing-kept r i st co sp re st′ co′ sp′ re′ d k m ∙ before .1 .replacing-held;
-            days-held = subst (λ c. DaysHeld c (tableRow ra′ k 256) (ruleReadAt s (getD begins k 0))) (sym (row-kept cn counts _ i 4 (omega arith) k m))
-                (subst (λ q. DaysHeld (tableRow cn k 4) q (ruleReadAt s (getD begins k 0))) (sym (row-kept ra ranges _ i 256 (omega arith) k m)) (before .1 .days-held));
+            days-held = subst (λ c. DaysHeld c (tableRow ra′ k 256) (ruleReadAt form s (getD begins k 0))) (sym (row-kept cn counts _ i 4 (omega arith) k m))
+                (subst (λ q. DaysHeld (tableRow cn k 4) q (ruleReadAt form s (getD begins k 0))) (sym (row-kept ra ranges _ i 256 (omega arith) k m)) (before .1 .days-held));
           },
         )
 
     pub drain-halts : t ≡ true → (v : ℕ) → v ≡ reason r
-        → (i ≡ length (drained (rulesFrom s begins 0 n))) × (v ≡ why (rulesFrom s begins 0 n)) × Tabled st′ co′ sp′ re′ cn′ ra′ (drained (rulesFrom s begins 0 n))
+        → (i ≡ length (drained (rulesFrom form s begins 0 n))) × (v ≡ why (rulesFrom form s begins 0 n)) × Tabled st′ co′ sp′ re′ cn′ ra′ (drained (rulesFrom form s begins 0 n))
     drain-halts f v told =
-        let none = drained-none s begins (n - i) (n - suc i) i (omega arith) (sym h ∙ f) in
-        let e : i ≡ length (drained (rulesFrom s begins 0 n)) = omega (arith, w .number, none) in
-        (e, why-halts s begins n i v l e told, tabled s begins n i st′ co′ sp′ re′ cn′ ra′ e kept)
+        let none = drained-none form s begins (n - i) (n - suc i) i (omega arith) (sym h ∙ f) in
+        let e : i ≡ length (drained (rulesFrom form s begins 0 n)) = omega (arith, w .number, none) in
+        (e, why-halts form s begins n i v l e told, tabled form s begins n i st′ co′ sp′ re′ cn′ ra′ e kept)
 
-    pub drain-next : t ≡ false → Readable s (getD begins i 0) → getD begins i 0 < 2 ^ 25 → i < length st → i < length co → i * 16 + 16 ≤ length sp → i < length re
-        → length counts ≡ 4 → length ranges ≡ 256 → (j : ℕ) → j ≡ i + 1 → Draining s begins n st′ co′ sp′ re′ cn′ ra′ j
+    pub drain-next : t ≡ false → Readable form s (getD begins i 0) → getD begins i 0 < 2 ^ 25 → i < length st → i < length co → i * 16 + 16 ≤ length sp → i < length re
+        → length counts ≡ 4 → length ranges ≡ 256 → (j : ℕ) → j ≡ i + 1 → Draining form s begins n st′ co′ sp′ re′ cn′ ra′ j
     drain-next f readable low hs hc hp hr four whole j e =
         let g = sym h ∙ f in
-        let more = drained-more s begins (n - i) (n - (i + 1)) i (omega arith) g in
-        let held = days-held sheet bytes (getD begins i 0) readable low old-ranges old-counts (omega (arith, part-length ra (i * 256) (i * 256 + 256) (omega arith) all-ranges))
+        let more = drained-more form s begins (n - i) (n - (i + 1)) i (omega arith) g in
+        let held = days-held form sheet bytes (getD begins i 0) readable low old-ranges old-counts (omega (arith, part-length ra (i * 256) (i * 256 + 256) (omega arith) all-ranges))
         (omega (arith, part-length cn (i * 4) (i * 4 + 4) (omega arith) all-counts)) (stops-parts-pass r g .0) in
         let new : TabledAt st′ co′ sp′ re′ cn′ ra′ i r = (
-          times-new r i st co sp re st′ co′ sp′ re′ d g hs hc hp (spans-few s (getD begins i 0) readable),
+          times-new r i st co sp re st′ co′ sp′ re′ d g hs hc hp (spans-few form s (getD begins i 0) readable),
           record {
             replacing-held = replacing-new r i st co sp re st′ co′ sp′ re′ d g hr;
             days-held = subst (λ c. DaysHeld c (tableRow ra′ i 256) r) (sym (row-new cn counts _ i 4 (omega arith) four ∙ counts-read))
@@ -209,5 +210,5 @@ module _ (sheet : List ℕ) (bytes : Bytes sheet) (begins : List ℕ) (n : ℕ) 
         rw e (record {
           within = omega arith;
           number = omega (arith, w .number, more);
-          rows = λ k m. below-more (λ k. TabledAt st′ co′ sp′ re′ cn′ ra′ k (ruleReadAt s (getD begins k 0))) i kept new k (omega arith);
+          rows = λ k m. below-more (λ k. TabledAt st′ co′ sp′ re′ cn′ ra′ k (ruleReadAt form s (getD begins k 0))) i kept new k (omega arith);
         })

@@ -4,6 +4,7 @@ use mathlib.Core.List.{List, [], _∷_}
 use Prim.Native.Nat.{ℕ, zero, suc, _+_, _<_}
 use lib.ListN.{length, getD}
 use Rattle.definition.specs.Rule.{Rule}
+use Rattle.definition.specs.Sheet.{Form}
 use Rattle.sheet.specs.Begin.{ruleReadAt}
 use Rattle.tables.specs.Ranges.{tableRow}
 use Rattle.tables.specs.Rules as tables
@@ -23,7 +24,7 @@ TabledAt states counts spans replacing rangeCounts ranges k r = TimesAt states c
 abbrev pub Tabled : (states counts spans replacing rangeCounts ranges : List ℕ) → List Rule → Type 0
 Tabled states counts spans replacing rangeCounts ranges rs = (k : ℕ) → k < length rs → TabledAt states counts spans replacing rangeCounts ranges k (tables.ruleAt rs k)
 
--- the rules that begin at n noted bits from place i on
-unfoldable pub rulesFrom : List ℕ → List ℕ → ℕ → ℕ → List Rule
-rulesFrom s begins i zero = []
-rulesFrom s begins i (suc n) = ruleReadAt s (getD begins i 0) ∷ rulesFrom s begins (i + 1) n
+-- the rules of a form that begin at n noted bits from place i on
+unfoldable pub rulesFrom : Form → List ℕ → List ℕ → ℕ → ℕ → List Rule
+rulesFrom form s begins i zero = []
+rulesFrom form s begins i (suc n) = ruleReadAt form s (getD begins i 0) ∷ rulesFrom form s begins (i + 1) n

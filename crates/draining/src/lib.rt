@@ -3,11 +3,13 @@
 pub mod rule;
 pub mod span;
 
+use forms::Form;
 ghost use mathlib.Core.Path.{_≡_};
 ghost use Prim.Native.Nat.{_*_, _≤_};
 ghost use lib.ListN.{length};
 ghost use Rattle.definition.specs.Field.{sheetBits};
 ghost use Rattle.definition.specs.Stop.{drained, why};
+ghost use Rattle.forms.specs.Form.{asForm};
 ghost use Rattle.sheet.specs.Rules.{AllBegin};
 ghost use Rattle.draining.specs.Table.{Tabled, rulesFrom};
 
@@ -19,6 +21,7 @@ pub struct Drained {
 
 // Drains the rules that begin at the noted bits; the tables then hold them.
 pub fn drain(
+    form: Form,
     sheet: &[u8],
     begins: &[usize],
     count: usize,
@@ -29,13 +32,13 @@ pub fn drain(
     range_counts: &mut [u16],
     ranges: &mut [u16],
 ) -> Drained
-    requires { ⌜ AllBegin (sheetBits (now sheet)) (now begins) count ⌝ }
+    requires { ⌜ AllBegin (asForm form) (sheetBits (now sheet)) (now begins) count ⌝ }
     requires { ⌜ (count ≤ length (now begins)) × (count ≤ length (now states)) × (count ≤ length (now «span_counts»)) × (count * 16 ≤ length (now spans)) × (count ≤ length (now replacing)) ⌝ }
     requires { ⌜ (count * 4 ≤ length (now «range_counts»)) × (count * 256 ≤ length (now ranges)) ⌝ }
-    ensures { λ r. ⌜ (r .rules ≡ length (drained (rulesFrom (sheetBits (now (sheet .entry))) (now (begins .entry)) 0 count)))
-        × (r .why ≡ why (rulesFrom (sheetBits (now (sheet .entry))) (now (begins .entry)) 0 count))
+    ensures { λ r. ⌜ (r .rules ≡ length (drained (rulesFrom (asForm form) (sheetBits (now (sheet .entry))) (now (begins .entry)) 0 count)))
+        × (r .why ≡ why (rulesFrom (asForm form) (sheetBits (now (sheet .entry))) (now (begins .entry)) 0 count))
         × Tabled (now (states .exit)) (now («span_counts» .exit)) (now (spans .exit)) (now (replacing .exit)) (now («range_counts» .exit)) (now (ranges .exit))
-        (drained (rulesFrom (sheetBits (now (sheet .entry))) (now (begins .entry)) 0 count)) ⌝ }
+        (drained (rulesFrom (asForm form) (sheetBits (now (sheet .entry))) (now (begins .entry)) 0 count)) ⌝ }
 {
     let mut i: usize = 0;
     while i < count {
@@ -45,6 +48,7 @@ pub fn drain(
         let from = i * 4;
         let to = from + 4;
         if crate::rule::drain_rule(
+            form,
             sheet,
             at,
             i,
@@ -57,7 +61,7 @@ pub fn drain(
         ) {
             return Drained {
                 rules: i,
-                why: stopping::rule::reason_at(sheet, at),
+                why: stopping::rule::reason_at(form, sheet, at),
             };
         }
         i += 1;

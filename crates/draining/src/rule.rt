@@ -4,6 +4,7 @@ use casts::u64_to_u8;
 use codes::title::is_fallback;
 use codes::title::replace_number;
 use codes::title::state_number;
+use forms::Form;
 use sheet::rule::TitleRead;
 ghost use mathlib.Core.Path.{_≡_};
 ghost use mathlib.Core.List.{map};
@@ -14,6 +15,7 @@ ghost use lib.Seq.{sets};
 ghost use mathlib.Core.Option.{none, some};
 ghost use Rattle.definition.specs.Field.{sheetBits};
 ghost use Rattle.definition.specs.Stop.{stops};
+ghost use Rattle.forms.specs.Form.{asForm};
 ghost use Rattle.sheet.specs.Begin.{ruleReadAt, Readable};
 ghost use Rattle.canonical_date.specs.Days.{daysLoaded};
 ghost use Rattle.codes.specs.Number.{spanNumber};
@@ -27,6 +29,7 @@ pub enum Load {
 
 // A rule's ranges, and its spans in their row of the table.
 fn load_rule(
+    form: Form,
     sheet: &[u8],
     at: usize,
     rule: usize,
@@ -34,14 +37,14 @@ fn load_rule(
     ranges: &mut [u16],
     range_counts: &mut [u16],
 ) -> Load
-    requires { ⌜ Readable (sheetBits (now sheet)) at ⌝ }
+    requires { ⌜ Readable (asForm form) (sheetBits (now sheet)) at ⌝ }
     requires { ⌜ (at < 2 ^ 25) × (rule * 16 + 16 ≤ length (now spans)) × (256 ≤ length (now ranges)) × (4 ≤ length (now «range_counts»)) ⌝ }
-    ensures { λ r. ⌜ (loadOf r ≡ cond (partsStop (ruleReadAt (sheetBits (now (sheet .entry))) at)) none (some (length ((ruleReadAt (sheetBits (now (sheet .entry))) at) .spans))))
-        × (now (spans .exit) ≡ sets (now (spans .entry)) (rule * 16) (map spanNumber (loadedSpans (ruleReadAt (sheetBits (now (sheet .entry))) at))))
-        × (now (ranges .exit) ≡ (daysLoaded (sheetBits (now (sheet .entry))) at (now (ranges .entry)) (now («range_counts» .entry))) .ranges)
-        × (now («range_counts» .exit) ≡ (daysLoaded (sheetBits (now (sheet .entry))) at (now (ranges .entry)) (now («range_counts» .entry))) .counts) ⌝ }
+    ensures { λ r. ⌜ (loadOf r ≡ cond (partsStop (ruleReadAt (asForm form) (sheetBits (now (sheet .entry))) at)) none (some (length ((ruleReadAt (asForm form) (sheetBits (now (sheet .entry))) at) .spans))))
+        × (now (spans .exit) ≡ sets (now (spans .entry)) (rule * 16) (map spanNumber (loadedSpans (ruleReadAt (asForm form) (sheetBits (now (sheet .entry))) at))))
+        × (now (ranges .exit) ≡ (daysLoaded (asForm form) (sheetBits (now (sheet .entry))) at (now (ranges .entry)) (now («range_counts» .entry))) .ranges)
+        × (now («range_counts» .exit) ≡ (daysLoaded (asForm form) (sheetBits (now (sheet .entry))) at (now (ranges .entry)) (now («range_counts» .entry))) .counts) ⌝ }
 {
-    let days = canonical_date::days::rule_ranges(sheet, at, ranges, range_counts);
+    let days = canonical_date::days::rule_ranges(form, sheet, at, ranges, range_counts);
     match days {
         Days::Spans(count, place) => {
             if crate::span::load_spans(sheet, place, count, spans, rule * 16) {
@@ -55,6 +58,7 @@ fn load_rule(
 
 // A rule's state, its number of spans and whether it replaces, in the tables; unless it is a Fallback.
 fn set_rule(
+    form: Form,
     sheet: &[u8],
     at: usize,
     rule: usize,
@@ -63,12 +67,12 @@ fn set_rule(
     span_counts: &mut [u8],
     replacing: &mut [u8],
 ) -> bool
-    requires { ⌜ Readable (sheetBits (now sheet)) at ⌝ }
+    requires { ⌜ Readable (asForm form) (sheetBits (now sheet)) at ⌝ }
     requires { ⌜ (at < 2 ^ 25) × (count ≤ 16) × (rule < length (now states)) × (rule < length (now «span_counts»)) × (rule < length (now replacing)) ⌝ }
-    ensures { λ r. ⌜ SetRule (ruleReadAt (sheetBits (now (sheet .entry))) at) rule count (now (states .entry)) (now («span_counts» .entry)) (now (replacing .entry))
+    ensures { λ r. ⌜ SetRule (ruleReadAt (asForm form) (sheetBits (now (sheet .entry))) at) rule count (now (states .entry)) (now («span_counts» .entry)) (now (replacing .entry))
         (now (states .exit)) (now («span_counts» .exit)) (now (replacing .exit)) r ⌝ }
 {
-    let title = sheet::rule::title_at(sheet, at);
+    let title = sheet::rule::title_at(form, sheet, at);
     match title {
         TitleRead::Title(operator, kind, comment, next) => {
             if is_fallback(operator) {
@@ -85,6 +89,7 @@ fn set_rule(
 
 // Drains the rule at a bit into the tables; or answers that it stops.
 pub fn drain_rule(
+    form: Form,
     sheet: &[u8],
     at: usize,
     rule: usize,
@@ -95,18 +100,27 @@ pub fn drain_rule(
     range_counts: &mut [u16],
     ranges: &mut [u16],
 ) -> bool
-    requires { ⌜ Readable (sheetBits (now sheet)) at ⌝ }
+    requires { ⌜ Readable (asForm form) (sheetBits (now sheet)) at ⌝ }
     requires { ⌜ (at < 2 ^ 25) × (rule * 16 + 16 ≤ length (now spans)) × (rule < length (now states)) × (rule < length (now «span_counts»)) × (rule < length (now replacing)) ⌝ }
     requires { ⌜ (256 ≤ length (now ranges)) × (4 ≤ length (now «range_counts»)) ⌝ }
-    ensures { λ r. ⌜ (r ≡ stops (ruleReadAt (sheetBits (now (sheet .entry))) at))
-        × DrainedRule (ruleReadAt (sheetBits (now (sheet .entry))) at) rule (now (states .entry)) (now («span_counts» .entry)) (now (spans .entry)) (now (replacing .entry))
+    ensures { λ r. ⌜ (r ≡ stops (ruleReadAt (asForm form) (sheetBits (now (sheet .entry))) at))
+        × DrainedRule (ruleReadAt (asForm form) (sheetBits (now (sheet .entry))) at) rule (now (states .entry)) (now («span_counts» .entry)) (now (spans .entry)) (now (replacing .entry))
         (now (states .exit)) (now («span_counts» .exit)) (now (spans .exit)) (now (replacing .exit))
-        × (now (ranges .exit) ≡ (daysLoaded (sheetBits (now (sheet .entry))) at (now (ranges .entry)) (now («range_counts» .entry))) .ranges)
-        × (now («range_counts» .exit) ≡ (daysLoaded (sheetBits (now (sheet .entry))) at (now (ranges .entry)) (now («range_counts» .entry))) .counts) ⌝ }
+        × (now (ranges .exit) ≡ (daysLoaded (asForm form) (sheetBits (now (sheet .entry))) at (now (ranges .entry)) (now («range_counts» .entry))) .ranges)
+        × (now («range_counts» .exit) ≡ (daysLoaded (asForm form) (sheetBits (now (sheet .entry))) at (now (ranges .entry)) (now («range_counts» .entry))) .counts) ⌝ }
 {
-    let load = load_rule(sheet, at, rule, spans, ranges, range_counts);
+    let load = load_rule(form, sheet, at, rule, spans, ranges, range_counts);
     match load {
-        Load::Spans(count) => set_rule(sheet, at, rule, count, states, span_counts, replacing),
+        Load::Spans(count) => set_rule(
+            form,
+            sheet,
+            at,
+            rule,
+            count,
+            states,
+            span_counts,
+            replacing,
+        ),
         Load::Stops => true,
     }
 }

@@ -4,13 +4,19 @@
 pub mod width;
 
 use casts::u8_to_u64;
+use forms::Form;
+use forms::comment_width;
+use forms::item_count_width;
+use forms::rule_count_width;
 use limits::items_allowed;
+use limits::rules_allowed;
 ghost use mathlib.Core.Path.{_≡_};
 ghost use Prim.Native.Nat.{_+_, _*_, _-_, _%_, _≤_, _<_, _^_};
 ghost use lib.ListN.{length};
 ghost use Rattle.grid.specs.Cut.{holds};
 ghost use Rattle.definition.specs.Field.{Layout, sheetBits, fieldAt, plain, lawful, counted};
-ghost use Rattle.definition.specs.Sheet.{form1, limits1, year, month, week, weekday, step, choice, minutes};
+ghost use Rattle.definition.specs.Sheet.{limits1, year, month, week, weekday, step, choice, minutes};
+ghost use Rattle.forms.specs.Form.{asForm};
 ghost use Rattle.field.specs.Answer.{asRead};
 
 // A field's value with the bit after it, or a refusal's code and place.
@@ -79,16 +85,40 @@ pub fn choice_at(sheet: &[u8], at: usize) -> Taken
     }
 }
 
-// How many items of a sort, or spans: no more than the limit, else refused by 4.
-pub fn count_at(sheet: &[u8], at: usize) -> Taken
+// A comment, of any value.
+pub fn comment_at(form: Form, sheet: &[u8], at: usize) -> Taken
     requires { ⌜ at < 2 ^ 32 ⌝ }
-    ensures { λ r. ⌜ asRead r ≡ (counted (form1 .itemCount) (limits1 .items)) .read (sheetBits (now (sheet .entry))) at ⌝ }
+    ensures { λ r. ⌜ asRead r ≡ (plain (asForm form .comment)) .read (sheetBits (now (sheet .entry))) at ⌝ }
 {
-    let taken = take_at(sheet, at, width::ITEM_COUNT);
+    take_at(sheet, at, comment_width(form))
+}
+
+// How many items of a sort, or spans: no more than the limit, else refused by 4.
+pub fn count_at(form: Form, sheet: &[u8], at: usize) -> Taken
+    requires { ⌜ at < 2 ^ 32 ⌝ }
+    ensures { λ r. ⌜ asRead r ≡ (counted (asForm form .itemCount) (limits1 .items)) .read (sheetBits (now (sheet .entry))) at ⌝ }
+{
+    let taken = take_at(sheet, at, item_count_width(form));
     let Taken::Value(value, next) = taken else {
         return taken;
     };
     if items_allowed(value) {
+        Taken::Value(value, next)
+    } else {
+        Taken::Refused(4, at)
+    }
+}
+
+// How many rules: no more than the limit, else refused by 4.
+pub fn rule_count_at(form: Form, sheet: &[u8], at: usize) -> Taken
+    requires { ⌜ at < 2 ^ 32 ⌝ }
+    ensures { λ r. ⌜ asRead r ≡ (counted (asForm form .ruleCount) (limits1 .rules)) .read (sheetBits (now (sheet .entry))) at ⌝ }
+{
+    let taken = take_at(sheet, at, rule_count_width(form));
+    let Taken::Value(value, next) = taken else {
+        return taken;
+    };
+    if rules_allowed(value) {
         Taken::Value(value, next)
     } else {
         Taken::Refused(4, at)

@@ -17,7 +17,7 @@ use Rattle.grid.specs.Group.{Set, Map, Group, inside, clear, pop}
 use Rattle.grid.proofs.Part.{Part, groups-part, groups-each}
 use Rattle.grid.proofs.Value.{pop-agree, pop-inside, clear-value}
 use Rattle.definition.specs.Rule.{Rule}
-use Rattle.definition.specs.Sheet.{limits1}
+use Rattle.definition.specs.Sheet.{Form, limits1}
 use Rattle.definition.specs.Point.{dimensions, firstTooLong}
 use Rattle.definition.specs.Day.{Day, day}
 use Rattle.definition.specs.Group.{pages, rulesOf, folded}
@@ -32,7 +32,7 @@ use Rattle.tables.specs.Cuts.{cutOf}
 use Rattle.tables.specs.Lists.{listOf, Within, boxOf, Boxed}
 use Rattle.draw_rule.proofs.Meaning.{box-in}
 use Rattle.paving_cuts.proofs.ByRules.{boxes-counted}
-use Rattle.tables.specs.Rules.{ruleAt, RuleTimes}
+use Rattle.tables.specs.Rules.{ruleAt, AllCommented, RuleTimes}
 use Rattle.paving_points.specs.Paged.{pageOf}
 use Rattle.paving_points.proofs.Boxes.{lawful-bounded}
 use Rattle.paving_points.proofs.Lists.{listed-end}
@@ -128,17 +128,17 @@ module _ (states counts spans rows sizes cuts lists cells classes : List ℕ) (r
 
   -- ## The groups
   -- a group's number is that of a box's day
-  pub found-ready : All (λ g. DayReady states counts spans lists dayRoom (g .0)) found
-  found-ready = All-map (λ g q. each (g .0) (q .0) (q .1)) found
+  pub found-ready : (form : Form) → AllCommented form rs → All (λ g. DayReady form states counts spans lists dayRoom (g .0)) found
+  found-ready form commented = All-map (λ g q. each (g .0) (q .0) (q .1)) found
       (popped-values used cells classes sizes 5 1 4 (numbered .none) (none-used (boxWords states counts spans lists) (sizeOf sizes 4)) cells-in-use)
     where
       below : (v : ℕ) → used v → 1 ≤ v → v - 1 < sizeOf sizes 4
       below v (inl e) l = absurd (omega arith)
       below v (inr (i, h, e)) l = omega (arith, number-low (boxWords states counts spans lists) i)
 
-      each : (v : ℕ) → used v → 1 ≤ v → DayReady states counts spans lists dayRoom v
+      each : (v : ℕ) → used v → 1 ≤ v → DayReady form states counts spans lists dayRoom v
       each v u l = (
         l,
         box-ready states counts spans rs tables rows sizes cuts lists boxed (v - 1) (below v u l),
-        boxed-carried states counts spans rs tables rows sizes cuts lists boxed (v - 1),
+        boxed-carried states counts spans rs tables rows sizes cuts lists boxed form commented (v - 1),
       )

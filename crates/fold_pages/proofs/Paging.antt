@@ -10,13 +10,14 @@ use Rattle.laws.specs.Lists.{All}
 use Rattle.grid.specs.Group.{Group}
 use Rattle.grid.proofs.Part.{Part}
 use Rattle.definition.specs.Rule.{Rule}
+use Rattle.definition.specs.Sheet.{Form}
 use Rattle.paving.specs.Grid.{sizeOf, axes}
 use Rattle.paving.specs.Sweep.{groupsFrom}
 use Rattle.number_boxes.specs.Boxes.{DaysNumbered}
 use Rattle.tables.specs.Days.{boxWords}
 use Rattle.paving_pages.specs.Pages.{groupsNumbers}
 use Rattle.paving_pages.proofs.Enough.{pages-few}
-use Rattle.tables.specs.Rules.{RuleTimes}
+use Rattle.tables.specs.Rules.{AllCommented, RuleTimes}
 use Rattle.tables.specs.Lists.{Boxed}
 use Rattle.tables.specs.Sizes.{dayRoom}
 use Rattle.tables.specs.Pages.{Paged, Counted}
@@ -54,12 +55,12 @@ module _ (states counts spans rows sizes cuts lists cells classes : List ℕ) (r
   pages-end = ((length found, ended), omega (arith, inside))
 
   -- SO MANY PAGES as were counted
-  pub pages-folded : (n : ℕ) → ((m : ℕ) → Counted pages m 0 stop → n ≡ m) → Paged states counts spans lists pages n rs
-  pages-folded n counted = subst (λ m. Paged states counts spans lists pages m rs) (sym (counted (length found) ended)) (record {
+  pub pages-folded : (form : Form) → AllCommented form rs → (n : ℕ) → ((m : ℕ) → Counted pages m 0 stop → n ≡ m) → Paged form states counts spans lists pages n rs
+  pages-folded form commented n counted = subst (λ m. Paged form states counts spans lists pages m rs) (sym (counted (length found) ended)) (record {
     few = found-few states counts spans rows sizes cuts lists cells classes rs tables boxed all-numbered exact;
     ready = text-ready rows sizes cuts rs (boxed .cut) (fits-lawful rs (tables .fits)) (boxed .few-boxes)
-        states counts spans lists pages₀ pages dayRoom found laid inside parts
-        (found-ready states counts spans rows sizes cuts lists cells classes rs tables boxed all-numbered exact);
+        form states counts spans lists pages₀ pages dayRoom found laid inside parts
+        (found-ready states counts spans rows sizes cuts lists cells classes rs tables boxed all-numbered exact form commented);
     brief = found-brief states counts spans rows sizes cuts lists cells classes rs tables boxed all-numbered exact;
     rules = text-rules rows cuts sizes states counts spans lists pages₀ pages found laid inside parts
         ∙ sym (folded-found states counts spans rows sizes cuts lists cells classes rs tables boxed all-numbered exact);

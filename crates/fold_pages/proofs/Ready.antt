@@ -6,18 +6,18 @@ use mathlib.Core.List.{List, map}
 use Prim.Native.Nat.{ℕ, zero, suc, _+_, _*_, _≤_, _<_}
 use native.Mathlib.Nat.{le-mul-of-pos-right}
 use native.Mathlib.Omega.{arith}
+use lib.Pow.{pow-pos}
 use lib.Dec.{ltb}
 use lib.ListN.{length, getD, List·getD-eq-default}
 use borrow.Author.Tests.{ltb-true, ltb-false}
 use Rattle.laws.specs.Lists.{All}
 use Rattle.laws.proofs.Lists.{All-at, every-all}
 use Rattle.definition.specs.Rule.{Rule, noRule}
-use Rattle.definition.specs.Sheet.{form1, limits1, span}
+use Rattle.definition.specs.Sheet.{Form, form2, limits1, span}
 use Rattle.definition.specs.Point.{dimensions}
 use Rattle.definition.specs.Day.{Entry}
 use Rattle.definition.proofs.Lawful.{items-fit}
-use Rattle.codes.specs.Number.{stateCoded, NumberedState, spanAt}
-use Rattle.codes.proofs.Carried.{state-numbered}
+use Rattle.codes.specs.Number.{stateCoded, spanAt}
 use Rattle.words.specs.Words.{part}
 use Rattle.day_flat.specs.Day.{unflat}
 use Rattle.day_flat.proofs.Room.{day-room}
@@ -29,7 +29,7 @@ use Rattle.paving_points.proofs.Boxes.{lawful-bounded}
 use Rattle.paving_pages.specs.Pages.{CutRows}
 use Rattle.paving_pages.proofs.Rules.{cut-rows}
 use Rattle.fold_pages.proofs.Carrying.{box-carried}
-use Rattle.tables.specs.Rules.{RuleTimes}
+use Rattle.tables.specs.Rules.{RuleTimes, Commented, AllCommented}
 use Rattle.tables.specs.Sizes.{dayRoom}
 use Rattle.tables.proofs.Days.{fits-lawful}
 use Rattle.tables.proofs.Times.{entry-back}
@@ -47,21 +47,21 @@ module _ (states counts spans : List ℕ) (rs : List Rule) (tables : RuleTimes s
       go true e = let h = tables .each r (ltb-true r (length rs) e) in omega (arith, h .count-held, h .few-held)
       go false e = omega (arith, counts-past r (ltb-false r (length rs) e))
 
-  entries-fit : (r : ℕ) → NumberedState (stateCoded (getD states r 0)) × All FitsSpan (map spanAt (part spans (r * 16) (getD counts r 0)))
+  entries-fit : (form : Form) → AllCommented form rs → (r : ℕ) → Commented form (stateCoded (getD states r 0)) × All FitsSpan (map spanAt (part spans (r * 16) (getD counts r 0)))
   unfolding stateCoded part
-  entries-fit r = go (ltb r (length rs)) refl
+  entries-fit form commented r = go (ltb r (length rs)) refl
     where
-      go : (b : Bool) → ltb r (length rs) ≡ b → NumberedState (stateCoded (getD states r 0)) × All FitsSpan (map spanAt (part spans (r * 16) (getD counts r 0)))
+      go : (b : Bool) → ltb r (length rs) ≡ b → Commented form (stateCoded (getD states r 0)) × All FitsSpan (map spanAt (part spans (r * 16) (getD counts r 0)))
       go true e =
           let l = ltb-true r (length rs) e in
           let named = getD rs r noRule in
           let f = All-at _ rs noRule (tables .fits) r l in
-          subst (λ (x : Entry). NumberedState (x .0) × All FitsSpan (x .1)) (sym (entry-back states counts spans r named (tables .each r l) f))
-          (state-numbered named f, every-all FitsSpan (span .fits) (λ s k. k) (named .spans) (items-fit form1 limits1 named f .spans-fit))
+          subst (λ (x : Entry). Commented form (x .0) × All FitsSpan (x .1)) (sym (entry-back states counts spans r named (tables .each r l) f))
+          (All-at _ rs noRule commented r l, every-all FitsSpan (span .fits) (λ s k. k) (named .spans) (items-fit form2 limits1 named f .spans-fit))
       go false e =
           let l = ltb-false r (length rs) e in
           let s : getD states r 0 ≡ 0 = List·getD-eq-default states 0 (omega (arith, l, tables .all-states)) in
-          rw (s, counts-past r l) (omega arith, tt)
+          rw (s, counts-past r l) (pow-pos (form .comment), tt)
 
   -- ## Boxes
   module _ (rows sizes cuts lists : List ℕ) (boxed : Boxed rows sizes cuts lists rs) where
@@ -85,8 +85,8 @@ module _ (states counts spans : List ℕ) (rs : List Rule) (tables : RuleTimes s
         inside : (x : ℕ) → x < length rs → (x < length states) × (x < length counts) × (x * 16 + 16 ≤ length spans)
         inside x h = (omega (arith, tables .all-states), omega (arith, tables .all-counts), omega (arith, tables .all-spans))
 
-    pub boxed-carried : (i : ℕ) → All Carried (unflat (boxWords states counts spans lists i))
-    boxed-carried i = box-carried states counts spans counts-few entries-fit lists i (boxed .listed .short i)
+    pub boxed-carried : (form : Form) → AllCommented form rs → (i : ℕ) → All (Carried form) (unflat (boxWords states counts spans lists i))
+    boxed-carried form commented i = box-carried form states counts spans counts-few (entries-fit form commented) lists i (boxed .listed .short i)
 
 -- ## Room to pop
 -- the intervals of all dimensions are hardly more than the boxes

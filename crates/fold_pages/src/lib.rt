@@ -4,8 +4,9 @@ ghost use mathlib.Core.List.{List};
 ghost use Prim.Native.Nat.{_*_, _≤_};
 ghost use lib.ListN.{length};
 ghost use Rattle.definition.specs.Rule.{Rule};
+ghost use Rattle.definition.specs.Sheet.{Form};
 ghost use Rattle.paving.specs.Grid.{sizeOf};
-ghost use Rattle.tables.specs.Rules.{RuleTimes};
+ghost use Rattle.tables.specs.Rules.{AllCommented, RuleTimes};
 ghost use Rattle.tables.specs.Lists.{Boxed};
 ghost use Rattle.tables.specs.Pages.{Paged};
 
@@ -23,9 +24,9 @@ pub fn fold_pages(
     requires { ⌜ ((rs : List Rule) × RuleTimes (now states) (now «span_counts») (now spans) rs
         × Boxed (now «row_starts») (now sizes) (now cuts) (now lists) rs) ⌝ }
     requires { ⌜ 13 * sizeOf (now sizes) 4 ≤ length (now pages) ⌝ }
-    ensures { λ r. ⌜ ((rs : List Rule) → RuleTimes (now (states .entry)) (now («span_counts» .entry)) (now (spans .entry)) rs
-        → Boxed (now («row_starts» .entry)) (now (sizes .entry)) (now (cuts .entry)) (now (lists .entry)) rs
-        → Paged (now (states .entry)) (now («span_counts» .entry)) (now (spans .entry)) (now (lists .entry)) (now (pages .exit)) r rs) ⌝ }
+    ensures { λ r. ⌜ ((rs : List Rule) (form : Form) → RuleTimes (now (states .entry)) (now («span_counts» .entry)) (now (spans .entry)) rs
+        → Boxed (now («row_starts» .entry)) (now (sizes .entry)) (now (cuts .entry)) (now (lists .entry)) rs → AllCommented form rs
+        → Paged form (now (states .entry)) (now («span_counts» .entry)) (now (spans .entry)) (now (lists .entry)) (now (pages .exit)) r rs) ⌝ }
 {
     let boxes = paving::place::size_of(sizes, 4);
     let mut cells = buffers::day_numbers();

@@ -1,8 +1,9 @@
-// Writes the result: all is measured first, then refused where the buffer has no room (7), or written: the rule count, the rules of the pages,
+// Writes the result: all is measured first, then refused where the buffer has no room (7), or written: mark and rule count, the rules of the pages,
 // the rules left as their bits stand in the sheet, zero bits to the byte's end.
 use answers::Folded;
 use answers::fold_refused;
-use field::width::RULE_COUNT;
+use forms::Form;
+use forms::opening_width;
 use limits::lacks_room;
 use page_writer::measure_pages;
 use page_writer::write_pages;
@@ -14,9 +15,9 @@ ghost use lib.Dec.{ltb};
 ghost use lib.ListN.{length, getD};
 ghost use Rattle.definition.specs.Field.{packed};
 ghost use Rattle.definition.specs.Rule.{Rule};
-ghost use Rattle.definition.specs.Sheet.{form1};
 ghost use Rattle.definition.specs.Stop.{drained};
 ghost use Rattle.definition.specs.Fold.{numbers, buffer};
+ghost use Rattle.forms.specs.Form.{asForm};
 ghost use Rattle.sheet_writer.specs.Frame.{between};
 ghost use Rattle.tables.specs.Pages.{Pages, Paged, pagedRules};
 ghost use Rattle.tables.specs.Sizes.{dayRoom};
@@ -55,6 +56,7 @@ pub fn rules_left(begins: &[usize], rules: usize, count: usize, end: usize, why:
 
 // A whole sheet at the front of a buffer that has room for it.
 fn write_sheet(
+    form: Form,
     sheet: &[u8],
     start: usize,
     end: usize,
@@ -67,23 +69,34 @@ fn write_sheet(
     count: usize,
     rules: usize,
 )
-    requires { ⌜ Pages (now states) (now «span_counts») (now spans) (now lists) (now pages) dayRoom count 0 ⌝ }
+    requires { ⌜ Pages (asForm form) (now states) (now «span_counts») (now spans) (now lists) (now pages) dayRoom count 0 ⌝ }
     requires { ⌜ (start ≤ end) × (end ≤ 8 * length (now sheet)) × (end < 2 ^ 32) ⌝ }
-    requires { ⌜ rules < 2 ^ form1 .ruleCount ⌝ }
-    requires { ⌜ (length (resultBits rules (pagedRules (now states) (now «span_counts») (now spans) (now lists) (now pages) count) (between (now sheet) start end)) ≤ 8 * length (now out))
-        × (length (resultBits rules (pagedRules (now states) (now «span_counts») (now spans) (now lists) (now pages) count) (between (now sheet) start end)) < 2 ^ 60) ⌝ }
+    requires { ⌜ rules < 2 ^ asForm form .ruleCount ⌝ }
+    requires { ⌜ (length (resultBits (asForm form) rules (pagedRules (now states) (now «span_counts») (now spans) (now lists) (now pages) count) (between (now sheet) start end)) ≤ 8 * length (now out))
+        × (length (resultBits (asForm form) rules (pagedRules (now states) (now «span_counts») (now spans) (now lists) (now pages) count) (between (now sheet) start end)) < 2 ^ 60) ⌝ }
     ensures { λ _. ⌜ now (out .exit)
-        ≡ buffer (packed (resultBits rules
+        ≡ buffer (packed (resultBits (asForm form) rules
         (pagedRules (now (states .entry)) (now («span_counts» .entry)) (now (spans .entry)) (now (lists .entry)) (now (pages .entry)) count)
         (between (now (sheet .entry)) start end))) (now (out .entry)) ⌝ }
 {
-    let first = sheet_writer::put_count(out, rules as u64);
-    let place = write_pages(out, first, states, span_counts, spans, lists, pages, count);
+    let first = sheet_writer::put_opening(form, out, rules as u64);
+    let place = write_pages(
+        form,
+        out,
+        first,
+        states,
+        span_counts,
+        spans,
+        lists,
+        pages,
+        count,
+    );
     sheet_writer::put_left(sheet, start, end, out, place);
 }
 
 // The result of a fold whose drained rules stand folded on `count` pages: written to the front of the buffer, or refused with nothing written.
 pub fn emit(
+    form: Form,
     sheet: &[u8],
     left: Left,
     out: &mut [u8],
@@ -94,21 +107,22 @@ pub fn emit(
     pages: &[u16],
     count: usize,
 ) -> Folded
-    requires { ⌜ ((rs : List Rule) × Paged (now states) (now «span_counts») (now spans) (now lists) (now pages) count (drained rs)
-        × Leaving (now sheet) rs (left .start) (left .end) (length (now states)) (left .rules) (left .why)) ⌝ }
+    requires { ⌜ ((rs : List Rule) × Paged (asForm form) (now states) (now «span_counts») (now spans) (now lists) (now pages) count (drained rs)
+        × Leaving (asForm form) (now sheet) rs (left .start) (left .end) (length (now states)) (left .rules) (left .why)) ⌝ }
     ensures { λ r. ⌜ ((rs : List Rule)
-        → Paged (now (states .entry)) (now («span_counts» .entry)) (now (spans .entry)) (now (lists .entry)) (now (pages .entry)) count (drained rs)
-        → Leaving (now (sheet .entry)) rs (left .start) (left .end) (length (now (states .entry))) (left .rules) (left .why)
-        → (foldNumbers r ≡ numbers (emission (length (now (out .entry))) rs)) × (now (out .exit) ≡ buffer (emission (length (now (out .entry))) rs .result) (now (out .entry)))) ⌝ }
+        → Paged (asForm form) (now (states .entry)) (now («span_counts» .entry)) (now (spans .entry)) (now (lists .entry)) (now (pages .entry)) count (drained rs)
+        → Leaving (asForm form) (now (sheet .entry)) rs (left .start) (left .end) (length (now (states .entry))) (left .rules) (left .why)
+        → (foldNumbers r ≡ numbers (emission (asForm form) (length (now (out .entry))) rs)) × (now (out .exit) ≡ buffer (emission (asForm form) (length (now (out .entry))) rs .result) (now (out .entry)))) ⌝ }
 {
-    let measured = measure_pages(states, span_counts, spans, lists, pages, count);
+    let measured = measure_pages(form, states, span_counts, spans, lists, pages, count);
     let start = left.start;
     let end = left.end;
-    let bytes = (RULE_COUNT + measured.bits + (end - start) + 7) / 8;
+    let bytes = (opening_width(form) + measured.bits + (end - start) + 7) / 8;
     if lacks_room(out.len(), bytes) {
         return fold_refused(7, bytes as u64);
     }
     write_sheet(
+        form,
         sheet,
         start,
         end,

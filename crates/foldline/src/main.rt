@@ -1,5 +1,5 @@
-// foldline: folds the sheet on standard input and prints the fold as one line of text: what the cockpit shows. Where the fold or the line is
-// refused, one line says which of the two, the code and the place. A sheet has at most 65,536 bytes, else `too long` is printed.
+// foldline: folds the sheet of form 1 on standard input and prints the fold as one line of text: what the cockpit shows. Where the fold or the line
+// is refused, one line says which of the two, the code and the place. A sheet has at most 65,536 bytes, else `too long` is printed.
 use answers::Folded;
 use answers::Written;
 use libc::STDIN_FILENO;
@@ -27,7 +27,7 @@ fn print_line(line: Written, text: &[u8]) {
 
 fn show_line(folded: &[u8]) {
     let mut text = io::large_buffer();
-    let line = hours::line(folded, &mut text);
+    let line = hours::line(1, folded, &mut text);
     print_line(line, &text);
 }
 
@@ -43,7 +43,7 @@ fn show_fold(folded: Folded, out: &[u8]) {
 
 fn fold_line(sheet: &[u8]) {
     let mut out = io::large_buffer();
-    let folded = hours::fold(sheet, &mut out);
+    let folded = hours::fold(1, sheet, &mut out);
     show_fold(folded, &out);
 }
 

@@ -1,5 +1,5 @@
-// foldsheet: folds the sheet on standard input and prints the seven numbers under their names, then the result in upper-case hex, or `-` on a
-// refusal. A sheet has at most 65,536 bytes, else `too long` is printed.
+// foldsheet: folds the sheet of form 1 on standard input and prints the seven numbers under their names, then the result in upper-case hex, or `-`
+// on a refusal. A sheet has at most 65,536 bytes, else `too long` is printed.
 use answers::Folded;
 use libc::STDIN_FILENO;
 use libc::STDOUT_FILENO;
@@ -52,7 +52,7 @@ fn print_result(folded: Folded, out: &[u8]) {
 
 fn fold_sheet(sheet: &[u8]) {
     let mut out = io::large_buffer();
-    let folded = hours::fold(sheet, &mut out);
+    let folded = hours::fold(1, sheet, &mut out);
     print_numbers(folded);
     print_result(folded, &out);
 }

@@ -7,29 +7,30 @@ use limits::lacks_room;
 ghost use mathlib.Core.Path.{_≡_};
 ghost use lib.Dec.{leb};
 ghost use lib.ListN.{length};
-ghost use Rattle.definition.specs.Sheet.{form1, limits1};
-ghost use Rattle.definition.specs.Fold.{numbers, writtenNumbers, fold, writeBack};
-ghost use Rattle.definition.specs.Show.{showLine};
+ghost use Rattle.definition.specs.Sheet.{limits1};
+ghost use Rattle.definition.specs.Fold.{numbers, writtenNumbers};
+ghost use Rattle.definition.specs.Forms.{foldIn, writeBackIn, showLineIn, lookupIn, convertIn};
 ghost use Rattle.definition.specs.Lookup as state;
 ghost use Rattle.hours.specs.Export.{put};
 
 // Code, drained, emitted, left, bytes, place, why.
 #[no_mangle]
-pub extern "C" fn hours_fold(sheet: &[u8], out: &mut [u8], lent: &mut [u64]) -> bool
+pub extern "C" fn hours_fold(form: u64, sheet: &[u8], out: &mut [u8], lent: &mut [u64]) -> bool
     ensures { λ r. ⌜ (r ≡ leb 7 (length (now (lent .entry))))
-        × (now (lent .exit) ≡ put r (numbers (fold form1 limits1 (length (now (out .entry))) (now (sheet .entry)))) (now (lent .entry)))
-        × (now (out .exit) ≡ put r ((fold form1 limits1 (length (now (out .entry))) (now (sheet .entry))) .result) (now (out .entry))) ⌝ }
+        × (now (lent .exit) ≡ put r (numbers (foldIn limits1 form (length (now (out .entry))) (now (sheet .entry)))) (now (lent .entry)))
+        × (now (out .exit) ≡ put r ((foldIn limits1 form (length (now (out .entry))) (now (sheet .entry))) .result) (now (out .entry))) ⌝ }
 {
     if lacks_room(lent.len(), 7) {
         return false;
     }
-    put_folded(crate::fold(sheet, out), lent);
+    put_folded(crate::fold(form, sheet, out), lent);
     true
 }
 
 // Code, kind, comment, place.
 #[no_mangle]
 pub extern "C" fn hours_lookup(
+    form: u64,
     sheet: &[u8],
     year: u64,
     month: u64,
@@ -38,39 +39,58 @@ pub extern "C" fn hours_lookup(
     lent: &mut [u64],
 ) -> bool
     ensures { λ r. ⌜ (r ≡ leb 4 (length (now (lent .entry))))
-        × (now (lent .exit) ≡ put r (state.numbers (state.lookup form1 limits1 (now (sheet .entry)) year month day minute)) (now (lent .entry))) ⌝ }
+        × (now (lent .exit) ≡ put r (state.numbers (lookupIn limits1 form (now (sheet .entry)) year month day minute)) (now (lent .entry))) ⌝ }
 {
     if lacks_room(lent.len(), 4) {
         return false;
     }
-    put_looked(crate::lookup(sheet, year, month, day, minute), lent);
+    put_looked(crate::lookup(form, sheet, year, month, day, minute), lent);
     true
 }
 
 // Code, bytes, place.
 #[no_mangle]
-pub extern "C" fn hours_write_back(sheet: &[u8], out: &mut [u8], lent: &mut [u64]) -> bool
+pub extern "C" fn hours_write_back(
+    form: u64,
+    sheet: &[u8],
+    out: &mut [u8],
+    lent: &mut [u64],
+) -> bool
     ensures { λ r. ⌜ (r ≡ leb 3 (length (now (lent .entry))))
-        × (now (lent .exit) ≡ put r (writtenNumbers (writeBack form1 limits1 (length (now (out .entry))) (now (sheet .entry)))) (now (lent .entry)))
-        × (now (out .exit) ≡ put r ((writeBack form1 limits1 (length (now (out .entry))) (now (sheet .entry))) .result) (now (out .entry))) ⌝ }
+        × (now (lent .exit) ≡ put r (writtenNumbers (writeBackIn limits1 form (length (now (out .entry))) (now (sheet .entry)))) (now (lent .entry)))
+        × (now (out .exit) ≡ put r ((writeBackIn limits1 form (length (now (out .entry))) (now (sheet .entry))) .result) (now (out .entry))) ⌝ }
 {
     if lacks_room(lent.len(), 3) {
         return false;
     }
-    put_written(crate::write_back(sheet, out), lent);
+    put_written(crate::write_back(form, sheet, out), lent);
     true
 }
 
 // Code, bytes, place.
 #[no_mangle]
-pub extern "C" fn hours_line(sheet: &[u8], out: &mut [u8], lent: &mut [u64]) -> bool
+pub extern "C" fn hours_line(form: u64, sheet: &[u8], out: &mut [u8], lent: &mut [u64]) -> bool
     ensures { λ r. ⌜ (r ≡ leb 3 (length (now (lent .entry))))
-        × (now (lent .exit) ≡ put r (writtenNumbers (showLine form1 limits1 (length (now (out .entry))) (now (sheet .entry)))) (now (lent .entry)))
-        × (now (out .exit) ≡ put r ((showLine form1 limits1 (length (now (out .entry))) (now (sheet .entry))) .result) (now (out .entry))) ⌝ }
+        × (now (lent .exit) ≡ put r (writtenNumbers (showLineIn limits1 form (length (now (out .entry))) (now (sheet .entry)))) (now (lent .entry)))
+        × (now (out .exit) ≡ put r ((showLineIn limits1 form (length (now (out .entry))) (now (sheet .entry))) .result) (now (out .entry))) ⌝ }
 {
     if lacks_room(lent.len(), 3) {
         return false;
     }
-    put_written(crate::line(sheet, out), lent);
+    put_written(crate::line(form, sheet, out), lent);
+    true
+}
+
+// Code, bytes, place.
+#[no_mangle]
+pub extern "C" fn hours_convert(form: u64, sheet: &[u8], out: &mut [u8], lent: &mut [u64]) -> bool
+    ensures { λ r. ⌜ (r ≡ leb 3 (length (now (lent .entry))))
+        × (now (lent .exit) ≡ put r (writtenNumbers (convertIn limits1 form (length (now (out .entry))) (now (sheet .entry)))) (now (lent .entry)))
+        × (now (out .exit) ≡ put r ((convertIn limits1 form (length (now (out .entry))) (now (sheet .entry))) .result) (now (out .entry))) ⌝ }
+{
+    if lacks_room(lent.len(), 3) {
+        return false;
+    }
+    put_written(crate::convert(form, sheet, out), lent);
     true
 }

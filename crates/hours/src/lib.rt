@@ -1,77 +1,93 @@
-// What users touch: the fold of a sheet, the state at a date and minute, writing back, and the line of a sheet. None has a `requires`: every
-// byte string, date and buffer gets an answer. Rests on the check of sheets, on the stages of the fold and of the lookup, and on the line of rules.
+// What users touch: the fold of a sheet, the state at a date and minute, writing back, the line of a sheet, and its conversion to the other form. None has
+// a `requires`: every form's number, byte string, date and buffer gets an answer. 02, M-106: a number that names no form is refused by 2 with place 0,
+// before all else. Rests on the entries in a form that is known.
 pub mod export;
+pub mod in_form;
 
 use answers::Answer;
 use answers::Folded;
 use answers::Written;
 use answers::fold_refused;
 use answers::lookup_refused;
-use sheet::check::Checked;
+use forms::Named;
+use forms::form_of;
 ghost use mathlib.Core.Path.{_≡_};
 ghost use lib.ListN.{length};
-ghost use Rattle.definition.specs.Sheet.{form1, limits1};
-ghost use Rattle.definition.specs.Fold.{buffer, numbers, writtenNumbers, fold, writeBack};
-ghost use Rattle.definition.specs.Show.{showLine};
-ghost use Rattle.definition.specs.Lookup.{lookup};
+ghost use Rattle.definition.specs.Sheet.{limits1};
+ghost use Rattle.definition.specs.Fold.{buffer, numbers, writtenNumbers};
+ghost use Rattle.definition.specs.Forms.{foldIn, writeBackIn, showLineIn, lookupIn, convertIn};
 ghost use Rattle.answers.specs.Numbers.{foldNumbers, lookedUp, writeNumbers};
 
 // "The fold answers code, drained, emitted (folded rules only), left (rules copied), bytes written, place", and why it stopped. The result stands
-// at the front of `out`; a refused fold changes no byte.
-pub fn fold(sheet: &[u8], out: &mut [u8]) -> Folded
-    ensures { λ r. ⌜ (foldNumbers r ≡ numbers (fold form1 limits1 (length (now (out .entry))) (now (sheet .entry))))
-        × (now (out .exit) ≡ buffer ((fold form1 limits1 (length (now (out .entry))) (now (sheet .entry))) .result) (now (out .entry))) ⌝ }
+// at the front of `out`, in the form of the sheet; a refused fold changes no byte.
+pub fn fold(form: u64, sheet: &[u8], out: &mut [u8]) -> Folded
+    ensures { λ r. ⌜ (foldNumbers r ≡ numbers (foldIn limits1 form (length (now (out .entry))) (now (sheet .entry))))
+        × (now (out .exit) ≡ buffer ((foldIn limits1 form (length (now (out .entry))) (now (sheet .entry))) .result) (now (out .entry))) ⌝ }
 {
-    let mut begins = [0usize; 64];
-    let checked = sheet::check::check(sheet, &mut begins);
-    match checked {
-        Checked::Rules(count, end) => normalize::fold_rules(sheet, &begins, count, end, out),
-        Checked::Refused(code, place) => fold_refused(code as u64, place as u64),
+    let named = form_of(form);
+    match named {
+        Named::Known(known) => in_form::fold(known, sheet, out),
+        Named::Unknown => fold_refused(2, 0),
     }
 }
 
 // "Takes a sheet, a year, month, day and minute (0 to 1439)": "answers code, kind, comment and the table's place; refused, kind and comment are 0".
-pub fn lookup(sheet: &[u8], year: u64, month: u64, day: u64, minute: u64) -> Answer
-    ensures { λ r. ⌜ lookedUp r ≡ lookup form1 limits1 (now (sheet .entry)) year month day minute ⌝ }
+pub fn lookup(form: u64, sheet: &[u8], year: u64, month: u64, day: u64, minute: u64) -> Answer
+    ensures { λ r. ⌜ lookedUp r ≡ lookupIn limits1 form (now (sheet .entry)) year month day minute ⌝ }
 {
-    let mut begins = [0usize; 64];
-    let checked = sheet::check::check(sheet, &mut begins);
-    match checked {
-        Checked::Rules(count, end) => lookup::look_rules(
-            sheet,
-            &begins,
-            count,
-            year,
-            month,
-            day,
-            minute,
-        ),
-        Checked::Refused(code, place) => lookup_refused(code as u64, place as u64),
+    let named = form_of(form);
+    match named {
+        Named::Known(known) => in_form::lookup(known, sheet, year, month, day, minute),
+        Named::Unknown => lookup_refused(2, 0),
     }
 }
 
 // "Writing back refuses by 1 to 4 and 7 only": code, bytes written and place.
-pub fn write_back(sheet: &[u8], out: &mut [u8]) -> Written
-    ensures { λ r. ⌜ (writeNumbers r ≡ writtenNumbers (writeBack form1 limits1 (length (now (out .entry))) (now (sheet .entry))))
-        × (now (out .exit) ≡ buffer ((writeBack form1 limits1 (length (now (out .entry))) (now (sheet .entry))) .result) (now (out .entry))) ⌝ }
+pub fn write_back(form: u64, sheet: &[u8], out: &mut [u8]) -> Written
+    ensures { λ r. ⌜ (writeNumbers r ≡ writtenNumbers (writeBackIn limits1 form (length (now (out .entry))) (now (sheet .entry))))
+        × (now (out .exit) ≡ buffer ((writeBackIn limits1 form (length (now (out .entry))) (now (sheet .entry))) .result) (now (out .entry))) ⌝ }
 {
-    sheet::back::write_back(sheet, out)
+    let named = form_of(form);
+    match named {
+        Named::Known(known) => sheet::back::write_back(known, sheet, out),
+        Named::Unknown => Written {
+            code: 2,
+            bytes: 0,
+            place: 0,
+        },
+    }
 }
 
 // 02, M-100: "a writer from an accepted sheet to text": code, bytes written and place. The line stands at the front of `out`; a refused one
 // changes no byte.
-pub fn line(sheet: &[u8], out: &mut [u8]) -> Written
-    ensures { λ r. ⌜ (writeNumbers r ≡ writtenNumbers (showLine form1 limits1 (length (now (out .entry))) (now (sheet .entry))))
-        × (now (out .exit) ≡ buffer ((showLine form1 limits1 (length (now (out .entry))) (now (sheet .entry))) .result) (now (out .entry))) ⌝ }
+pub fn line(form: u64, sheet: &[u8], out: &mut [u8]) -> Written
+    ensures { λ r. ⌜ (writeNumbers r ≡ writtenNumbers (showLineIn limits1 form (length (now (out .entry))) (now (sheet .entry))))
+        × (now (out .exit) ≡ buffer ((showLineIn limits1 form (length (now (out .entry))) (now (sheet .entry))) .result) (now (out .entry))) ⌝ }
 {
-    let mut begins = [0usize; 64];
-    let checked = sheet::check::check(sheet, &mut begins);
-    match checked {
-        Checked::Rules(count, end) => line::line_of(sheet, &begins, count, out),
-        Checked::Refused(code, place) => Written {
-            code,
+    let named = form_of(form);
+    match named {
+        Named::Known(known) => in_form::line(known, sheet, out),
+        Named::Unknown => Written {
+            code: 2,
             bytes: 0,
-            place,
+            place: 0,
+        },
+    }
+}
+
+// 02, M-106: "Stored sheets move to form 2 and back": the number is that of the sheet's form, and the other form comes out: code, bytes written and
+// place. A refused sheet changes no byte.
+pub fn convert(form: u64, sheet: &[u8], out: &mut [u8]) -> Written
+    ensures { λ r. ⌜ (writeNumbers r ≡ writtenNumbers (convertIn limits1 form (length (now (out .entry))) (now (sheet .entry))))
+        × (now (out .exit) ≡ buffer ((convertIn limits1 form (length (now (out .entry))) (now (sheet .entry))) .result) (now (out .entry))) ⌝ }
+{
+    let named = form_of(form);
+    match named {
+        Named::Known(known) => in_form::convert(known, sheet, out),
+        Named::Unknown => Written {
+            code: 2,
+            bytes: 0,
+            place: 0,
         },
     }
 }

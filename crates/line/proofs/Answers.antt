@@ -7,6 +7,7 @@ use native.Mathlib.Omega.{arith}
 use lib.ListN.{length}
 use Rattle.definition.specs.Field.{noRoom, noWords}
 use Rattle.definition.specs.Rule.{Rule}
+use Rattle.definition.specs.Sheet.{Form}
 use Rattle.definition.specs.Fold.{Written, buffer, unwritten}
 use Rattle.definition.specs.Line.{lineOf, line}
 use Rattle.definition.specs.Show.{firstWordless, showRules}
@@ -16,16 +17,16 @@ use Rattle.line.specs.declared.Lined.{Lined}
 use Rattle.line.specs.declared.Lined.the-variants.{To, Wordless}
 use Rattle.line.specs.Lined.{Lines, Measured}
 
-pub lines-measured : (s begins : List ℕ) (n : ℕ) (l m : List ℕ) (r : Lined) → Lines s begins n l r m → Measured (rulesAt s begins n) r
-lines-measured s begins n l m (To q) h = (h .0, omega (arith, h .1 .ends))
-lines-measured s begins n l m (Wordless k) h = h .0
+pub lines-measured : (form : Form) (s begins : List ℕ) (n : ℕ) (l m : List ℕ) (r : Lined) → Lines form s begins n l r m → Measured (rulesAt form s begins n) r
+lines-measured form s begins n l m (To q) h = (h .0, omega (arith, h .1 .ends))
+lines-measured form s begins n l m (Wordless k) h = h .0
 
 -- where every rule has words, the line is at the front of the buffer
-pub lines-written : (s begins : List ℕ) (n : ℕ) (l m : List ℕ) (r : Lined) → Lines s begins n l r m → firstWordless (rulesAt s begins n) ≡ none
-    → length (lineOf (rulesAt s begins n)) ≤ length l
-    → m ≡ buffer (lineOf (rulesAt s begins n)) l
-lines-written s begins n l m (To q) h e room = h .1 .stored ∙ written-front (lineOf (rulesAt s begins n)) l room
-lines-written s begins n l m (Wordless k) h e room = absurd (Option·some-ne-none k (sym (h .0) ∙ e))
+pub lines-written : (form : Form) (s begins : List ℕ) (n : ℕ) (l m : List ℕ) (r : Lined) → Lines form s begins n l r m → firstWordless (rulesAt form s begins n) ≡ none
+    → length (lineOf (rulesAt form s begins n)) ≤ length l
+    → m ≡ buffer (lineOf (rulesAt form s begins n)) l
+lines-written form s begins n l m (To q) h e room = h .1 .stored ∙ written-front (lineOf (rulesAt form s begins n)) l room
+lines-written form s begins n l m (Wordless k) h e room = absurd (Option·some-ne-none k (sym (h .0) ∙ e))
 
 module _ (rs : List Rule) (r : Lined) (measured : Measured rs r) (room : ℕ) where
   pub shown-to : (q : ℕ) → r ≡ To q → (firstWordless rs ≡ none) × (q ≡ length (lineOf rs))

@@ -12,6 +12,7 @@ use Rattle.laws.specs.Lists.{from, firstIndex}
 use Rattle.laws.proofs.Numbers.{from-append}
 use Rattle.laws.proofs.Spread.{flatMap-last}
 use Rattle.definition.specs.Rule.{Rule}
+use Rattle.definition.specs.Sheet.{Form}
 use Rattle.definition.specs.Point.{isNormal}
 use Rattle.definition.specs.Text.{Text, isNone}
 use Rattle.definition.specs.Line.{before, ruleText, lineOf}
@@ -88,23 +89,23 @@ wordless-stays (x ∷ xs) ys k e = go (isNormal (x .operator)) refl
     go false h = rw (h, firstWordless) (rw (h, firstWordless) at e)
 
 -- ## The rules at their beginnings
-module _ (s begins : List ℕ) where
-  pub rules-next : (n : ℕ) → rulesAt s begins n ++ (ruleReadAt s (getD begins n 0) ∷ []) ≡ rulesAt s begins (suc n)
+module _ (form : Form) (s begins : List ℕ) where
+  pub rules-next : (n : ℕ) → rulesAt form s begins n ++ (ruleReadAt form s (getD begins n 0) ∷ []) ≡ rulesAt form s begins (suc n)
   unfolding rulesAt from
   rules-next n =
       let z : n + 1 ≡ suc n = omega arith in
-      sym (map-append (λ k. ruleReadAt s (getD begins k 0)) (from 0 n) (n ∷ [])) ∙ ap (map (λ k. ruleReadAt s (getD begins k 0)))
+      sym (map-append (λ k. ruleReadAt form s (getD begins k 0)) (from 0 n) (n ∷ [])) ∙ ap (map (λ k. ruleReadAt form s (getD begins k 0)))
       (from-append 0 n 1 n (omega arith) ∙ ap (from 0) z)
 
   -- so many rules, and those behind them
-  pub rules-rest : (n k : ℕ) → k ≤ n → rulesAt s begins k ++ map (λ j. ruleReadAt s (getD begins j 0)) (from k (n - k)) ≡ rulesAt s begins n
+  pub rules-rest : (n k : ℕ) → k ≤ n → rulesAt form s begins k ++ map (λ j. ruleReadAt form s (getD begins j 0)) (from k (n - k)) ≡ rulesAt form s begins n
   unfolding rulesAt
   rules-rest n k l =
       let z : k + (n - k) ≡ n = omega arith in
-      sym (map-append (λ j. ruleReadAt s (getD begins j 0)) (from 0 k) (from k (n - k))) ∙ ap (map (λ j. ruleReadAt s (getD begins j 0)))
+      sym (map-append (λ j. ruleReadAt form s (getD begins j 0)) (from 0 k) (from k (n - k))) ∙ ap (map (λ j. ruleReadAt form s (getD begins j 0)))
       (from-append 0 k (n - k) k (omega arith) ∙ ap (from 0) z)
 
-  pub rules-none : (n : ℕ) → isNone (rulesAt s begins n) ≡ eqb n 0
+  pub rules-none : (n : ℕ) → isNone (rulesAt form s begins n) ≡ eqb n 0
   unfolding rulesAt from
   rules-none zero = refl
   rules-none (suc n) = sym (ne-eqb (suc n) 0 (λ e. omega arith))

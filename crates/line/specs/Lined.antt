@@ -6,6 +6,7 @@ use Prim.Native.Nat.{ℕ, suc}
 use lib.ListN.{length}
 use lib.Seq.{sets}
 use Rattle.definition.specs.Rule.{Rule}
+use Rattle.definition.specs.Sheet.{Form}
 use Rattle.definition.specs.Line.{lineOf}
 use Rattle.definition.specs.Show.{firstWordless}
 use Rattle.sheet.specs.Rules.{rulesAt}
@@ -14,9 +15,9 @@ use Rattle.line.specs.declared.Lined.{Lined}
 use Rattle.line.specs.declared.Lined.the-variants.{To, Wordless}
 
 -- the whole line, or the rules up to the first that has no words
-abbrev pub Lines : List ℕ → List ℕ → ℕ → List ℕ → Lined → List ℕ → Type 0
-Lines s begins n out (To q) after = (firstWordless (rulesAt s begins n) ≡ none) × Put out 0 (lineOf (rulesAt s begins n)) q after
-Lines s begins n out (Wordless k) after = (firstWordless (rulesAt s begins n) ≡ some k) × (after ≡ sets out 0 (lineOf (rulesAt s begins (suc k))))
+abbrev pub Lines : Form → List ℕ → List ℕ → ℕ → List ℕ → Lined → List ℕ → Type 0
+Lines form s begins n out (To q) after = (firstWordless (rulesAt form s begins n) ≡ none) × Put out 0 (lineOf (rulesAt form s begins n)) q after
+Lines form s begins n out (Wordless k) after = (firstWordless (rulesAt form s begins n) ≡ some k) × (after ≡ sets out 0 (lineOf (rulesAt form s begins (suc k))))
 
 -- its length, or that rule
 abbrev pub Measured : List Rule → Lined → Type 0

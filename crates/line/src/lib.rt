@@ -1,5 +1,6 @@
 // The line of a checked sheet: its rules as text, one behind the other, measured before anything is written.
 use answers::Written;
+use forms::Form;
 use limits::lacks_room;
 use rule_text::rule::show_rule;
 ghost use mathlib.Core.Path.{_≡_};
@@ -8,6 +9,7 @@ ghost use lib.ListN.{length};
 ghost use Rattle.definition.specs.Field.{sheetBits};
 ghost use Rattle.definition.specs.Fold.{buffer, writtenNumbers};
 ghost use Rattle.definition.specs.Show.{showRules};
+ghost use Rattle.forms.specs.Form.{asForm};
 ghost use Rattle.answers.specs.Numbers.{writeNumbers};
 ghost use Rattle.sheet.specs.Rules.{rulesAt, AllBegin};
 ghost use Rattle.line.specs.Lined.{Lines, Measured};
@@ -19,14 +21,14 @@ pub enum Lined {
 }
 
 // Rules one behind the other, up to the first that has no words.
-fn show_rules(sheet: &[u8], begins: &[usize], count: usize, out: &mut [u8]) -> Lined
-    requires { ⌜ AllBegin (sheetBits (now sheet)) (now begins) count × (count ≤ 64) × (count ≤ length (now begins)) ⌝ }
-    ensures { λ r. ⌜ Lines (sheetBits (now (sheet .entry))) (now (begins .entry)) count (now (out .entry)) r (now (out .exit)) ⌝ }
+fn show_rules(form: Form, sheet: &[u8], begins: &[usize], count: usize, out: &mut [u8]) -> Lined
+    requires { ⌜ AllBegin (asForm form) (sheetBits (now sheet)) (now begins) count × (count ≤ 64) × (count ≤ length (now begins)) ⌝ }
+    ensures { λ r. ⌜ Lines (asForm form) (sheetBits (now (sheet .entry))) (now (begins .entry)) count (now (out .entry)) r (now (out .exit)) ⌝ }
 {
     let mut to: usize = 0;
     let mut i: usize = 0;
     while i < count {
-        let told = show_rule(sheet, begins[i], i == 0, out, to);
+        let told = show_rule(form, sheet, begins[i], i == 0, out, to);
         if told.wordless {
             return Lined::Wordless(i);
         }
@@ -37,21 +39,21 @@ fn show_rules(sheet: &[u8], begins: &[usize], count: usize, out: &mut [u8]) -> L
 }
 
 // How long the line is: the rules are put into a buffer that keeps none of it.
-fn measure(sheet: &[u8], begins: &[usize], count: usize) -> Lined
-    requires { ⌜ AllBegin (sheetBits (now sheet)) (now begins) count × (count ≤ 64) × (count ≤ length (now begins)) ⌝ }
-    ensures { λ r. ⌜ Measured (rulesAt (sheetBits (now (sheet .entry))) (now (begins .entry)) count) r ⌝ }
+fn measure(form: Form, sheet: &[u8], begins: &[usize], count: usize) -> Lined
+    requires { ⌜ AllBegin (asForm form) (sheetBits (now sheet)) (now begins) count × (count ≤ 64) × (count ≤ length (now begins)) ⌝ }
+    ensures { λ r. ⌜ Measured (rulesAt (asForm form) (sheetBits (now (sheet .entry))) (now (begins .entry)) count) r ⌝ }
 {
     let mut nothing = [0u8; 1];
-    show_rules(sheet, begins, count, &mut nothing)
+    show_rules(form, sheet, begins, count, &mut nothing)
 }
 
 // "Refusals: 10 .. after 3, before 7": code, bytes written and place; the line stands at the front of `out`.
-pub fn line_of(sheet: &[u8], begins: &[usize], count: usize, out: &mut [u8]) -> Written
-    requires { ⌜ AllBegin (sheetBits (now sheet)) (now begins) count × (count ≤ 64) × (count ≤ length (now begins)) ⌝ }
-    ensures { λ r. ⌜ (writeNumbers r ≡ writtenNumbers (showRules (length (now (out .entry))) (rulesAt (sheetBits (now (sheet .entry))) (now (begins .entry)) count)))
-        × (now (out .exit) ≡ buffer ((showRules (length (now (out .entry))) (rulesAt (sheetBits (now (sheet .entry))) (now (begins .entry)) count)) .result) (now (out .entry))) ⌝ }
+pub fn line_of(form: Form, sheet: &[u8], begins: &[usize], count: usize, out: &mut [u8]) -> Written
+    requires { ⌜ AllBegin (asForm form) (sheetBits (now sheet)) (now begins) count × (count ≤ 64) × (count ≤ length (now begins)) ⌝ }
+    ensures { λ r. ⌜ (writeNumbers r ≡ writtenNumbers (showRules (length (now (out .entry))) (rulesAt (asForm form) (sheetBits (now (sheet .entry))) (now (begins .entry)) count)))
+        × (now (out .exit) ≡ buffer ((showRules (length (now (out .entry))) (rulesAt (asForm form) (sheetBits (now (sheet .entry))) (now (begins .entry)) count)) .result) (now (out .entry))) ⌝ }
 {
-    let measured = measure(sheet, begins, count);
+    let measured = measure(form, sheet, begins, count);
     match measured {
         Lined::Wordless(rule) => Written {
             code: 10,
@@ -66,7 +68,7 @@ pub fn line_of(sheet: &[u8], begins: &[usize], count: usize, out: &mut [u8]) -> 
                     place: bytes,
                 };
             }
-            show_rules(sheet, begins, count, out);
+            show_rules(form, sheet, begins, count, out);
             Written {
                 code: 0,
                 bytes,

@@ -1,4 +1,4 @@
--- HOW LONG A TEXT IS: a rule that a sheet carries takes no more than 1,024 bytes of a line, also where it has no words. Rests on what a sheet's rule
+-- HOW LONG A TEXT IS: a rule that a sheet carries takes no more than 1,024 bytes of a line, in either form, also where it has no words. Rests on what a sheet's rule
 -- keeps to, and on numbers having few digits.
 use mathlib.Core.Path.{_≡_, refl}
 use mathlib.Core.List.{List, [], _∷_, _++_, map, flatMap}
@@ -15,13 +15,14 @@ use Rattle.laws.proofs.Spread.{flatMap-length}
 use Rattle.grid.specs.Cut.{Range}
 use Rattle.grid.proofs.Cut.{holds-in}
 use Rattle.definition.specs.Rule.{Operator, Normal, Additional, Fallback, Kind, Open, Closed, Unknown, State, Span, YearRange, MonthdayRange, months, monthsOf, dated, WeekRange, WeekDayRange, fixedDays, holiday, Rule, monthBounds, weekdayBounds, yearBounds, weekBounds}
-use Rattle.definition.specs.Sheet.{form1, limits1, yearRange, weekRange, rule}
+use Rattle.definition.specs.Sheet.{Form, limits1, yearRange, weekRange, rule}
 use Rattle.definition.specs.Day.{minuteOf}
 use Rattle.definition.specs.Text.{Text, ascii, decimalIn, word, padded, plain, named, _then_, of, unless, only, several}
 use Rattle.definition.specs.Line.{Item, item, monthItem, weekdayItem, monthNames, weekdayNames, yearSteps, weekSteps, yearText, weekText, monthText, weekdayText, clock, spanText, kindWord, kindText, stateText, part, ruleText, before}
 use Rattle.definition.proofs.Lawful.{ItemsFit, items-fit}
 use Rattle.definition.proofs.Lengths.{length-digits}
-use Rattle.lines.proofs.Carried.{year-step, week-step, comment-carried, counts-carried}
+use Rattle.definition.proofs.Carried.{comment-carried, counts-carried}
+use Rattle.lines.proofs.Carried.{year-step, week-step}
 
 -- ## Numbers
 -- a number below a power of ten has no more digits than its exponent
@@ -148,13 +149,13 @@ part-short : {A : Type 0} {n : ℕ} (T : Text (List A)) (xs : List A) → AtMost
 unfolding part ascii
 part-short T xs h = unless-short _ xs (then-short T xs h _ (word-short " " xs)) _
 
--- THE LAW
-pub rule-text-short : (r : Rule) → (rule form1 limits1) .fits r ≡ true → length (ruleText .write r) ≤ 2 ^ 10
+-- THE LAW, for a form whose comments have at most 24 bits, and so at most eight digits
+pub rule-text-short : (form : Form) → 2 ^ form .comment ≤ 2 ^ 24 → (r : Rule) → (rule form limits1) .fits r ≡ true → length (ruleText .write r) ≤ 2 ^ 10
 unfolding ruleText of ascii
-rule-text-short r f = omega (arith, counts-carried form1 limits1 r f, whole)
+rule-text-short form narrow r f = omega (arith, counts-carried form limits1 r f, whole)
   where
-    i : ItemsFit form1 limits1 r
-    i = items-fit form1 limits1 r f
+    i : ItemsFit form limits1 r
+    i = items-fit form limits1 r f
 
     whole : AtMost (length (r .years) * 16 + 1 +
         (length (r .monthdays) * 10 + 1 + (5 + length (r .weeks) * 10 + 1 + (length (r .weekdays) * 8 + 1 + (length (r .spans) * 13 + 19))))) ruleText r
@@ -166,7 +167,7 @@ rule-text-short r f = omega (arith, counts-carried form1 limits1 r f, whole)
         (several-short "," weekText 9 (r .weeks) (every-all _ (weekRange .fits) week-short (r .weeks) (i .weeks-fit))))) _
         (then-short _ r (part-short _ (r .weekdays) (several-short "," weekdayText 7 (r .weekdays) (All-each _ weekday-short (r .weekdays)))) _
         (then-short _ r (several-short "," spanText 12 (r .spans) (All-each _ span-short (r .spans))) _
-        (state-short (r .state) (omega (arith, comment-carried form1 limits1 r f)))))))
+        (state-short (r .state) (omega (arith, narrow, comment-carried form limits1 r f)))))))
 
 pub before-short : (o : Operator) → length (before o) ≤ 4
 unfolding ascii

@@ -3,6 +3,7 @@ use answers::Answer;
 use answers::lookup_refused;
 use calendar::Dated;
 use draw_rules::draw_rules;
+use forms::Form;
 use limits::past_midnight;
 use prepare::Judged;
 use prepare::prepare;
@@ -11,10 +12,11 @@ use state_at::answer::numbers_of;
 ghost use mathlib.Core.Path.{_≡_};
 ghost use mathlib.Core.List.{List};
 ghost use Rattle.definition.specs.Rule.{Rule};
-ghost use Rattle.definition.specs.Sheet.{form1, limits1};
+ghost use Rattle.definition.specs.Sheet.{limits1};
 ghost use Rattle.definition.specs.Point.{allBounds};
 ghost use Rattle.definition.specs.Lookup.{lookup};
 ghost use Rattle.answers.specs.Numbers.{lookedUp};
+ghost use Rattle.forms.specs.Form.{asForm};
 ghost use Rattle.prepare.specs.Prepared.{RulesRead, EachReading};
 ghost use Rattle.state_at.specs.Boxes.{InBounds, momentPoint};
 ghost use Rattle.lookup.specs.Looks.{lookAt, Lookable};
@@ -70,10 +72,10 @@ fn look_boxes(
 }
 
 // Drains the rules and cuts the dimensions (11, 5), then looks the moment up.
-fn look_moment(sheet: &[u8], begins: &[usize], count: usize, moment: Moment) -> Answer
-    requires { ⌜ RulesRead (now sheet) (now begins) count ⌝ }
+fn look_moment(form: Form, sheet: &[u8], begins: &[usize], count: usize, moment: Moment) -> Answer
+    requires { ⌜ RulesRead (asForm form) (now sheet) (now begins) count ⌝ }
     requires { ⌜ InBounds allBounds (momentPoint moment) ⌝ }
-    ensures { λ r. ⌜ EachReading (now (sheet .entry)) (now (begins .entry)) count (λ rs. lookedUp r ≡ lookAt rs (momentPoint moment) (moment .minute)) ⌝ }
+    ensures { λ r. ⌜ EachReading (asForm form) (now (sheet .entry)) (now (begins .entry)) count (λ rs. lookedUp r ≡ lookAt rs (momentPoint moment) (moment .minute)) ⌝ }
 {
     let mut states = [0u32; 64];
     let mut span_counts = [0u8; 64];
@@ -85,6 +87,7 @@ fn look_moment(sheet: &[u8], begins: &[usize], count: usize, moment: Moment) -> 
     let mut sizes = [0u16; 4];
     let mut cuts = [0u16; 16392];
     let judged = prepare(
+        form,
         sheet,
         begins,
         count,
@@ -121,6 +124,7 @@ fn look_moment(sheet: &[u8], begins: &[usize], count: usize, moment: Moment) -> 
 
 // Tests the date and the minute (8), then looks them up.
 pub fn look_rules(
+    form: Form,
     sheet: &[u8],
     begins: &[usize],
     count: usize,
@@ -129,8 +133,8 @@ pub fn look_rules(
     day: u64,
     minute: u64,
 ) -> Answer
-    requires { ⌜ RulesRead (now sheet) (now begins) count ⌝ }
-    ensures { λ r. ⌜ lookedUp r ≡ lookup form1 limits1 (now (sheet .entry)) year month day minute ⌝ }
+    requires { ⌜ RulesRead (asForm form) (now sheet) (now begins) count ⌝ }
+    ensures { λ r. ⌜ lookedUp r ≡ lookup (asForm form) limits1 (now (sheet .entry)) year month day minute ⌝ }
 {
     if past_midnight(minute) {
         return lookup_refused(8, 0);
@@ -150,7 +154,7 @@ pub fn look_rules(
                 year,
                 minute: minute as u16,
             };
-            look_moment(sheet, begins, count, moment)
+            look_moment(form, sheet, begins, count, moment)
         }
         Dated::NoDate => lookup_refused(8, 0),
     }

@@ -5,26 +5,24 @@ use Prim.Native.Nat.{ℕ}
 use lib.ListN.{length}
 use Rattle.definition.specs.Field.{got}
 use Rattle.definition.specs.Rule.{Rule}
-use Rattle.definition.specs.Sheet.{form1, limits1, decode}
+use Rattle.definition.specs.Sheet.{Form, limits1, decode}
 use Rattle.definition.specs.Stop.{drained}
 use Rattle.definition.specs.Fold.{numbers, buffer, fold}
 use Rattle.answers.specs.declared.Folded.{Folded}
 use Rattle.answers.specs.Numbers.{foldNumbers}
-use Rattle.sheet.specs.Parts.{SheetRead, Leaving}
+use Rattle.sheet.specs.Parts.{Leaving}
+use Rattle.tables.specs.Rules.{AllCommented}
 use Rattle.prepare.specs.Prepared.{ToDraw}
 use Rattle.fold_write.specs.declared.Left.{Left}
 
--- the rules of a sheet, so many, up to a bit
-abbrev pub Readings : List ℕ → List ℕ → ℕ → ℕ → Type 0
-Readings sheet begins many end = (rs : List Rule) × (SheetRead sheet begins rs end × (many ≡ length rs))
-
 -- A SHEET'S RULES, the drained ones in tables and their cuts in rows, passed by 11 and 5; and where the rules left stand
-pub record Foldable (sheet : List ℕ) (left : Left) (states counts spans replacing rangeCounts ranges rows sizes cuts : List ℕ) (rs : List Rule) : Type 0 where
+pub record Foldable (form : Form) (sheet : List ℕ) (left : Left) (states counts spans replacing rangeCounts ranges rows sizes cuts : List ℕ) (rs : List Rule) : Type 0 where
   pub end : ℕ
-  pub read : decode form1 limits1 sheet ≡ got rs end
-  pub leaving : Leaving sheet rs (left .start) (left .end) (length states) (left .rules) (left .why)
+  pub read : decode form limits1 sheet ≡ got rs end
+  pub commented : AllCommented form (drained rs)
+  pub leaving : Leaving form sheet rs (left .start) (left .end) (length states) (left .rules) (left .why)
   pub to-draw : ToDraw states counts spans replacing rangeCounts ranges rows sizes cuts (drained rs)
 
 -- the seven numbers, and the buffer `out` afterwards
-abbrev pub Folds : List ℕ → List ℕ → Folded → List ℕ → Type 0
-Folds sheet out r after = (foldNumbers r ≡ numbers (fold form1 limits1 (length out) sheet)) × (after ≡ buffer ((fold form1 limits1 (length out) sheet) .result) out)
+abbrev pub Folds : Form → List ℕ → List ℕ → Folded → List ℕ → Type 0
+Folds form sheet out r after = (foldNumbers r ≡ numbers (fold form limits1 (length out) sheet)) × (after ≡ buffer ((fold form limits1 (length out) sheet) .result) out)

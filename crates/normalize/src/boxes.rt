@@ -1,5 +1,5 @@
 // From tables and cut dimensions to the result: a list for each box (6), pages of the folded rules, and these written before the rules that
-// are left (7). The functions take the sheet, the buffer and each table of the stages before as a slice of its own, fourteen parameters at
+// are left (7). The functions take the sheet, the buffer and each table of the stages before as a slice of its own, fifteen parameters at
 // most, since the language lends no struct of slices.
 use answers::Folded;
 use answers::fold_refused;
@@ -7,16 +7,19 @@ use draw_rules::draw_rules;
 use fold_pages::fold_pages;
 use fold_write::Left;
 use fold_write::emit;
+use forms::Form;
 ghost use mathlib.Core.List.{List};
 ghost use Prim.Native.Nat.{_*_, _≤_};
 ghost use lib.ListN.{length};
 ghost use Rattle.definition.specs.Rule.{Rule};
 ghost use Rattle.paving.specs.Grid.{sizeOf};
 ghost use Rattle.tables.specs.Lists.{Empty};
+ghost use Rattle.forms.specs.Form.{asForm};
 ghost use Rattle.normalize.specs.Folds.{Foldable, Folds};
 
 // Makes a list for each box and the pages, in the buffers that are lent; answers 6, or writes the result.
 fn fold_boxes_in(
+    form: Form,
     sheet: &[u8],
     left: Left,
     out: &mut [u8],
@@ -32,10 +35,10 @@ fn fold_boxes_in(
     lists: &mut [u16],
     pages: &mut [u16],
 ) -> Folded
-    requires { ⌜ ((rs : List Rule) × Foldable (now sheet) left (now states) (now «span_counts») (now spans) (now replacing)
+    requires { ⌜ ((rs : List Rule) × Foldable (asForm form) (now sheet) left (now states) (now «span_counts») (now spans) (now replacing)
         (now «range_counts») (now ranges) (now «row_starts») (now sizes) (now cuts) rs) ⌝ }
     requires { ⌜ Empty (now lists) (sizeOf (now sizes) 4) × (13 * sizeOf (now sizes) 4 ≤ length (now pages)) ⌝ }
-    ensures { λ r. ⌜ Folds (now (sheet .entry)) (now (out .entry)) r (now (out .exit)) ⌝ }
+    ensures { λ r. ⌜ Folds (asForm form) (now (sheet .entry)) (now (out .entry)) r (now (out .exit)) ⌝ }
 {
     let rules = states.len();
     let listed = draw_rules(
@@ -62,6 +65,7 @@ fn fold_boxes_in(
         pages,
     );
     emit(
+        form,
         sheet,
         left,
         out,
@@ -76,6 +80,7 @@ fn fold_boxes_in(
 
 // Folds the boxes. Few of them have small buffers: clearing large ones would take most of the time.
 pub fn fold_boxes(
+    form: Form,
     sheet: &[u8],
     left: Left,
     out: &mut [u8],
@@ -89,14 +94,15 @@ pub fn fold_boxes(
     sizes: &[u16],
     cuts: &[u16],
 ) -> Folded
-    requires { ⌜ ((rs : List Rule) × Foldable (now sheet) left (now states) (now «span_counts») (now spans) (now replacing)
+    requires { ⌜ ((rs : List Rule) × Foldable (asForm form) (now sheet) left (now states) (now «span_counts») (now spans) (now replacing)
         (now «range_counts») (now ranges) (now «row_starts») (now sizes) (now cuts) rs) ⌝ }
-    ensures { λ r. ⌜ Folds (now (sheet .entry)) (now (out .entry)) r (now (out .exit)) ⌝ }
+    ensures { λ r. ⌜ Folds (asForm form) (now (sheet .entry)) (now (out .entry)) r (now (out .exit)) ⌝ }
 {
     if paving::place::size_of(sizes, 4) <= 16 {
         let mut lists = [0u16; 528];
         let mut pages = [0u16; 208];
         return fold_boxes_in(
+            form,
             sheet,
             left,
             out,
@@ -116,6 +122,7 @@ pub fn fold_boxes(
     let mut lists = [0u16; 33792];
     let mut pages = [0u16; 13312];
     fold_boxes_in(
+        form,
         sheet,
         left,
         out,

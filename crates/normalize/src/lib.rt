@@ -6,15 +6,19 @@ use answers::Folded;
 use answers::fold_refused;
 use boxes::fold_boxes;
 use fold_write::rules_left;
+use forms::Form;
 use prepare::Judged;
 use prepare::prepare;
 ghost use Prim.Native.Nat.{_*_, _≤_};
 ghost use lib.ListN.{length};
 ghost use Rattle.tables.specs.Sizes.{rowPlaces};
-ghost use Rattle.normalize.specs.Folds.{Readings, Folds};
+ghost use Rattle.forms.specs.Form.{asForm};
+ghost use Rattle.sheet.specs.Parts.{Readings};
+ghost use Rattle.normalize.specs.Folds.{Folds};
 
 // Drains the rules and cuts the dimensions, in the tables that are lent; answers 11 or 5, or folds the boxes.
 fn fold_rules_in(
+    form: Form,
     sheet: &[u8],
     begins: &[usize],
     count: usize,
@@ -28,14 +32,15 @@ fn fold_rules_in(
     ranges: &mut [u16],
     cuts: &mut [u16],
 ) -> Folded
-    requires { ⌜ Readings (now sheet) (now begins) count end ⌝ }
+    requires { ⌜ Readings (asForm form) (now sheet) (now begins) count end ⌝ }
     requires { ⌜ (count ≤ length (now states)) × (count ≤ length (now «span_counts»)) × (count * 16 ≤ length (now spans)) × (count ≤ length (now replacing)) ⌝ }
     requires { ⌜ (count * 4 ≤ length (now «range_counts»)) × (count * 256 ≤ length (now ranges)) × (4 * rowPlaces count ≤ length (now cuts)) ⌝ }
-    ensures { λ r. ⌜ Folds (now (sheet .entry)) (now (out .entry)) r (now (out .exit)) ⌝ }
+    ensures { λ r. ⌜ Folds (asForm form) (now (sheet .entry)) (now (out .entry)) r (now (out .exit)) ⌝ }
 {
     let mut row_starts = [0u16; 4];
     let mut sizes = [0u16; 4];
     let judged = prepare(
+        form,
         sheet,
         begins,
         count,
@@ -54,6 +59,7 @@ fn fold_rules_in(
             let places = rules * 16;
             let left = rules_left(begins, rules, count, end, why);
             fold_boxes(
+                form,
                 sheet,
                 left,
                 out,
@@ -74,14 +80,15 @@ fn fold_rules_in(
 
 // Folds the rules of a checked sheet. Few of them have small tables: clearing large ones would take longer than the fold of so few.
 pub fn fold_rules(
+    form: Form,
     sheet: &[u8],
     begins: &[usize],
     count: usize,
     end: usize,
     out: &mut [u8],
 ) -> Folded
-    requires { ⌜ Readings (now sheet) (now begins) count end ⌝ }
-    ensures { λ r. ⌜ Folds (now (sheet .entry)) (now (out .entry)) r (now (out .exit)) ⌝ }
+    requires { ⌜ Readings (asForm form) (now sheet) (now begins) count end ⌝ }
+    ensures { λ r. ⌜ Folds (asForm form) (now (sheet .entry)) (now (out .entry)) r (now (out .exit)) ⌝ }
 {
     if count <= 4 {
         let mut states = [0u32; 4];
@@ -92,6 +99,7 @@ pub fn fold_rules(
         let mut ranges = [0u16; 1024];
         let mut cuts = [0u16; 1032];
         return fold_rules_in(
+            form,
             sheet,
             begins,
             count,
@@ -114,6 +122,7 @@ pub fn fold_rules(
     let mut ranges = [0u16; 16384];
     let mut cuts = [0u16; 16392];
     fold_rules_in(
+        form,
         sheet,
         begins,
         count,

@@ -14,7 +14,7 @@ use Rattle.grid.specs.Group.{size, somewhere, agree, grow, pop, clear, takeOut,
 use Rattle.grid.specs.Cut.{cutAt, cuts, between, intervals, boxes, glue, joined}
 use Rattle.definition.specs.Field.{Read, got, refused, bits, number, sheetBits, bytes, fieldAt, readField, readAll, field, noBits, _then_, via, tagged, several}
 use Rattle.definition.specs.Rule.{Rule, notAbove, insertSpan, sorted, sameTime}
-use Rattle.definition.specs.Sheet.{form1, limits1, yearRange, monthdayOf, monthdayRange, weekRange, weekdayOf, weekDayRange, timeOf, time, repeatsOf, repeatsLayout, span, title, counts, head, body, rule, rules, firstSet, ended, decode}
+use Rattle.definition.specs.Sheet.{form1, limits1, yearRange, monthdayOf, monthdayRange, weekRange, weekdayOf, weekDayRange, timeOf, time, repeatsOf, repeatsLayout, span, title, counts, head, body, rule, opening, rules, firstSet, ended, decode}
 use Rattle.definition.specs.Range.{split, ranges}
 use Rattle.definition.specs.Stop.{stops, drained}
 use Rattle.definition.specs.Point.{selector, combinations, after, listFrom}
@@ -40,7 +40,7 @@ computed : firstGroup (decode form1 limits1 (p2 .sheet)) ≡ 1
 unfolding flatMap from firstOf every anyOf count keep sameList sameOption size somewhere agree grow pop clear takeOut sweepFor sweep groups
     cutAt cuts between intervals boxes glue joined bits number sheetBits bytes fieldAt readField readAll field noBits _then_ via tagged several
     notAbove insertSpan sorted sameTime yearRange monthdayOf monthdayRange weekRange weekdayOf weekDayRange timeOf time repeatsOf repeatsLayout span
-    title counts head body rule rules firstSet ended decode split ranges stops drained selector combinations after listFrom
+    title counts head body rule opening rules firstSet ended decode split ranges stops drained selector combinations after listFrom
     simple flattened runOf afterRun painting joinGroup byState grouped lastOver itemsOf laidOver rulesOf paintedOverIntervals dayOverIntervals pagesOverBoxes
 computed = refl
 

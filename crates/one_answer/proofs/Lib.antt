@@ -1,5 +1,6 @@
 pub mod OneAnswer
 pub mod Promised
 pub mod Meaning
+pub mod Return
 pub mod ShutOut
 pub mod FirstGroup

@@ -7,9 +7,9 @@ use native.Mathlib.Omega.{arith}
 use lib.Dec.{leb}
 use lib.ListN.{length, getD}
 use Rattle.definition.specs.Field.{sheetBits, bytes}
-use Rattle.definition.specs.Sheet.{form1, limits1}
-use Rattle.definition.specs.Fold.{Written, numbers, writtenNumbers, fold, writeBack}
-use Rattle.definition.specs.Show.{showLine}
+use Rattle.definition.specs.Sheet.{limits1}
+use Rattle.definition.specs.Fold.{Written, numbers, writtenNumbers}
+use Rattle.definition.specs.Forms.{foldIn, writeBackIn, showLineIn, lookupIn, convertIn}
 use Rattle.definition.specs.Lookup as state
 use Rattle.definition.proofs.Bits.{Bytes, length-sheetBits, bytes-sheet}
 use Rattle.answers.specs.Numbers.{writeNumbers, foldNumbers, lookedUp}
@@ -17,7 +17,7 @@ use Rattle.answers.specs.declared.Written as answer
 use Rattle.answers.specs.declared.Folded.{Folded}
 use Rattle.answers.specs.declared.Answer.{Answer}
 use Rattle.hours.specs.Export.{put}
-use Rattle.one_answer.specs.Promise.{OneAnswer, FoldPromise, WriteBackPromise, LinePromise, ExportedFoldPromise, ExportedWriteBackPromise, ExportedLinePromise, LookupPromise, ExportedLookupPromise}
+use Rattle.one_answer.specs.Promise.{OneAnswer, WritesAs, ExportedWritesAs, FoldPromise, WriteBackPromise, LinePromise, ConvertPromise, ExportedFoldPromise, ExportedWriteBackPromise, ExportedLinePromise, ExportedConvertPromise, LookupPromise, ExportedLookupPromise}
 
 -- AN EQUATION HAS ONE SOLUTION where its left side can be undone
 one-solution : {A B : Type 0} (f : A → B) (undo : B → A) → ((x : A) → undo (f x) ≡ x) → (v : B) → OneAnswer (λ x. f x ≡ v)
@@ -45,18 +45,25 @@ answerFrom : state.Looked → Answer
 answerFrom k = record { code = k .code; kind = k .kind; comment = k .comment; place = k .place }
 
 -- ## The entries for Rust
-pub one-fold : (sheet out : List ℕ) → OneAnswer (FoldPromise sheet out)
-one-fold sheet out x y p q = pair (one-folded _ (x .0) (y .0) (p .0) (q .0)) (p .1 ∙ sym (q .1))
+pub one-fold : (form : ℕ) (sheet out : List ℕ) → OneAnswer (FoldPromise form sheet out)
+one-fold form sheet out x y p q = pair (one-folded _ (x .0) (y .0) (p .0) (q .0)) (p .1 ∙ sym (q .1))
 
-pub one-write-back : (sheet out : List ℕ) → OneAnswer (WriteBackPromise sheet out)
-one-write-back sheet out x y p q = pair (one-written _ (x .0) (y .0) (p .0) (q .0)) (p .1 ∙ sym (q .1))
+-- an entry that writes and answers w
+one-writing : (w : Written) (out : List ℕ) → OneAnswer (WritesAs w out)
+one-writing w out x y p q = pair (one-written _ (x .0) (y .0) (p .0) (q .0)) (p .1 ∙ sym (q .1))
 
-pub one-line : (sheet out : List ℕ) → OneAnswer (LinePromise sheet out)
-one-line sheet out x y p q = pair (one-written _ (x .0) (y .0) (p .0) (q .0)) (p .1 ∙ sym (q .1))
+pub one-write-back : (form : ℕ) (sheet out : List ℕ) → OneAnswer (WriteBackPromise form sheet out)
+one-write-back form sheet out = one-writing (writeBackIn limits1 form (length out) sheet) out
 
-pub one-lookup : (sheet : List ℕ) (year month day minute : ℕ) → OneAnswer (LookupPromise sheet year month day minute)
+pub one-line : (form : ℕ) (sheet out : List ℕ) → OneAnswer (LinePromise form sheet out)
+one-line form sheet out = one-writing (showLineIn limits1 form (length out) sheet) out
+
+pub one-convert : (form : ℕ) (sheet out : List ℕ) → OneAnswer (ConvertPromise form sheet out)
+one-convert form sheet out = one-writing (convertIn limits1 form (length out) sheet) out
+
+pub one-lookup : (form : ℕ) (sheet : List ℕ) (year month day minute : ℕ) → OneAnswer (LookupPromise form sheet year month day minute)
 unfolding answerFrom
-one-lookup sheet year month day minute = one-solution lookedUp answerFrom (λ a. refl) (state.lookup form1 limits1 sheet year month day minute)
+one-lookup form sheet year month day minute = one-solution lookedUp answerFrom (λ a. refl) (lookupIn limits1 form sheet year month day minute)
 
 -- ## The exports: what the slices hold hangs on whether there is an answer
 one-told : {A : Type 0} (told : Bool) (slices : Bool → A) → OneAnswer {A = Bool × A} (λ x. (x .0 ≡ told) × (x .1 ≡ slices (x .0)))
@@ -65,27 +72,28 @@ one-told {A} told slices x y p q = settled x p ∙ sym (settled y q)
     settled : (z : Bool × A) → (z .0 ≡ told) × (z .1 ≡ slices (z .0)) → z ≡ (told, slices told)
     settled z h = pair refl (h .1) ∙ ap (λ b. (b, slices b)) (h .0)
 
-pub one-exported-fold : (sheet out lent : List ℕ) → OneAnswer (ExportedFoldPromise sheet out lent)
-one-exported-fold sheet out lent x y p q =
-    let f = fold form1 limits1 (length out) sheet in
+pub one-exported-fold : (form : ℕ) (sheet out lent : List ℕ) → OneAnswer (ExportedFoldPromise form sheet out lent)
+one-exported-fold form sheet out lent x y p q =
+    let f = foldIn limits1 form (length out) sheet in
     one-told (leb 7 (length lent)) (λ b. (put b (numbers f) lent, put b (f .result) out)) x y (p .0, pair (p .1) (p .2)) (q .0, pair (q .1) (q .2))
 
--- an entry that writes and answers w
-one-exported : (w : Written) (out lent : List ℕ)
-    → OneAnswer {A = Bool × (List ℕ × List ℕ)}
-    (λ x. (x .0 ≡ leb 3 (length lent)) × (x .1 .0 ≡ put (x .0) (writtenNumbers w) lent) × (x .1 .1 ≡ put (x .0) (w .result) out))
+one-exported : (w : Written) (out lent : List ℕ) → OneAnswer (ExportedWritesAs w out lent)
 one-exported w out lent x y p q =
     one-told (leb 3 (length lent)) (λ b. (put b (writtenNumbers w) lent, put b (w .result) out)) x y (p .0, pair (p .1) (p .2)) (q .0, pair (q .1) (q .2))
 
-pub one-exported-write-back : (sheet out lent : List ℕ) → OneAnswer (ExportedWriteBackPromise sheet out lent)
-one-exported-write-back sheet out lent = one-exported (writeBack form1 limits1 (length out) sheet) out lent
+pub one-exported-write-back : (form : ℕ) (sheet out lent : List ℕ) → OneAnswer (ExportedWriteBackPromise form sheet out lent)
+one-exported-write-back form sheet out lent = one-exported (writeBackIn limits1 form (length out) sheet) out lent
 
-pub one-exported-line : (sheet out lent : List ℕ) → OneAnswer (ExportedLinePromise sheet out lent)
-one-exported-line sheet out lent = one-exported (showLine form1 limits1 (length out) sheet) out lent
+pub one-exported-line : (form : ℕ) (sheet out lent : List ℕ) → OneAnswer (ExportedLinePromise form sheet out lent)
+one-exported-line form sheet out lent = one-exported (showLineIn limits1 form (length out) sheet) out lent
 
-pub one-exported-lookup : (sheet : List ℕ) (year month day minute : ℕ) (lent : List ℕ) → OneAnswer (ExportedLookupPromise sheet year month day minute lent)
-one-exported-lookup sheet year month day minute lent =
-    one-told (leb 4 (length lent)) (λ b. put b (state.numbers (state.lookup form1 limits1 sheet year month day minute)) lent)
+pub one-exported-convert : (form : ℕ) (sheet out lent : List ℕ) → OneAnswer (ExportedConvertPromise form sheet out lent)
+one-exported-convert form sheet out lent = one-exported (convertIn limits1 form (length out) sheet) out lent
+
+pub one-exported-lookup : (form : ℕ) (sheet : List ℕ) (year month day minute : ℕ) (lent : List ℕ)
+    → OneAnswer (ExportedLookupPromise form sheet year month day minute lent)
+one-exported-lookup form sheet year month day minute lent =
+    one-told (leb 4 (length lent)) (λ b. put b (state.numbers (lookupIn limits1 form sheet year month day minute)) lent)
 
 -- ## A buffer of bytes is known by its bits, so the writers' promises, which are about bits, leave one buffer
 pub one-stored : (stored one other : List ℕ) → Bytes one → Bytes other → sheetBits one ≡ stored → sheetBits other ≡ stored → one ≡ other

@@ -7,19 +7,24 @@ use lib.ListN.{length, getD}
 use Rattle.definition.specs.Field.{bits, number, bytes}
 use Rattle.definition.specs.Sheet.{form1, limits1}
 use Rattle.definition.specs.Fold.{buffer, numbers, fold}
+use Rattle.definition.specs.Forms.{foldIn}
 use Rattle.definition.specs.Worked.{Case, Worked, room, p1, p2}
 use Rattle.definition.proofs.Worked.{worked}
 use Rattle.answers.specs.Numbers.{foldNumbers}
+use Rattle.promises.proofs.CallersForm.{entries-by-number}
 use Rattle.one_answer.specs.Promise.{FoldPromise}
 use Rattle.one_answer.specs.ShutOut.{Program, KeepsPromise, RefusesAll, OneFixedAnswer, CopiesSheet, DrainsNothing, FirstRuleOnly}
 
 module _ (program : Program) (out : List ℕ) (roomy : length out ≡ room) (kept : KeepsPromise program out) where
-  -- a program that keeps the promise answers and writes at a worked day what the table says
-  table-answered : (c : Case) → Worked c → FoldPromise (c .sheet) out (program (c .sheet)) → foldNumbers ((program (c .sheet)) .0) ≡ c .answer
-  table-answered c w p = p .0 ∙ ap (λ n. numbers (fold form1 limits1 n (c .sheet))) roomy ∙ w .0
+  fold-meant : (sheet : List ℕ) → foldIn limits1 1 (length out) sheet ≡ fold form1 limits1 room sheet
+  fold-meant sheet = ap (λ n. foldIn limits1 1 n sheet) roomy ∙ (entries-by-number limits1 sheet .folds room) .one
 
-  table-written : (c : Case) → Worked c → FoldPromise (c .sheet) out (program (c .sheet)) → (program (c .sheet)) .1 ≡ buffer (c .written) out
-  table-written c w p = p .1 ∙ ap (λ n. buffer ((fold form1 limits1 n (c .sheet)) .result) out) roomy ∙ ap (λ l. buffer l out) (w .1)
+  -- a program that keeps the promise answers and writes at a worked day what the table says
+  table-answered : (c : Case) → Worked c → FoldPromise 1 (c .sheet) out (program (c .sheet)) → foldNumbers ((program (c .sheet)) .0) ≡ c .answer
+  table-answered c w p = p .0 ∙ ap numbers (fold-meant (c .sheet)) ∙ w .0
+
+  table-written : (c : Case) → Worked c → FoldPromise 1 (c .sheet) out (program (c .sheet)) → (program (c .sheet)) .1 ≡ buffer (c .written) out
+  table-written c w p = p .1 ∙ ap (λ f. buffer (f .result) out) (fold-meant (c .sheet)) ∙ ap (λ l. buffer l out) (w .1)
 
   pub p2-answered : foldNumbers ((program (p2 .sheet)) .0) ≡ p2 .answer
   p2-answered = table-answered p2 (worked .1 .0) (kept .1 .0)

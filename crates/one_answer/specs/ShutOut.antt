@@ -1,4 +1,4 @@
--- 01, "How firm the promises are": "Programs to be shut out". A program is run with one buffer of 65,536 bytes, on any sheet; it is held
+-- 01, "How firm the promises are": "Programs to be shut out". A program is run with one buffer of 65,536 bytes, on any sheet of form 1; it is held
 -- to the fold's promise at the worked days only, so the less a program has to keep, the more is shut out. "One that invents drained, emitted, left
 -- or bytes" is shut out by specs/Meaning, where these numbers are counts, for every sheet.
 use mathlib.Core.Path.{_≡_}
@@ -23,7 +23,7 @@ Program = List ℕ → Folded × List ℕ
 module _ (program : Program) where
   -- the fold's promise, at the worked days
   abbrev pub KeepsPromise : (out : List ℕ) → Type 0
-  KeepsPromise out = All (λ c. FoldPromise (c .sheet) out (program (c .sheet))) cases
+  KeepsPromise out = All (λ c. FoldPromise 1 (c .sheet) out (program (c .sheet))) cases
 
   -- ## The programs
   -- "one that refuses all"

@@ -9,6 +9,7 @@ use lib.Seq.{sets}
 use Rattle.laws.specs.Lists.{All}
 use Rattle.grid.specs.Group.{Set, Group}
 use Rattle.grid.proofs.Part.{Part}
+use Rattle.definition.specs.Sheet.{Form}
 use Rattle.definition.specs.Rule.{Rule}
 use Rattle.definition.specs.Range.{Ends}
 use Rattle.definition.specs.Point.{yearDimension, monthDimension, weekDimension, weekdayDimension, dimensions}
@@ -68,12 +69,12 @@ module _ (rows sizes cuts : List ℕ) (rs : List Rule) (cut : Cut rows sizes cut
       (sort-writable rows sizes cuts rs weekdayDimension (weekDimension ∷ monthDimension ∷ yearDimension ∷ []) (cut .cut-by) bounded (cut-row .row 3 (omega arith)) (size-few 3 (omega arith)) D (p .0))
       pages at v rest (h ∙ ap (_++ rest) (group-numbers rows cuts sizes v D K M Y)))
 
-  module _ (states counts spans lists pages : List ℕ) (room : ℕ) where
-    group-ready : (g : Group ℕ ℕ) (at : ℕ) (rest : List ℕ) → Part (axes sizes 4) (g .1) → DayReady states counts spans lists room (g .0) → Read rows cuts sizes pages at g rest
-        → PageReady states counts spans lists pages room at
+  module _ (form : Form) (states counts spans lists pages : List ℕ) (room : ℕ) where
+    group-ready : (g : Group ℕ ℕ) (at : ℕ) (rest : List ℕ) → Part (axes sizes 4) (g .1) → DayReady form states counts spans lists room (g .0) → Read rows cuts sizes pages at g rest
+        → PageReady form states counts spans lists pages room at
     unfolding pageAt
     group-ready g at rest p d read =
-        let day : DayReady states counts spans lists room (getD pages at 0) = subst (DayReady states counts spans lists room) (sym (ap (λ page. page .0) (read .page))) d in
+        let day : DayReady form states counts spans lists room (getD pages at 0) = subst (DayReady form states counts spans lists room) (sym (ap (λ page. page .0) (read .page))) d in
         record {
           inside = omega (arith, read .sized, size-low pages at, ap length (read .held), length-drop at pages, length-append (groupNumbers rows cuts sizes 4 g) rest);
           rows = group-rows pages at (g .0) rest (g .1) p (read .held);
@@ -82,8 +83,8 @@ module _ (rows sizes cuts : List ℕ) (rs : List Rule) (cut : Cut rows sizes cut
           carried = day .2;
         }
 
-    pages-ready : (gs : List (Group ℕ ℕ)) (at : ℕ) (rest : List ℕ) → All (λ g. Part (axes sizes 4) (g .1)) gs → All (λ g. DayReady states counts spans lists room (g .0)) gs
-        → drop at pages ≡ groupsNumbers rows cuts sizes 4 gs ++ rest → Pages states counts spans lists pages room (length gs) at
+    pages-ready : (gs : List (Group ℕ ℕ)) (at : ℕ) (rest : List ℕ) → All (λ g. Part (axes sizes 4) (g .1)) gs → All (λ g. DayReady form states counts spans lists room (g .0)) gs
+        → drop at pages ≡ groupsNumbers rows cuts sizes 4 gs ++ rest → Pages form states counts spans lists pages room (length gs) at
     unfolding Pages
     pages-ready [] at rest p d h = tt
     pages-ready (g ∷ gs) at rest p d h =
@@ -91,9 +92,9 @@ module _ (rows sizes cuts : List ℕ) (rs : List Rule) (cut : Cut rows sizes cut
         (group-ready g at (groupsNumbers rows cuts sizes 4 gs ++ rest) (p .0) (d .0) first, pages-ready gs (at + pageSize pages at) rest (p .1) (d .1) (first .behind))
 
 -- THE PAGES FROM THE BUFFER'S FRONT ON
-pub text-ready : (rows sizes cuts : List ℕ) (rs : List Rule) → Cut rows sizes cuts rs → All Lawful rs → sizeOf sizes 4 ≤ 1024 → (states counts spans lists pages₀ pages : List ℕ) (room : ℕ)
+pub text-ready : (rows sizes cuts : List ℕ) (rs : List Rule) → Cut rows sizes cuts rs → All Lawful rs → sizeOf sizes 4 ≤ 1024 → (form : Form) (states counts spans lists pages₀ pages : List ℕ) (room : ℕ)
     (gs : List (Group ℕ ℕ)) → pages ≡ sets pages₀ 0 (groupsNumbers rows cuts sizes 4 gs) → length (groupsNumbers rows cuts sizes 4 gs) ≤ length pages₀
-    → All (λ g. Part (axes sizes 4) (g .1)) gs → All (λ g. DayReady states counts spans lists room (g .0)) gs → Pages states counts spans lists pages room (length gs) 0
-text-ready rows sizes cuts rs cut lawful few states counts spans lists pages₀ pages room gs laid inside parts days =
-    pages-ready rows sizes cuts rs cut (lawful-bounded rs lawful) few states counts spans lists pages room gs 0 (numbersBehind rows cuts sizes pages₀ pages gs laid inside) parts days
+    → All (λ g. Part (axes sizes 4) (g .1)) gs → All (λ g. DayReady form states counts spans lists room (g .0)) gs → Pages form states counts spans lists pages room (length gs) 0
+text-ready rows sizes cuts rs cut lawful few form states counts spans lists pages₀ pages room gs laid inside parts days =
+    pages-ready rows sizes cuts rs cut (lawful-bounded rs lawful) few form states counts spans lists pages room gs 0 (numbersBehind rows cuts sizes pages₀ pages gs laid inside) parts days
     (text-held rows cuts sizes pages₀ pages gs laid inside)

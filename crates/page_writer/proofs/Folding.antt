@@ -13,6 +13,7 @@ use Rattle.day_flat.proofs.Flat.{unflat-flat}
 use Rattle.day_flat.proofs.Own.{day-own}
 use Rattle.day_flat.proofs.Room.{day-room}
 use Rattle.tables.specs.Items.{rowPlace, Rows, rowsBelow}
+use Rattle.definition.specs.Sheet.{Form}
 use Rattle.day_writer.specs.Rules.{dayIn, Whole}
 use Rattle.tables.specs.Pages.{dayRules, pageCounts, pageEnds, pageSize, pageAt, pageRules, PageReady}
 use Rattle.tables.specs.Days.{Carried, wordsOf, boxWords, Ready}
@@ -20,7 +21,7 @@ use Rattle.tables.specs.Sizes.{listPlaces, listLimit}
 use Rattle.tables.specs.Lists.{listOf}
 use Rattle.tables.proofs.Lists.{list-length}
 
-module _ {states counts spans lists page : List ℕ} {room : ℕ} (ready : PageReady states counts spans lists page room 0) where
+module _ {form : Form} {states counts spans lists page : List ℕ} {room : ℕ} (ready : PageReady form states counts spans lists page room 0) where
   -- ## Its items
   abbrev ends : List ℕ
   ends = take (length page - 5) (drop 5 page)
@@ -49,11 +50,11 @@ module _ {states counts spans lists page : List ℕ} {room : ℕ} (ready : PageR
       unfolding boxWords
       as-flat = held
 
-      pub whole : Whole words 0 count
+      pub whole : Whole form words 0 count
       whole = record {
         inside = let w : length (boxWords states counts spans lists box) ≤ room = box-ready .wordy in omega (arith, w, long, sized);
         flatly = as-flat ∙ sym (ap flat (ap unflat as-flat ∙ unflat-flat boxDay (day-own states counts spans list 0 (length list))));
-        carried = subst (All Carried) (sym (ap unflat held ∙ ap (λ k. unflat (boxWords states counts spans lists k)) named)) (ready .carried);
+        carried = subst (All (Carried form)) (sym (ap unflat held ∙ ap (λ k. unflat (boxWords states counts spans lists k)) named)) (ready .carried);
       }
 
       pub short : count ≤ 2049

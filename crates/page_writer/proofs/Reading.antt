@@ -8,7 +8,7 @@ use lib.Seq.{length-take-le, take-add, take-take, drop-at, drop-drop, getD-take,
 use Rattle.laws.specs.Lists.{All}
 use Rattle.laws.proofs.Spread.{flatMap-append}
 use Rattle.definition.specs.Rule.{Rule}
-use Rattle.definition.specs.Sheet.{form1, limits1, rule}
+use Rattle.definition.specs.Sheet.{Form, limits1, rule}
 use Rattle.day_flat.specs.Day.{unflat}
 use Rattle.day_writer.specs.Rules.{rulesBits}
 use Rattle.tables.specs.Days.{Carried, boxWords, Ready}
@@ -58,20 +58,20 @@ module _ (pages : List ℕ) (at size : ℕ) (sized : size ≡ pageSize pages at)
   unfolding pageSize
   cut-whole = cut-length ∙ sized ∙ ap (λ s. 5 + rowPlace s 4) (sym cut-counts)
 
-  pub cut-ready : {states counts spans lists : List ℕ} {room : ℕ} → PageReady states counts spans lists pages room at → {room′ : ℕ} → room ≡ room′
-      → PageReady states counts spans lists page room′ 0
-  cut-ready {states} {counts} {spans} {lists} {room} ready e =
-      subst (λ r. PageReady states counts spans lists page r 0) e
+  pub cut-ready : {form : Form} {states counts spans lists : List ℕ} {room : ℕ} → PageReady form states counts spans lists pages room at → {room′ : ℕ} → room ≡ room′
+      → PageReady form states counts spans lists page room′ 0
+  cut-ready {form} {states} {counts} {spans} {lists} {room} ready e =
+      subst (λ r. PageReady form states counts spans lists page r 0) e
       record {
         inside = omega (arith, cut-whole);
         rows = subst (λ l. Rows l (pageCounts page 0)) (sym cut-ends) (subst (Rows (pageEnds pages at)) (sym cut-counts) (ready .rows));
         numbered = omega (arith, cut-number, ready .numbered);
         ready = subst (λ k. Ready states counts spans lists room (k - 1)) (sym cut-number) (ready .ready);
-        carried = subst (λ k. All Carried (unflat (boxWords states counts spans lists (k - 1)))) (sym cut-number) (ready .carried);
+        carried = subst (λ k. All (Carried form) (unflat (boxWords states counts spans lists (k - 1)))) (sym cut-number) (ready .carried);
       }
 
 -- ## Pages
-module _ (W : ℕ → List ℕ) (pages : List ℕ) (at n : ℕ) where
+module _ (form : Form) (W : ℕ → List ℕ) (pages : List ℕ) (at n : ℕ) where
   abbrev all : List Rule
   all = pagesRules W (pagesAt n pages at)
 
@@ -79,11 +79,11 @@ module _ (W : ℕ → List ℕ) (pages : List ℕ) (at n : ℕ) where
   unfolding pagesAt flatMap
   none e = ap (λ k. pagesRules W (pagesAt k pages at)) e
 
-  pub none-bits : n ≡ 0 → rulesBits all ≡ []
+  pub none-bits : n ≡ 0 → rulesBits form all ≡ []
   unfolding flatMap
-  none-bits e = ap rulesBits (none e)
+  none-bits e = ap (rulesBits form) (none e)
 
-  pub none-size : n ≡ 0 → (length all ≡ 0) × (length (rulesBits all) ≡ 0)
+  pub none-size : n ≡ 0 → (length all ≡ 0) × (length (rulesBits form all) ≡ 0)
   none-size e = (ap length (none e), ap length (none-bits e))
 
   module _ (some : 0 < n) (size : ℕ) (sized : size ≡ pageSize pages at) (page : Page) (read : page ≡ pageAt pages at) where
@@ -99,28 +99,28 @@ module _ (W : ℕ → List ℕ) (pages : List ℕ) (at n : ℕ) where
         let e : n ≡ suc (n - 1) = omega arith in
         ap (λ k. pagesRules W (pagesAt k pages at)) e ∙ ap₂ (λ g s. pageRules W g ++ pagesRules W (pagesAt (n - 1) pages (at + s))) (sym read) (sym sized)
 
-    pub more-bits : rulesBits all ≡ rulesBits first ++ rulesBits later
-    more-bits = ap rulesBits more ∙ flatMap-append (rule form1 limits1 .write) first later
+    pub more-bits : rulesBits form all ≡ rulesBits form first ++ rulesBits form later
+    more-bits = ap (rulesBits form) more ∙ flatMap-append (rule form limits1 .write) first later
 
-    pub more-size : (r s a b : ℕ) → length first ≡ r → length later ≡ s → length (rulesBits first) ≡ a → length (rulesBits later) ≡ b
-        → (length all ≡ r + s) × (length (rulesBits all) ≡ a + b)
+    pub more-size : (r s a b : ℕ) → length first ≡ r → length later ≡ s → length (rulesBits form first) ≡ a → length (rulesBits form later) ≡ b
+        → (length all ≡ r + s) × (length (rulesBits form all) ≡ a + b)
     more-size r s a b p q u v = (
       ap length more ∙ omega (arith, length-append first later, p, q),
-      ap length more-bits ∙ omega (arith, length-append (rulesBits first) (rulesBits later), u, v),
+      ap length more-bits ∙ omega (arith, length-append (rulesBits form first) (rulesBits form later), u, v),
     )
 
 -- ## Pages that are ready
-module _ (states counts spans lists pages : List ℕ) (room : ℕ) where
-  pub pages-first : (n at : ℕ) → 0 < n → Pages states counts spans lists pages room n at → PageReady states counts spans lists pages room at
+module _ (form : Form) (states counts spans lists pages : List ℕ) (room : ℕ) where
+  pub pages-first : (n at : ℕ) → 0 < n → Pages form states counts spans lists pages room n at → PageReady form states counts spans lists pages room at
   unfolding Pages
   pages-first zero at some p = absurd (omega arith)
   pages-first (suc n) at some p = p .0
 
-  pub pages-later : (n at size : ℕ) → 0 < n → size ≡ pageSize pages at → Pages states counts spans lists pages room n at
-      → Pages states counts spans lists pages room (n - 1) (at + size)
+  pub pages-later : (n at size : ℕ) → 0 < n → size ≡ pageSize pages at → Pages form states counts spans lists pages room n at
+      → Pages form states counts spans lists pages room (n - 1) (at + size)
   unfolding Pages
   pages-later zero at size some e p = absurd (omega arith)
   pages-later (suc n) at size some e p =
       let k : n ≡ suc n - 1 = omega arith in
-      subst (λ s. Pages states counts spans lists pages room (suc n - 1) (at + s)) (sym e)
-      (subst (λ m. Pages states counts spans lists pages room m (at + pageSize pages at)) k (p .1))
+      subst (λ s. Pages form states counts spans lists pages room (suc n - 1) (at + s)) (sym e)
+      (subst (λ m. Pages form states counts spans lists pages room m (at + pageSize pages at)) k (p .1))

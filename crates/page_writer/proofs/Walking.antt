@@ -8,6 +8,7 @@ use lib.ListN.{length}
 use Rattle.definition.specs.Rule.{Rule}
 use Rattle.item_writer.specs.Written.{RoomFor, Wrote}
 use Rattle.item_writer.proofs.Chain.{wrote-then, room-first, room-rest, room-as, wrote-as, wrote-none}
+use Rattle.definition.specs.Sheet.{Form}
 use Rattle.day_writer.specs.Rules.{rulesBits}
 use Rattle.box_day.specs.Boxes.{Scratch}
 use Rattle.tables.specs.Days.{boxWords}
@@ -31,61 +32,61 @@ sized-scratch s = record {
 }
 
 -- ## What is done so far
-module _ (states counts spans lists pages : List ℕ) (count : ℕ) where
+module _ (form : Form) (states counts spans lists pages : List ℕ) (count : ℕ) where
   abbrev rulesFrom : ℕ → ℕ → List Rule
   rulesFrom n place = pagesRules (boxWords states counts spans lists) (pagesAt n pages place)
 
   -- so many rules and bits so far, and so many pages left from here on
   pub record Measured (left here rules bits : ℕ) : Type 0 where
-    pub ready : Pages states counts spans lists pages dayRoom left here
+    pub ready : Pages form states counts spans lists pages dayRoom left here
     pub ruled : length (rulesFrom count 0) ≡ rules + length (rulesFrom left here)
-    pub sized : length (rulesBits (rulesFrom count 0)) ≡ bits + length (rulesBits (rulesFrom left here))
+    pub sized : length (rulesBits form (rulesFrom count 0)) ≡ bits + length (rulesBits form (rulesFrom left here))
     pub few : rules + 4096 * left ≤ 4096 * count
     pub short : bits + 2 ^ 29 * left ≤ 2 ^ 29 * count
 
   -- some bits are written, which with those of so many pages left from here on are all; for these there is room
   pub record Writing (old : List ℕ) (place left here : ℕ) (out : List ℕ) (next : ℕ) : Type 0 where
-    pub ready : Pages states counts spans lists pages dayRoom left here
+    pub ready : Pages form states counts spans lists pages dayRoom left here
     pub done : List ℕ
     pub wrote : Wrote old place done out next
-    pub whole : rulesBits (rulesFrom count 0) ≡ done ++ rulesBits (rulesFrom left here)
-    pub roomy : RoomFor (length out) next (rulesBits (rulesFrom left here))
+    pub whole : rulesBits form (rulesFrom count 0) ≡ done ++ rulesBits form (rulesFrom left here)
+    pub roomy : RoomFor (length out) next (rulesBits form (rulesFrom left here))
 
   -- at the beginning
-  pub measured-none : Pages states counts spans lists pages dayRoom count 0 → Measured count 0 0 0
+  pub measured-none : Pages form states counts spans lists pages dayRoom count 0 → Measured count 0 0 0
   measured-none ready = record { ready = ready; ruled = omega arith; sized = omega arith; few = omega arith; short = omega arith }
 
-  pub writing-none : Pages states counts spans lists pages dayRoom count 0 → (old : List ℕ) (place : ℕ) → RoomFor (length old) place (rulesBits (rulesFrom count 0))
+  pub writing-none : Pages form states counts spans lists pages dayRoom count 0 → (old : List ℕ) (place : ℕ) → RoomFor (length old) place (rulesBits form (rulesFrom count 0))
       → Writing old place count 0 old place
   writing-none ready old place room = record { ready = ready; done = []; wrote = wrote-none refl; whole = refl; roomy = room }
 
 -- ## Measuring
-module _ {states counts spans lists pages : List ℕ} {count left here rules bits : ℕ} (m : Measured states counts spans lists pages count left here rules bits) where
+module _ {form : Form} {states counts spans lists pages : List ℕ} {count left here rules bits : ℕ} (m : Measured form states counts spans lists pages count left here rules bits) where
   abbrev W : ℕ → List ℕ
   W = boxWords states counts spans lists
 
   abbrev from : ℕ → ℕ → List Rule
-  from = rulesFrom states counts spans lists pages count
+  from = rulesFrom form states counts spans lists pages count
 
   pub measured-all : left ≡ 0
-      → (length (from count 0) ≡ rules) × (length (rulesBits (from count 0)) ≡ bits) × (rules ≤ 4096 * count) × (bits ≤ 2 ^ 29 * count)
+      → (length (from count 0) ≡ rules) × (length (rulesBits form (from count 0)) ≡ bits) × (rules ≤ 4096 * count) × (bits ≤ 2 ^ 29 * count)
   measured-all e =
-      let none = none-size W pages here left e in
+      let none = none-size form W pages here left e in
       (omega (arith, m .ruled, none .0), omega (arith, m .sized, none .1), omega (arith, m .few), omega (arith, m .short))
 
-  pub measured-page : 0 < left → PageReady states counts spans lists pages dayRoom here
-  measured-page some = pages-first states counts spans lists pages dayRoom left here some (m .ready)
+  pub measured-page : 0 < left → PageReady form states counts spans lists pages dayRoom here
+  measured-page some = pages-first form states counts spans lists pages dayRoom left here some (m .ready)
 
   -- one page more
   pub measured-more : (some : 0 < left) {size : ℕ} (sized : size ≡ pageSize pages here) → {r b : ℕ} → length (pageRules W (pageAt (cutOut pages here size) 0)) ≡ r
-      → length (rulesBits (pageRules W (pageAt (cutOut pages here size) 0))) ≡ b → r ≤ 4096 → b ≤ 2 ^ 29
-      → Measured states counts spans lists pages count (left - 1) (here + size) (rules + r) (bits + b)
+      → length (rulesBits form (pageRules W (pageAt (cutOut pages here size) 0))) ≡ b → r ≤ 4096 → b ≤ 2 ^ 29
+      → Measured form states counts spans lists pages count (left - 1) (here + size) (rules + r) (bits + b)
   measured-more some {size} sized {r} {b} p q u v =
       let read = cut-page pages here size sized (omega (arith, sized, measured-page some .inside)) in
       let later = from (left - 1) (here + size) in
-      let more = more-size W pages here left some size sized _ read r (length later) b (length (rulesBits later)) p refl q refl in
+      let more = more-size form W pages here left some size sized _ read r (length later) b (length (rulesBits form later)) p refl q refl in
       record {
-        ready = pages-later states counts spans lists pages dayRoom left here size some sized (m .ready);
+        ready = pages-later form states counts spans lists pages dayRoom left here size some sized (m .ready);
         ruled = omega (arith, m .ruled, more .0);
         sized = omega (arith, m .sized, more .1);
         few = omega (arith, m .few, u);
@@ -93,37 +94,37 @@ module _ {states counts spans lists pages : List ℕ} {count left here rules bit
       }
 
 -- ## Writing
-module _ {states counts spans lists pages : List ℕ} {count : ℕ} {old : List ℕ} {place left here : ℕ} {out : List ℕ} {next : ℕ}
-    (w : Writing states counts spans lists pages count old place left here out next) where
+module _ {form : Form} {states counts spans lists pages : List ℕ} {count : ℕ} {old : List ℕ} {place left here : ℕ} {out : List ℕ} {next : ℕ}
+    (w : Writing form states counts spans lists pages count old place left here out next) where
   abbrev X : ℕ → List ℕ
   X = boxWords states counts spans lists
 
   abbrev behind : ℕ → ℕ → List ℕ
-  behind n at = rulesBits (rulesFrom states counts spans lists pages count n at)
+  behind n at = rulesBits form (rulesFrom form states counts spans lists pages count n at)
 
   pub writing-all : left ≡ 0 → Wrote old place (behind count 0) out next
-  writing-all e = wrote-as (w .whole ∙ ap (w .done ++_) (none-bits X pages here left e) ∙ append-nil (w .done)) (w .wrote)
+  writing-all e = wrote-as (w .whole ∙ ap (w .done ++_) (none-bits form X pages here left e) ∙ append-nil (w .done)) (w .wrote)
 
-  pub writing-page : 0 < left → PageReady states counts spans lists pages dayRoom here
-  writing-page some = pages-first states counts spans lists pages dayRoom left here some (w .ready)
+  pub writing-page : 0 < left → PageReady form states counts spans lists pages dayRoom here
+  writing-page some = pages-first form states counts spans lists pages dayRoom left here some (w .ready)
 
   -- one page more
   module _ (some : 0 < left) {size : ℕ} (sized : size ≡ pageSize pages here) where
     abbrev pageBits : List ℕ
-    pageBits = rulesBits (pageRules X (pageAt (cutOut pages here size) 0))
+    pageBits = rulesBits form (pageRules X (pageAt (cutOut pages here size) 0))
 
     abbrev later : List ℕ
     later = behind (left - 1) (here + size)
 
     more : behind left here ≡ pageBits ++ later
-    more = more-bits X pages here left some size sized _ (cut-page pages here size sized (omega (arith, sized, writing-page some .inside)))
+    more = more-bits form X pages here left some size sized _ (cut-page pages here size sized (omega (arith, sized, writing-page some .inside)))
 
     pub page-room : RoomFor (length out) next pageBits
     page-room = room-first pageBits later (room-as more (w .roomy))
 
-    pub writing-more : {out′ : List ℕ} {next′ : ℕ} → Wrote out next pageBits out′ next′ → Writing states counts spans lists pages count old place (left - 1) (here + size) out′ next′
+    pub writing-more : {out′ : List ℕ} {next′ : ℕ} → Wrote out next pageBits out′ next′ → Writing form states counts spans lists pages count old place (left - 1) (here + size) out′ next′
     writing-more v = record {
-      ready = pages-later states counts spans lists pages dayRoom left here size some sized (w .ready);
+      ready = pages-later form states counts spans lists pages dayRoom left here size some sized (w .ready);
       done = w .done ++ pageBits;
       wrote = wrote-then (w .wrote) v;
       whole = w .whole ∙ ap (w .done ++_) more ∙ sym (append-assoc (w .done) pageBits later);

@@ -1,17 +1,19 @@
 // Measures and writes pages, one after the other: a page's rules are those of its day over its items. A page is a row of numbers: the day's
 // number, four counts of items by sorts, and the items' ends; pages stand one behind the other. A day's number is one more than the number of a
 // box that has the day, so that box's list is folded again when the page is measured or written. The buffers from `words` to `interval_states`
-// are scratch. `write_page` has thirteen parameters, since the language lends no struct of slices: the scratch of a day is six of them, and the
+// are scratch. `write_page` has fourteen parameters, since the language lends no struct of slices: the scratch of a day is six of them, and the
 // rules' times are three.
 use box_day::fold_box;
 use casts::u16_to_usize;
 use day_writer::Measure;
 use day_writer::measure_day;
 use day_writer::write_day;
+use forms::Form;
 use tables::page::page_size;
 ghost use mathlib.Core.Path.{_≡_};
 ghost use Prim.Native.Nat.{_*_, _≤_, _<_, _^_};
 ghost use lib.ListN.{length};
+ghost use Rattle.forms.specs.Form.{asForm};
 ghost use Rattle.item_writer.specs.Written.{RoomFor, Wrote};
 ghost use Rattle.day_writer.specs.Rules.{rulesBits};
 ghost use Rattle.box_day.specs.Boxes.{Scratch};
@@ -21,6 +23,7 @@ ghost use Rattle.tables.specs.Pages.{pageSize, pageAt, pageRules, pagedRules, P
 
 // How many rules a page stands for, and how many bits they take.
 fn measure_page(
+    form: Form,
     words: &mut [u64],
     span_states: &mut [u32],
     span_codes: &mut [u64],
@@ -33,12 +36,12 @@ fn measure_page(
     lists: &[u16],
     page: &[u16],
 ) -> Measure
-    requires { ⌜ PageReady (now states) (now «span_counts») (now spans) (now lists) (now page) (length (now words)) 0 ⌝ }
+    requires { ⌜ PageReady (asForm form) (now states) (now «span_counts») (now spans) (now lists) (now page) (length (now words)) 0 ⌝ }
     requires { ⌜ Scratch (length (now «span_states»)) (length (now «span_codes»)) (length (now strokes)) (length (now «minute_cuts»))
         (length (now «interval_states»)) ⌝ }
     ensures { λ r. ⌜ (length (pageRules (boxWords (now (states .entry)) (now («span_counts» .entry)) (now (spans .entry)) (now (lists .entry)))
         (pageAt (now (page .entry)) 0)) ≡ r .rules)
-        × (length (rulesBits (pageRules (boxWords (now (states .entry)) (now («span_counts» .entry)) (now (spans .entry)) (now (lists .entry)))
+        × (length (rulesBits (asForm form) (pageRules (boxWords (now (states .entry)) (now («span_counts» .entry)) (now (spans .entry)) (now (lists .entry)))
         (pageAt (now (page .entry)) 0))) ≡ r .bits)
         × (r .rules ≤ 4096) × (r .bits ≤ 2 ^ 29) ⌝ }
 {
@@ -55,11 +58,12 @@ fn measure_page(
         lists,
         u16_to_usize(page[0]) - 1,
     );
-    measure_day(words, count, &page[1..5])
+    measure_day(form, words, count, &page[1..5])
 }
 
 // How many rules the first `count` pages stand for, and how many bits they take.
 pub fn measure_pages(
+    form: Form,
     states: &[u32],
     span_counts: &[u8],
     spans: &[u64],
@@ -67,11 +71,11 @@ pub fn measure_pages(
     pages: &[u16],
     count: usize,
 ) -> Measure
-    requires { ⌜ Pages (now states) (now «span_counts») (now spans) (now lists) (now pages) dayRoom count 0 ⌝ }
+    requires { ⌜ Pages (asForm form) (now states) (now «span_counts») (now spans) (now lists) (now pages) dayRoom count 0 ⌝ }
     requires { ⌜ count < 2 ^ 32 ⌝ }
     ensures { λ r. ⌜ (length (pagedRules (now (states .entry)) (now («span_counts» .entry)) (now (spans .entry)) (now (lists .entry))
         (now (pages .entry)) count) ≡ r .rules)
-        × (length (rulesBits (pagedRules (now (states .entry)) (now («span_counts» .entry)) (now (spans .entry)) (now (lists .entry))
+        × (length (rulesBits (asForm form) (pagedRules (now (states .entry)) (now («span_counts» .entry)) (now (spans .entry)) (now (lists .entry))
         (now (pages .entry)) count)) ≡ r .bits)
         × (r .rules ≤ 4096 * count) × (r .bits ≤ 2 ^ 29 * count) ⌝ }
 {
@@ -88,6 +92,7 @@ pub fn measure_pages(
     while pages_left > 0 {
         let size = page_size(pages, here);
         let page = measure_page(
+            form,
             &mut words,
             &mut span_states,
             &mut span_codes,
@@ -113,6 +118,7 @@ pub fn measure_pages(
 
 // Writes a page's rules; answers the place after them.
 fn write_page(
+    form: Form,
     out: &mut [u8],
     place: usize,
     words: &mut [u64],
@@ -127,14 +133,14 @@ fn write_page(
     lists: &[u16],
     page: &[u16],
 ) -> usize
-    requires { ⌜ PageReady (now states) (now «span_counts») (now spans) (now lists) (now page) (length (now words)) 0
+    requires { ⌜ PageReady (asForm form) (now states) (now «span_counts») (now spans) (now lists) (now page) (length (now words)) 0
         × (length (now page) ≡ pageSize (now page) 0) ⌝ }
     requires { ⌜ Scratch (length (now «span_states»)) (length (now «span_codes»)) (length (now strokes)) (length (now «minute_cuts»))
         (length (now «interval_states»)) ⌝ }
     requires { ⌜ RoomFor (length (now out)) place
-        (rulesBits (pageRules (boxWords (now states) (now «span_counts») (now spans) (now lists)) (pageAt (now page) 0))) ⌝ }
+        (rulesBits (asForm form) (pageRules (boxWords (now states) (now «span_counts») (now spans) (now lists)) (pageAt (now page) 0))) ⌝ }
     ensures { λ r. ⌜ Wrote (now (out .entry)) place
-        (rulesBits (pageRules (boxWords (now (states .entry)) (now («span_counts» .entry)) (now (spans .entry)) (now (lists .entry)))
+        (rulesBits (asForm form) (pageRules (boxWords (now (states .entry)) (now («span_counts» .entry)) (now (spans .entry)) (now (lists .entry)))
         (pageAt (now (page .entry)) 0))) (now (out .exit)) r ⌝ }
 {
     let count = fold_box(
@@ -150,11 +156,12 @@ fn write_page(
         lists,
         u16_to_usize(page[0]) - 1,
     );
-    write_day(out, place, words, count, &page[5..], &page[1..5])
+    write_day(form, out, place, words, count, &page[5..], &page[1..5])
 }
 
 // Writes the rules of the first `count` pages; answers the place after them.
 pub fn write_pages(
+    form: Form,
     out: &mut [u8],
     place: usize,
     states: &[u32],
@@ -164,11 +171,11 @@ pub fn write_pages(
     pages: &[u16],
     count: usize,
 ) -> usize
-    requires { ⌜ Pages (now states) (now «span_counts») (now spans) (now lists) (now pages) dayRoom count 0 ⌝ }
+    requires { ⌜ Pages (asForm form) (now states) (now «span_counts») (now spans) (now lists) (now pages) dayRoom count 0 ⌝ }
     requires { ⌜ RoomFor (length (now out)) place
-        (rulesBits (pagedRules (now states) (now «span_counts») (now spans) (now lists) (now pages) count)) ⌝ }
+        (rulesBits (asForm form) (pagedRules (now states) (now «span_counts») (now spans) (now lists) (now pages) count)) ⌝ }
     ensures { λ r. ⌜ Wrote (now (out .entry)) place
-        (rulesBits (pagedRules (now (states .entry)) (now («span_counts» .entry)) (now (spans .entry)) (now (lists .entry))
+        (rulesBits (asForm form) (pagedRules (now (states .entry)) (now («span_counts» .entry)) (now (spans .entry)) (now (lists .entry))
         (now (pages .entry)) count)) (now (out .exit)) r ⌝ }
 {
     let mut words = buffers::words();
@@ -183,6 +190,7 @@ pub fn write_pages(
     while pages_left > 0 {
         let size = page_size(pages, here);
         next = write_page(
+            form,
             out,
             next,
             &mut words,

@@ -2,6 +2,7 @@
 -- beginnings.
 use mathlib.Core.Path.{_≡_, sym, ap, ap₂, _∙_, subst}
 use mathlib.Core.List.{List}
+use mathlib.Core.Bool.{true}
 use Prim.Native.Nat.{ℕ, _*_, _≤_, _<_}
 use native.Mathlib.Omega.{arith}
 use lib.ListN.{length, take}
@@ -9,16 +10,18 @@ use lib.Seq.{length-take-le, getD-take}
 use Rattle.laws.proofs.Lists.{every-all}
 use Rattle.definition.specs.Field.{sheetBits}
 use Rattle.definition.specs.Rule.{Rule}
-use Rattle.definition.specs.Sheet.{form1, limits1, rule}
+use Rattle.definition.specs.Sheet.{Form, form2, limits1, rule}
 use Rattle.definition.specs.Stop.{drained, why}
 use Rattle.definition.proofs.Bits.{Bytes}
 use Rattle.definition.proofs.Drained.{drained-fewer}
 use Rattle.definition.proofs.FoldBox.{drained-all}
 use Rattle.definition.proofs.Lawful.{rules-each}
+use Rattle.definition.proofs.Carried.{comment-carried}
+use Rattle.definition.proofs.OtherForm.{holds2, rule-moves}
 use Rattle.definition.proofs.SheetRead.{encode-decoded}
 use Rattle.sheet.specs.Rules.{begun, AllBegin}
 use Rattle.sheet.specs.Parts.{SheetRead}
-use Rattle.sheet.proofs.Begins.{begun-length, rules-few, all-begin}
+use Rattle.sheet.proofs.Begins.{rules-few, all-begin, begins-long}
 use Rattle.tables.specs.Rules.{AllFit, RuleTimes, RuleDays}
 use Rattle.draining.specs.Table.{Tabled, rulesFrom}
 use Rattle.draining.proofs.Begun.{rules-noted}
@@ -26,28 +29,32 @@ use Rattle.prepare.specs.Prepared.{Prepared, JudgesDays, Judges}
 use Rattle.prepare.specs.declared.Judged.{Judged}
 use Rattle.prepare.specs.declared.Judged.the-variants.{Fine, Refused}
 
-module _ (sheet : List ℕ) (bytes : Bytes sheet) (begins : List ℕ) (rs : List Rule) (end count : ℕ) (reading : SheetRead sheet begins rs end) (many : count ≡ length rs) where
-  same : rulesFrom (sheetBits sheet) begins 0 count ≡ rs
-  same = ap₂ (λ b n. rulesFrom (sheetBits sheet) b 0 n) (reading .noted) many ∙ rules-noted sheet bytes rs end (reading .read) (reading .before) (reading .room)
+module _ (form : Form) (sheet : List ℕ) (bytes : Bytes sheet) (begins : List ℕ) (rs : List Rule) (end count : ℕ) (reading : SheetRead form sheet begins rs end) (many : count ≡ length rs) where
+  same : rulesFrom form (sheetBits sheet) begins 0 count ≡ rs
+  same = ap₂ (λ b n. rulesFrom form (sheetBits sheet) b 0 n) (reading .noted) many ∙ rules-noted form (reading .narrow) sheet bytes rs end (reading .read) (reading .before) (reading .room)
 
   few : length rs ≤ limits1 .rules
-  few = rules-few sheet rs end bytes (reading .read)
+  few = rules-few form sheet rs end bytes (reading .read)
 
   -- ## What draining requires
-  pub rules-begin : AllBegin (sheetBits sheet) begins count
+  pub rules-begin : AllBegin form (sheetBits sheet) begins count
   rules-begin =
-      subst (λ b. AllBegin (sheetBits sheet) b count) (sym (reading .noted))
-      (subst (AllBegin (sheetBits sheet) (begun sheet (reading .before))) (sym many) (all-begin sheet bytes rs end (reading .read) (reading .before) (reading .room)))
+      subst (λ b. AllBegin form (sheetBits sheet) b count) (sym (reading .noted))
+      (subst (AllBegin form (sheetBits sheet) (begun form sheet (reading .before))) (sym many) (all-begin form (reading .narrow) sheet bytes rs end (reading .read) (reading .before) (reading .room)))
 
   pub begins-there : count ≤ length begins
-  begins-there = omega (arith, many, few, reading .room, ap length (reading .noted), begun-length sheet (reading .before))
+  begins-there = omega (arith, many, begins-long form sheet begins bytes rs end reading .1)
 
   fits : AllFit (drained rs)
-  fits = drained-all _ rs (every-all _ ((rule form1 limits1) .fits) (λ r e. e) rs (rules-each form1 limits1 rs (encode-decoded form1 limits1 sheet bytes rs end (reading .read) .0)))
+  fits = drained-all _ rs (every-all _ ((rule form limits1) .fits) moves rs (rules-each form limits1 rs (encode-decoded form limits1 sheet bytes rs end (reading .read) .0)))
+    where
+      -- form 2 carries what any form carries
+      moves : (r : Rule) → (rule form limits1) .fits r ≡ true → (rule form2 limits1) .fits r ≡ true
+      moves r f = rule-moves form form2 limits1 holds2 r f (omega (arith, comment-carried form limits1 r f, reading .narrow .comment-narrow))
 
   -- ## What it leaves
-  module _ (n : ℕ) (states counts spans replacing rangeCounts ranges : List ℕ) (e : n ≡ length (drained (rulesFrom (sheetBits sheet) begins 0 count)))
-      (t : Tabled states counts spans replacing rangeCounts ranges (drained (rulesFrom (sheetBits sheet) begins 0 count))) where
+  module _ (n : ℕ) (states counts spans replacing rangeCounts ranges : List ℕ) (e : n ≡ length (drained (rulesFrom form (sheetBits sheet) begins 0 count)))
+      (t : Tabled states counts spans replacing rangeCounts ranges (drained (rulesFrom form (sheetBits sheet) begins 0 count))) where
     drained-many : n ≡ length (drained rs)
     drained-many = e ∙ ap (λ qs. length (drained qs)) same
 
@@ -88,7 +95,7 @@ module _ (sheet : List ℕ) (bytes : Bytes sheet) (begins : List ℕ) (rs : List
         }
 
         -- THE TABLES AND THE CUTS are those of the drained rules, and so is the refusal
-        pub sheet-judged : (reason : ℕ) → reason ≡ why (rulesFrom (sheetBits sheet) begins 0 count) → (rows sizes cuts : List ℕ) (r : Judged)
+        pub sheet-judged : (reason : ℕ) → reason ≡ why (rulesFrom form (sheetBits sheet) begins 0 count) → (rows sizes cuts : List ℕ) (r : Judged)
             → JudgesDays rows sizes cuts n reason (drained rs) r → Judges states counts spans replacing rangeCounts ranges rows sizes cuts rs r
         unfolding JudgesDays Judges
         sheet-judged reason w rows sizes cuts (Refused c p) h = h

@@ -5,7 +5,7 @@ use mathlib.Core.Option.{none}
 use Prim.Native.Nat.{ℕ, _*_, _≤_}
 use lib.ListN.{length, take}
 use Rattle.definition.specs.Rule.{Rule}
-use Rattle.definition.specs.Sheet.{limits1}
+use Rattle.definition.specs.Sheet.{Form, limits1}
 use Rattle.definition.specs.Stop.{drained, why}
 use Rattle.definition.specs.Overlap.{firstOverlap}
 use Rattle.definition.specs.Fold.{over, drain}
@@ -18,12 +18,12 @@ use Rattle.prepare.specs.declared.Judged.the-variants.{Fine, Refused}
 
 -- ## A sheet
 -- so many rules are read from a sheet, and it is noted where they begin
-abbrev pub RulesRead : List ℕ → List ℕ → ℕ → Type 0
-RulesRead sheet begins n = (rs : List Rule) × ((end : ℕ) × (SheetRead sheet begins rs end × (n ≡ length rs)))
+abbrev pub RulesRead : Form → List ℕ → List ℕ → ℕ → Type 0
+RulesRead form sheet begins n = (rs : List Rule) × ((end : ℕ) × (SheetRead form sheet begins rs end × (n ≡ length rs)))
 
 -- a fact of the rules that are read
-abbrev pub EachReading : List ℕ → List ℕ → ℕ → (List Rule → Type 0) → Type 0
-EachReading sheet begins n P = (rs : List Rule) (end : ℕ) → SheetRead sheet begins rs end → n ≡ length rs → P rs
+abbrev pub EachReading : Form → List ℕ → List ℕ → ℕ → (List Rule → Type 0) → Type 0
+EachReading form sheet begins n P = (rs : List Rule) (end : ℕ) → SheetRead form sheet begins rs end → n ≡ length rs → P rs
 
 -- ## Its drained rules
 -- 11 and 5 pass them: none has days typed twice, and there are no more boxes between their cuts than the limit

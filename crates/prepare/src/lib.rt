@@ -1,11 +1,13 @@
 // What the fold and the lookup have in common: the drained rules of a sheet that was read, in tables, judged by 11 and 5, and the rows of their
 // cuts. From here on the tables are read, and no sheet.
+use forms::Form;
 use limits::boxes_over;
 ghost use mathlib.Core.Path.{_≡_};
 ghost use mathlib.Core.List.{List};
 ghost use Prim.Native.Nat.{_*_, _≤_};
 ghost use lib.ListN.{length};
 ghost use Rattle.definition.specs.Rule.{Rule};
+ghost use Rattle.forms.specs.Form.{asForm};
 ghost use Rattle.tables.specs.Sizes.{rowPlaces};
 ghost use Rattle.tables.specs.Rules.{RuleDays};
 ghost use Rattle.prepare.specs.Prepared.{RulesRead, EachReading, JudgesDays, Judges};
@@ -46,6 +48,7 @@ fn judge(
 // The drained rules of a sheet that was read, in tables, and the rows of their cuts; or 11 where one of them has days typed twice, or 5 where there
 // are too many boxes between the cuts.
 pub fn prepare(
+    form: Form,
     sheet: &[u8],
     begins: &[usize],
     count: usize,
@@ -59,15 +62,16 @@ pub fn prepare(
     sizes: &mut [u16],
     cuts: &mut [u16],
 ) -> Judged
-    requires { ⌜ RulesRead (now sheet) (now begins) count ⌝ }
+    requires { ⌜ RulesRead (asForm form) (now sheet) (now begins) count ⌝ }
     requires { ⌜ (count ≤ length (now states)) × (count ≤ length (now «span_counts»)) × (count * 16 ≤ length (now spans)) × (count ≤ length (now replacing)) ⌝ }
     requires { ⌜ (count * 4 ≤ length (now «range_counts»)) × (count * 256 ≤ length (now ranges)) ⌝ }
     requires { ⌜ (length (now «row_starts») ≡ 4) × (length (now sizes) ≡ 4) × (4 * rowPlaces count ≤ length (now cuts)) ⌝ }
-    ensures { λ r. ⌜ EachReading (now (sheet .entry)) (now (begins .entry)) count
+    ensures { λ r. ⌜ EachReading (asForm form) (now (sheet .entry)) (now (begins .entry)) count
         (λ rs. Judges (now (states .exit)) (now («span_counts» .exit)) (now (spans .exit)) (now (replacing .exit)) (now («range_counts» .exit)) (now (ranges .exit))
         (now («row_starts» .exit)) (now (sizes .exit)) (now (cuts .exit)) rs r) ⌝ }
 {
     let drained = draining::drain(
+        form,
         sheet,
         begins,
         count,

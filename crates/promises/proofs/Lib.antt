@@ -22,3 +22,6 @@ pub mod Once
 pub mod Looking
 pub mod Fitting
 pub mod ReadBack
+pub mod Convert
+pub mod ThereAndBack
+pub mod CallersForm

@@ -20,7 +20,7 @@ use Rattle.definition.specs.Line.{firstNormal, line}
 use Rattle.definition.specs.Show.{wordless, firstWordless, showRules, showLine}
 use Rattle.definition.proofs.SheetRead.{encode-decoded}
 use Rattle.definition.proofs.Lawful.{rules-each}
-use Rattle.lines.proofs.Carried.{comment-carried}
+use Rattle.definition.proofs.Carried.{comment-carried}
 use Rattle.laws.proofs.Passing.{first-at, first-none, Found, first-found}
 use Rattle.lines.proofs.Fitting.{line-fits}
 use Rattle.lines.proofs.Printable.{Printable, line-printable}

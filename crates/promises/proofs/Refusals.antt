@@ -11,8 +11,8 @@ use lib.Dec.{eqb, leb}
 use lib.ListN.{length}
 use borrow.Author.Tests.{leb-true, leb-false}
 use Rattle.definition.specs.Field.{fieldAt, Read, got, refused, andThen, pastEnd, readField, readAll, Layout, field, noBits, _then_, via, tagged, several}
-use Rattle.definition.specs.Sheet.{Form, Limits, yearRange, monthdayOf, monthdayRange, weekRange, weekdayOf, weekDayRange, timeOf, time, repeatsOf, repeatsLayout, span, title, counts, Counts, head, body, rule, rules}
-use Rattle.promises.specs.Fields.{FieldKind, countOfRules, countOfItems, countOfSpans, choiceOfThree, aYear, aMonth, aWeek, aWeekday, aYearStep, aWeekStep, someMinutes, aComment, aReference, anOffset, anNthSet, anEvent, aFlag, someRepeats, width, passes, codeOf, Refused}
+use Rattle.definition.specs.Sheet.{Form, Limits, yearRange, monthdayOf, monthdayRange, weekRange, weekdayOf, weekDayRange, timeOf, time, repeatsOf, repeatsLayout, span, title, counts, Counts, head, body, rule, opening, rules}
+use Rattle.promises.specs.Fields.{FieldKind, countOfRules, countOfItems, countOfSpans, aMark, choiceOfThree, aYear, aMonth, aWeek, aWeekday, aYearStep, aWeekStep, someMinutes, aComment, aReference, anOffset, anNthSet, anEvent, aFlag, someRepeats, width, passes, codeOf, Refused}
 
 -- where a reading that goes on is refused: at once, or in what comes behind
 module _ {A B : Type 0} (f : A → ℕ → Read B) (c q : ℕ) where
@@ -105,13 +105,13 @@ module _ (form : Form) (limits : Limits) where
   Named s c p = (k : FieldKind) × Refused form limits s k c p
 
   -- a field of each kind
-  kind : (k : FieldKind) → Refuses Named (field (codeOf k) (passes limits k) (width form k))
+  kind : (k : FieldKind) → Refuses Named (field (codeOf k) (passes form limits k) (width form k))
   unfolding field readField
   kind k = record { tells = λ s p c q e. past s p c q e (leb (p + width form k) (length s)) refl }
     where
-      fails : (s : List ℕ) (p c q : ℕ) → readField (codeOf k) (passes limits k) (width form k) s p ≡ refused c q → p + width form k ≤ length s
+      fails : (s : List ℕ) (p c q : ℕ) → readField (codeOf k) (passes form limits k) (width form k) s p ≡ refused c q → p + width form k ≤ length s
           → leb (p + width form k) (length s) ≡ true
-          → (b : Bool) → passes limits k (fieldAt s p (width form k)) ≡ b → Named s c q
+          → (b : Bool) → passes form limits k (fieldAt s p (width form k)) ≡ b → Named s c q
       fails s p c q e l t true f = unread (fieldAt s p (width form k)) (p + width form k) c q (rw (t, f, readField) at e)
       fails s p c q e l t false f =
           let g : refused (codeOf k) p ≡ refused c q = rw (t, f, readField) at e in
@@ -119,9 +119,9 @@ module _ (form : Form) (limits : Limits) where
           let z : p ≡ q = cc in
           subst (λ i. Named s c i) z (k, inr (sym d, l, f))
 
-      past : (s : List ℕ) (p c q : ℕ) → readField (codeOf k) (passes limits k) (width form k) s p ≡ refused c q → (b : Bool)
+      past : (s : List ℕ) (p c q : ℕ) → readField (codeOf k) (passes form limits k) (width form k) s p ≡ refused c q → (b : Bool)
           → leb (p + width form k) (length s) ≡ b → Named s c q
-      past s p c q e true t = fails s p c q e (leb-true (p + width form k) (length s) t) t (passes limits k (fieldAt s p (width form k))) refl
+      past s p c q e true t = fails s p c q e (leb-true (p + width form k) (length s) t) t (passes form limits k (fieldAt s p (width form k))) refl
       past s p c q e false t =
           let g : refused pastEnd p ≡ refused c q = rw (t, readField) at e in
           let d : pastEnd ≡ c = cc in
@@ -168,16 +168,20 @@ module _ (form : Form) (limits : Limits) where
       (then-refuses (kind countOfItems)
       (then-refuses (kind countOfItems) (then-refuses (kind countOfItems) (then-refuses (kind countOfItems) (kind countOfSpans)))))
 
-  body-refuses : (n : Counts) → Refuses Named (body form limits n)
+  body-refuses : (n : Counts) → Refuses Named (body n)
   unfolding body
   body-refuses n =
       then-refuses (several-refuse year-refuses (n .0)) (then-refuses (several-refuse month-refuses (n .1 .0))
       (then-refuses (several-refuse week-refuses (n .1 .1 .0))
       (then-refuses (several-refuse weekday-refuses (n .1 .1 .1 .0)) (several-refuse span-refuses (n .1 .1 .1 .1)))))
 
+  opening-refuses : Refuses Named (opening form limits)
+  unfolding opening
+  opening-refuses = via-refuses _ _ (then-refuses (kind aMark) (kind countOfRules))
+
   rules-refuse : Refuses Named (rules form limits)
   unfolding rules rule
-  rules-refuse = tagged-refuses _ (kind countOfRules) (λ n. several-refuse (tagged-refuses _ head-refuses (λ h. via-refuses _ _ (body-refuses (h .1)))) n)
+  rules-refuse = tagged-refuses _ opening-refuses (λ n. several-refuse (tagged-refuses _ head-refuses (λ h. via-refuses _ _ (body-refuses (h .1)))) n)
 
   -- A REFUSAL NAMES A FIELD
   pub field-named : (s : List ℕ) (c q : ℕ) → (rules form limits) .read s 0 ≡ refused c q → (k : FieldKind) × Refused form limits s k c q

@@ -1,5 +1,5 @@
 -- Demand 1: when each code comes, and with which place, both ways: the table of 01 for the fold, for writing back and for the lookup, with 02's
--- 11, and 02's for the line. A number that stands in no row is never answered.
+-- 11, and 02's for the line; the conversion's stands in Convert. A number that stands in no row is never answered.
 use mathlib.Core.Path.{_≡_}
 use mathlib.Core.List.{List, [], _++_, map}
 use mathlib.Core.Bool.{Bool, true, false, _&&_}

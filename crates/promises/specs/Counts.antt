@@ -48,7 +48,7 @@ BackWrites form limits room sheet = (writeBack form limits room sheet) .code ≡
     → ((writeBack form limits room sheet) .result ≡ sheet) × ((writeBack form limits room sheet) .bytes ≡ length sheet)
 
 -- "refused, bytes written is 0 and the buffer is untouched"
-abbrev NothingWritten : Written → Type 0
+abbrev pub NothingWritten : Written → Type 0
 NothingWritten w = (w .code ≡ 0 → ⊥) → (w .bytes ≡ 0) × (w .result ≡ [])
 
 abbrev pub BackNothing : Form → Limits → ℕ → List ℕ → Type 0

@@ -7,3 +7,5 @@ pub mod Why
 pub mod Once
 pub mod Looking
 pub mod ReadBack
+pub mod Convert
+pub mod CallersForm

@@ -6,7 +6,7 @@ use mathlib.Core.List.{List, _++_}
 use Prim.Native.Nat.{ℕ, _-_, _^_, _<_}
 use Rattle.laws.specs.Lists.{All}
 use Rattle.definition.specs.Rule.{Rule}
-use Rattle.definition.specs.Sheet.{Form, Limits, form1, limits1}
+use Rattle.definition.specs.Sheet.{Form, Limits}
 use Rattle.definition.specs.Stop.{drained, left}
 use Rattle.definition.specs.Group.{folded}
 use Rattle.definition.specs.Fold.{fold}
@@ -28,6 +28,6 @@ abbrev pub written : List Rule → List Rule
 written rs = folded (drained rs) ++ left rs
 
 -- THE STATEMENT: rs are the rules of the sheet
-abbrev pub FoldReads : ℕ → List ℕ → Type 0
-FoldReads room sheet = All (λ b. b < 256) sheet → (fold form1 limits1 room sheet) .code ≡ 0
-    → (rs : List Rule) × Accepted form1 limits1 sheet rs × Accepted form1 (widest form1 limits1) ((fold form1 limits1 room sheet) .result) (written rs) × SameMeaning rs (written rs)
+abbrev pub FoldReads : Form → Limits → ℕ → List ℕ → Type 0
+FoldReads form limits room sheet = All (λ b. b < 256) sheet → (fold form limits room sheet) .code ≡ 0
+    → (rs : List Rule) × Accepted form limits sheet rs × Accepted form (widest form limits) ((fold form limits room sheet) .result) (written rs) × SameMeaning rs (written rs)

@@ -1,13 +1,15 @@
 // The reader of 01: "a view that holds the lent sheet and a bit position". The functions over it are thin, since a proof over a held
 // slice is a walk by hand; the work is done by `read_at` on a plain slice and numbers, by crate `field`. The check of a sheet begins here:
-// `rule_count` opens the sheet and takes its first field.
+// `rule_count` opens the sheet and takes its mark and its rule count.
 use field::Taken;
-use field::width;
-use limits::rules_allowed;
+use forms::Form;
+use forms::mark;
+use forms::mark_width;
 use limits::width_over;
 ghost use mathlib.Core.Path.{_≡_};
-ghost use Rattle.definition.specs.Field.{Layout, sheetBits, counted};
-ghost use Rattle.definition.specs.Sheet.{form1, limits1};
+ghost use Rattle.definition.specs.Field.{Layout, sheetBits};
+ghost use Rattle.definition.specs.Sheet.{limits1, opening};
+ghost use Rattle.forms.specs.Form.{asForm};
 ghost use Rattle.field.specs.Answer.{asRead};
 ghost use Rattle.reader.specs.Says.{Says};
 
@@ -79,21 +81,21 @@ pub fn first(sheet: &[u8], width: usize) -> Reading
     take(open(sheet), width)
 }
 
-// How many rules a sheet has, its first field: no more than the limit, else refused by 4. That field is never too large to be answered, so
-// the first return is never taken.
-pub fn rule_count(sheet: &[u8]) -> Taken
-    ensures { λ r. ⌜ asRead r ≡ (counted (form1 .ruleCount) (limits1 .rules)) .read (sheetBits (now (sheet .entry))) 0 ⌝ }
+// How many rules a sheet has. Its first field is the form's mark, refused by 2 where it is another; the count stands behind it. The mark is
+// never too large to be answered, so the first return is never taken.
+pub fn rule_count(form: Form, sheet: &[u8]) -> Taken
+    ensures { λ r. ⌜ asRead r ≡ (opening (asForm form) limits1) .read (sheetBits (now (sheet .entry))) 0 ⌝ }
 {
-    let reading = first(sheet, width::RULE_COUNT);
+    let reading = first(sheet, mark_width(form));
     let Reading::Field(taken) = reading else {
         return Taken::Refused(1, 0);
     };
     let Taken::Value(value, next) = taken else {
         return taken;
     };
-    if rules_allowed(value) {
-        Taken::Value(value, next)
+    if value == mark(form) {
+        field::rule_count_at(form, sheet, next)
     } else {
-        Taken::Refused(4, 0)
+        Taken::Refused(2, 0)
     }
 }

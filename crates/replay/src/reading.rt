@@ -1,5 +1,7 @@
-// Does reading a sheet do what a record tells? Told: CODE PLACE RULES END, and where each rule begins.
+// Does reading a sheet do what a record tells? Told: CODE PLACE RULES END, and where each rule begins. Sheets are read in form 1 or 2; a form that
+// is neither is refused before that, and no reading is stored in one.
 use crate::record::number;
+use forms::Form;
 use sheet::check::Checked;
 
 // Do the rules begin where the record says?
@@ -20,12 +22,12 @@ fn begin_so(begins: &[usize; 64], rules: usize, places: &[u8]) -> bool {
     true
 }
 
-pub fn agrees(sheet: &[u8], told: &[u8]) -> bool {
+fn read_so(form: Form, sheet: &[u8], told: &[u8]) -> bool {
     if told.len() < 12 {
         return false;
     }
     let mut begins = [0usize; 64];
-    let checked = sheet::check::check(sheet, &mut begins);
+    let checked = sheet::check::check(form, sheet, &mut begins);
     match checked {
         Checked::Rules(rules, end) => {
             let numbers = number(told, 0) == 0
@@ -38,5 +40,13 @@ pub fn agrees(sheet: &[u8], told: &[u8]) -> bool {
             && number(told, 3) == place
             && number(told, 6) == 0
             && number(told, 9) == 0,
+    }
+}
+
+pub fn agrees(form: u64, sheet: &[u8], told: &[u8]) -> bool {
+    match form {
+        1 => read_so(Form::One, sheet, told),
+        2 => read_so(Form::Two, sheet, told),
+        _ => false,
     }
 }

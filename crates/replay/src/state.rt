@@ -1,12 +1,13 @@
-// Does the lookup in a sheet answer what a record tells? Told: YEAR MONTH DAY MINUTE in eight bytes each, CODE KIND COMMENT PLACE.
+// Does the lookup in a sheet of a form answer what a record tells? Told: YEAR MONTH DAY MINUTE in eight bytes each, CODE KIND COMMENT PLACE.
 use crate::record::long_number;
 use crate::record::number;
 
-pub fn agrees(sheet: &[u8], told: &[u8]) -> bool {
+pub fn agrees(form: u64, sheet: &[u8], told: &[u8]) -> bool {
     if told.len() < 44 {
         return false;
     }
     let looked = hours::lookup(
+        form,
         sheet,
         long_number(told, 0),
         long_number(told, 8),

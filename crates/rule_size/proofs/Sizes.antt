@@ -7,7 +7,7 @@ use native.Mathlib.Omega.{arith}
 use lib.ListN.{length, getD, length-append}
 use Rattle.definition.specs.Field.{bits, field, _then_, via, tagged}
 use Rattle.definition.specs.Range.{Ends}
-use Rattle.definition.specs.Sheet.{yearRange, monthdayOf, monthdayRange, weekRange, time, repeatsLayout, span, form1, limits1, title, counts}
+use Rattle.definition.specs.Sheet.{yearRange, monthdayOf, monthdayRange, weekRange, time, repeatsLayout, span, Form, limits1, titleWidth, headWidth, title, counts}
 use Rattle.definition.proofs.Bits.{length-bits}
 use Rattle.codes.specs.Number.{timeAt, repeatsAt, spanAt}
 use Rattle.item_writer.proofs.Items.{days-bits, fixed-bits, variable-bits, no-repeats, repeats-bits, span-bits}
@@ -121,41 +121,43 @@ module _ (spans : List ℕ) (first many : ℕ) where
       ∙ omega (arith, length-append (span .write (spanAt (getD spans first 0))) (flatMap (span .write) (spansAt spans (first + 1) (many - 1))), k, b)
 
 -- ## A rule
-title-size : (operator state : ℕ) → length (title form1 limits1 .write (titleOf operator state)) ≡ 20
-unfolding title _then_ via field
-title-size operator state = three 2 2 16 _ _ _
+module _ (form : Form) where
+  title-size : (operator state : ℕ) → length (title form limits1 .write (titleOf operator state)) ≡ titleWidth form
+  unfolding title _then_ via field
+  title-size operator state = three 2 2 (form .comment) _ _ _
 
-counts-size : (rowCounts : List ℕ) (many : ℕ) → length (counts form1 limits1 .write (countsOf rowCounts many)) ≡ 50
-unfolding counts _then_ field
-counts-size rowCounts many =
-    let a = bits 10 (getD rowCounts 0 0) in
-    let b = bits 10 (getD rowCounts 1 0) in
-    let rest = bits 10 (getD rowCounts 2 0) ++ (bits 10 (getD rowCounts 3 0) ++ bits 10 many) in
-    omega (
-      arith,
-      length-append a (b ++ rest),
-      length-append b rest,
-      length-bits 10 (getD rowCounts 0 0),
-      length-bits 10 (getD rowCounts 1 0),
-      three 10 10 10 (getD rowCounts 2 0) (getD rowCounts 3 0) many,
-    )
+  counts-size : (rowCounts : List ℕ) (many : ℕ) → length (counts form limits1 .write (countsOf rowCounts many)) ≡ 5 * form .itemCount
+  unfolding counts _then_ field
+  counts-size rowCounts many =
+      let w = form .itemCount in
+      let a = bits w (getD rowCounts 0 0) in
+      let b = bits w (getD rowCounts 1 0) in
+      let rest = bits w (getD rowCounts 2 0) ++ (bits w (getD rowCounts 3 0) ++ bits w many) in
+      omega (
+        arith,
+        length-append a (b ++ rest),
+        length-append b rest,
+        length-bits w (getD rowCounts 0 0),
+        length-bits w (getD rowCounts 1 0),
+        three w w w (getD rowCounts 2 0) (getD rowCounts 3 0) many,
+      )
 
-pub rule-size : (operator state : ℕ) (ends rowCounts spans : List ℕ) (first many rows times : ℕ) → rowPlace rowCounts 4 ≤ length ends
-    → first + many ≤ length spans
-    → length (rowsBits ends rowCounts 0) ≡ rows → length (flatMap (span .write) (spansAt spans first many)) ≡ times
-    → length (ruleBits operator state ends rowCounts (spansAt spans first many)) ≡ 70 + rows + times
-rule-size operator state ends rowCounts spans first many rows times h k r t =
-    let all = flatMap (span .write) (spansAt spans first many) in
-    let body = rowsBits ends rowCounts 0 ++ all in
-    let counted = counts form1 limits1 .write (countsOf rowCounts many) in
-    ap length (rule-parts operator state ends rowCounts spans first many h k)
-    ∙ omega (
-      arith,
-      length-append (title form1 limits1 .write (titleOf operator state)) (counted ++ body),
-      length-append counted body,
-      length-append (rowsBits ends rowCounts 0) all,
-      title-size operator state,
-      counts-size rowCounts many,
-      r,
-      t,
-    )
+  pub rule-size : (operator state : ℕ) (ends rowCounts spans : List ℕ) (first many rows times : ℕ) → rowPlace rowCounts 4 ≤ length ends
+      → first + many ≤ length spans
+      → length (rowsBits ends rowCounts 0) ≡ rows → length (flatMap (span .write) (spansAt spans first many)) ≡ times
+      → length (ruleBits form operator state ends rowCounts (spansAt spans first many)) ≡ headWidth form + rows + times
+  rule-size operator state ends rowCounts spans first many rows times h k r t =
+      let all = flatMap (span .write) (spansAt spans first many) in
+      let body = rowsBits ends rowCounts 0 ++ all in
+      let counted = counts form limits1 .write (countsOf rowCounts many) in
+      ap length (rule-parts form operator state ends rowCounts spans first many h k)
+      ∙ omega (
+        arith,
+        length-append (title form limits1 .write (titleOf operator state)) (counted ++ body),
+        length-append counted body,
+        length-append (rowsBits ends rowCounts 0) all,
+        title-size operator state,
+        counts-size rowCounts many,
+        r,
+        t,
+      )

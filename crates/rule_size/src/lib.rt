@@ -1,6 +1,8 @@
 // How many bits items, rows, spans and a whole rule take, before anything is written: the lengths of what `rule_writer` writes.
 use casts::u16_to_usize;
 use field::width;
+use forms::Form;
+use forms::head_width;
 ghost use mathlib.Core.Path.{_≡_};
 ghost use mathlib.Core.List.{List, flatMap};
 ghost use Prim.Native.Nat.{ℕ, _+_, _*_, _≤_, _<_, _^_};
@@ -8,6 +10,7 @@ ghost use lib.ListN.{length, getD};
 ghost use Rattle.definition.specs.Field.{Layout};
 ghost use Rattle.definition.specs.Range.{Ends};
 ghost use Rattle.definition.specs.Sheet.{time, span};
+ghost use Rattle.forms.specs.Form.{asForm};
 ghost use Rattle.codes.specs.Number.{timeAt, spanAt};
 ghost use Rattle.rule_writer.specs.Rows.{itemBits, rowsBits, spansAt};
 ghost use Rattle.tables.specs.Items.{rowPlace};
@@ -73,13 +76,19 @@ fn spans_bits(spans: &[u64], first: usize, span_count: usize) -> usize
 }
 
 // A whole rule, whatever its operator, its state and its ends.
-pub fn rule_bits(item_counts: &[u16], spans: &[u64], first: usize, span_count: usize) -> usize
+pub fn rule_bits(
+    form: Form,
+    item_counts: &[u16],
+    spans: &[u64],
+    first: usize,
+    span_count: usize,
+) -> usize
     requires { ⌜ (4 ≤ length (now «item_counts»)) × ((s : ℕ) → getD (now «item_counts») s 0 < 2 ^ 10) ⌝ }
     requires { ⌜ (first + «span_count» ≤ length (now spans)) × («span_count» < 2 ^ 10) ⌝ }
     ensures { λ r. ⌜ ((operator state : ℕ) (ends : List ℕ) → rowPlace (now («item_counts» .entry)) 4 ≤ length ends
-        → length (ruleBits operator state ends (now («item_counts» .entry)) (spansAt (now (spans .entry)) first «span_count»)) ≡ r) × (r < 2 ^ 18) ⌝ }
+        → length (ruleBits (asForm form) operator state ends (now («item_counts» .entry)) (spansAt (now (spans .entry)) first «span_count»)) ≡ r) × (r < 2 ^ 18) ⌝ }
 {
     let rows = rows_bits(item_counts, 0);
     let times = spans_bits(spans, first, span_count);
-    width::HEAD + rows + times
+    head_width(form) + rows + times
 }

@@ -8,7 +8,7 @@ use lib.ListN.{length}
 use Rattle.laws.specs.Lists.{anyOf}
 use Rattle.definition.specs.Field.{got, readAll, Layout}
 use Rattle.definition.specs.Rule.{Rule}
-use Rattle.definition.specs.Sheet.{yearRange, monthdayRange, weekRange, weekDayRange, span}
+use Rattle.definition.specs.Sheet.{Form, headWidth, yearRange, monthdayRange, weekRange, weekDayRange, span}
 use Rattle.definition.specs.Stop.{monthdayStops, weekdayStops}
 use Rattle.definition.specs.Text.{Text, ascii, word, _then_, unless, several}
 use Rattle.definition.specs.Line.{yearText, monthText, weekText, weekdayText, isPlain, spanText, part}
@@ -78,7 +78,7 @@ none-lack [] = refl
 none-lack (x ∷ xs) = none-lack xs
 
 -- ## A rule
-module _ (s : List ℕ) (p : ℕ) (r : Rule) (q : ℕ) (w : RuleParts s p r q) where
+module _ (form : Form) (s : List ℕ) (p : ℕ) (r : Rule) (q : ℕ) (w : RuleParts form s p r q) where
   spaceless : {A : Type 0} (T : Text A) (sort : ℕ) → (sort ≡ 2 → ⊥) → (xs : List A) → opening sort ++ (several "," T) .write xs ≡ (several "," T) .write xs
   spaceless T sort f xs = ap (_++ (several "," T) .write xs) (opening-none sort f)
 
@@ -86,7 +86,7 @@ module _ (s : List ℕ) (p : ℕ) (r : Rule) (q : ℕ) (w : RuleParts s p r q) w
   unfolding opening word _then_
   weeks-open xs = refl
 
-  pub days-read : daysTold (w .many .0) (w .many .1 .0) (w .many .1 .1 .0) (w .many .1 .1 .1 .0) s (p + 70)
+  pub days-read : daysTold (w .many .0) (w .many .1 .0) (w .many .1 .1 .0) (w .many .1 .1 .1 .0) s (p + headWidth form)
       ≡ tale (daysText r) (anyOf monthdayStops (r .monthdays) || anyOf weekdayStops (r .weekdays)) (w .spans-at)
   days-read =
       let y = part-read yearRange yearText (λ y. false) 0 (λ s p. of-years _ _ _ _ _ 0 s p refl) (several "," yearText)

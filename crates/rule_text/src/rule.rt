@@ -3,7 +3,8 @@ use crate::row::either;
 use crate::row::show_items;
 use crate::row::show_part;
 use crate::shown::Shown;
-use field::width;
+use forms::Form;
+use forms::title_width;
 use item_text::state::put_before;
 use item_text::state::put_state;
 use sheet::rule::CountsRead;
@@ -15,6 +16,7 @@ ghost use Rattle.definition.specs.Field.{sheetBits};
 ghost use Rattle.definition.specs.Rule.{operatorOf};
 ghost use Rattle.definition.specs.Point.{isNormal};
 ghost use Rattle.definition.specs.Show.{wordless};
+ghost use Rattle.forms.specs.Form.{asForm};
 ghost use Rattle.sheet.specs.Begin.{ruleReadAt, Readable};
 ghost use Rattle.text.specs.Put.{Put, Within};
 ghost use Rattle.rule_text.specs.Shows.{Shows};
@@ -54,12 +56,12 @@ fn show_days(
 }
 
 // The days and the spans of the rule at a bit. "a rule with 0 spans" has no words.
-fn show_body(sheet: &[u8], at: usize, out: &mut [u8], place: usize) -> Told
-    requires { ⌜ Readable (sheetBits (now sheet)) at ⌝ }
-    requires { ⌜ (at < 2 ^ 25) × Within place (bodyText (ruleReadAt (sheetBits (now sheet)) at)) ⌝ }
-    ensures { λ r. ⌜ Tells (bodyText (ruleReadAt (sheetBits (now (sheet .entry))) at)) (wordless (ruleReadAt (sheetBits (now (sheet .entry))) at)) (now (out .entry)) place r (now (out .exit)) ⌝ }
+fn show_body(form: Form, sheet: &[u8], at: usize, out: &mut [u8], place: usize) -> Told
+    requires { ⌜ Readable (asForm form) (sheetBits (now sheet)) at ⌝ }
+    requires { ⌜ (at < 2 ^ 25) × Within place (bodyText (ruleReadAt (asForm form) (sheetBits (now sheet)) at)) ⌝ }
+    ensures { λ r. ⌜ Tells (bodyText (ruleReadAt (asForm form) (sheetBits (now (sheet .entry))) at)) (wordless (ruleReadAt (asForm form) (sheetBits (now (sheet .entry))) at)) (now (out .entry)) place r (now (out .exit)) ⌝ }
 {
-    let counts = sheet::rule::counts_at(sheet, at + width::TITLE);
+    let counts = sheet::rule::counts_at(form, sheet, at + title_width(form));
     match counts {
         CountsRead::Counts(years, monthdays, weeks, weekdays, spans, items) => {
             let days = show_days(sheet, items, years, monthdays, weeks, weekdays, out, place);
@@ -95,17 +97,24 @@ fn begins_wrong(first: bool, operator: u64) -> bool
 }
 
 // The rule at a bit, the first one or a later one.
-pub fn show_rule(sheet: &[u8], at: usize, first: bool, out: &mut [u8], place: usize) -> Told
-    requires { ⌜ Readable (sheetBits (now sheet)) at ⌝ }
-    requires { ⌜ (at < 2 ^ 25) × Within place (shownText first (ruleReadAt (sheetBits (now sheet)) at)) ⌝ }
-    ensures { λ r. ⌜ Tells (shownText first (ruleReadAt (sheetBits (now (sheet .entry))) at)) (lacksWords first (ruleReadAt (sheetBits (now (sheet .entry))) at))
+pub fn show_rule(
+    form: Form,
+    sheet: &[u8],
+    at: usize,
+    first: bool,
+    out: &mut [u8],
+    place: usize,
+) -> Told
+    requires { ⌜ Readable (asForm form) (sheetBits (now sheet)) at ⌝ }
+    requires { ⌜ (at < 2 ^ 25) × Within place (shownText first (ruleReadAt (asForm form) (sheetBits (now sheet)) at)) ⌝ }
+    ensures { λ r. ⌜ Tells (shownText first (ruleReadAt (asForm form) (sheetBits (now (sheet .entry))) at)) (lacksWords first (ruleReadAt (asForm form) (sheetBits (now (sheet .entry))) at))
         (now (out .entry)) place r (now (out .exit)) ⌝ }
 {
-    let title = sheet::rule::title_at(sheet, at);
+    let title = sheet::rule::title_at(form, sheet, at);
     match title {
         TitleRead::Title(operator, kind, comment, next) => {
             let start = put_start(out, place, first, operator);
-            let body = show_body(sheet, at, out, start);
+            let body = show_body(form, sheet, at, out, start);
             Told {
                 to: put_state(out, body.to, kind, comment),
                 wordless: either(begins_wrong(first, operator), body.wordless),

@@ -4,7 +4,7 @@ use mathlib.Core.List.{List}
 use Prim.Native.Nat.{ℕ}
 use Rattle.definition.specs.Field.{Read, got, refused, andThen, _then_, via, tagged}
 use Rattle.definition.specs.Rule.{operatorOf, kindOf}
-use Rattle.definition.specs.Sheet.{form1, limits1, Title, Counts, Body, ruleWith, title, counts, head, body, rule}
+use Rattle.definition.specs.Sheet.{Form, limits1, Title, Counts, Body, ruleWith, title, counts, head, body, rule}
 use Rattle.sheet.specs.declared.rule.CountsRead.{CountsRead}
 use Rattle.sheet.specs.declared.rule.CountsRead.the-variants as countsRead
 use Rattle.sheet.specs.declared.rule.TitleRead.{TitleRead}
@@ -13,33 +13,34 @@ use Rattle.sheet.specs.End.{ends}
 use Rattle.sheet.specs.Head.{asTitle, asCounts}
 use Rattle.sheet.specs.Rules.{countedEnds}
 
--- ## One lemma for each return
-module _ (s : List ℕ) (p : ℕ) where
-  pub counted-goes : (n : Counts) (q : ℕ) → (counts form1 limits1) .read s p ≡ got n q → countedEnds s p ≡ ends ((body form1 limits1 n) .read s q)
-  unfolding countedEnds
-  counted-goes n q e = rw e
+module _ (form : Form) where
+  -- ## One lemma for each return
+  module _ (s : List ℕ) (p : ℕ) where
+    pub counted-goes : (n : Counts) (q : ℕ) → (counts form limits1) .read s p ≡ got n q → countedEnds form s p ≡ ends ((body n) .read s q)
+    unfolding countedEnds
+    counted-goes n q e = rw e
 
-  pub counted-stops : (c q : ℕ) → (counts form1 limits1) .read s p ≡ refused c q → countedEnds s p ≡ refused c q
-  unfolding countedEnds
-  counted-stops c q e = rw e
+    pub counted-stops : (c q : ℕ) → (counts form limits1) .read s p ≡ refused c q → countedEnds form s p ≡ refused c q
+    unfolding countedEnds
+    counted-stops c q e = rw e
 
-  pub rule-goes : (t : Title) (q : ℕ) → (title form1 limits1) .read s p ≡ got t q → ends ((rule form1 limits1) .read s p) ≡ countedEnds s q
-  unfolding rule tagged head _then_ countedEnds via
-  rule-goes t q e = rw e (go ((counts form1 limits1) .read s q))
-    where
-      items : (n : Counts) (w : Read Body) → ends (andThen (λ b j. got (ruleWith (t, n) b) j) w) ≡ ends w
-      items n (got b j) = refl
-      items n (refused c j) = refl
+    pub rule-goes : (t : Title) (q : ℕ) → (title form limits1) .read s p ≡ got t q → ends ((rule form limits1) .read s p) ≡ countedEnds form s q
+    unfolding rule tagged head _then_ countedEnds via
+    rule-goes t q e = rw e (go ((counts form limits1) .read s q))
+      where
+        items : (n : Counts) (w : Read Body) → ends (andThen (λ b j. got (ruleWith (t, n) b) j) w) ≡ ends w
+        items n (got b j) = refl
+        items n (refused c j) = refl
 
-      go : (w : Read Counts) → ends
-          (andThen (λ h j. andThen (λ b i. got (ruleWith h b) i) ((body form1 limits1 (h .1)) .read s j)) (andThen (λ n i. got (t, n) i) w))
-          ≡ andThen (λ n i. ends ((body form1 limits1 n) .read s i)) w
-      go (got n i) = items n ((body form1 limits1 n) .read s i)
-      go (refused c i) = refl
+        go : (w : Read Counts) → ends
+            (andThen (λ h j. andThen (λ b i. got (ruleWith h b) i) ((body (h .1)) .read s j)) (andThen (λ n i. got (t, n) i) w))
+            ≡ andThen (λ n i. ends ((body n) .read s i)) w
+        go (got n i) = items n ((body n) .read s i)
+        go (refused c i) = refl
 
-  pub rule-stops : (c q : ℕ) → (title form1 limits1) .read s p ≡ refused c q → ends ((rule form1 limits1) .read s p) ≡ refused c q
-  unfolding rule tagged head _then_
-  rule-stops c q e = rw e
+    pub rule-stops : (c q : ℕ) → (title form limits1) .read s p ≡ refused c q → ends ((rule form limits1) .read s p) ≡ refused c q
+    unfolding rule tagged head _then_
+    rule-stops c q e = rw e
 
 -- what a reader of the head says, once its case is known
 pub took-counts : {r : Read Counts} (t : CountsRead) (y m w d n q : ℕ) → asCounts t ≡ r → t ≡ countsRead.Counts y m w d n q → r ≡ got (y, (m, (w, (d, n)))) q

@@ -4,16 +4,17 @@ use mathlib.Core.List.{List}
 use Prim.Native.Nat.{ℕ}
 use Rattle.definition.specs.Field.{Read, got, refused}
 use Rattle.definition.specs.Rule.{Rule, noRule}
-use Rattle.definition.specs.Sheet.{form1, limits1, rule}
+use Rattle.definition.specs.Sheet.{Form, limits1, rule}
 
 abbrev pub ruleOf : Read Rule → Rule
 ruleOf (got r q) = r
 ruleOf (refused c p) = noRule
 
-unfoldable pub ruleReadAt : List ℕ → ℕ → Rule
-ruleReadAt s p = ruleOf ((rule form1 limits1) .read s p)
+module _ (form : Form) where
+  unfoldable pub ruleReadAt : List ℕ → ℕ → Rule
+  ruleReadAt s p = ruleOf ((rule form limits1) .read s p)
 
--- a rule is read there
-pub record Readable (s : List ℕ) (p : ℕ) : Type 0 where
-  pub end : ℕ
-  pub read : (rule form1 limits1) .read s p ≡ got (ruleReadAt s p) end
+  -- a rule is read there
+  pub record Readable (s : List ℕ) (p : ℕ) : Type 0 where
+    pub end : ℕ
+    pub read : (rule form limits1) .read s p ≡ got (ruleReadAt s p) end

@@ -5,24 +5,31 @@ use Prim.Native.Nat.{ℕ, _*_, _-_, _≤_, _<_, _^_}
 use lib.ListN.{length, take, drop}
 use Rattle.definition.specs.Field.{got, sheetBits}
 use Rattle.definition.specs.Rule.{Rule}
-use Rattle.definition.specs.Sheet.{form1, limits1, rule, decode}
+use Rattle.definition.specs.Sheet.{Form, limits1, rule, decode}
 use Rattle.definition.specs.Stop.{drained, left, why}
+use Rattle.forms.specs.Form.{Narrow}
 use Rattle.sheet.specs.Rules.{begun}
 
--- the rules of a sheet, the bit after them, and where each begins
-pub record SheetRead (sheet begins : List ℕ) (rs : List Rule) (end : ℕ) : Type 0 where
-  pub read : decode form1 limits1 sheet ≡ got rs end
-  pub before : List ℕ
-  pub room : 64 ≤ length before
-  pub noted : begins ≡ begun sheet before
+module _ (form : Form) where
+  -- the rules of a sheet, the bit after them, and where each begins
+  pub record SheetRead (sheet begins : List ℕ) (rs : List Rule) (end : ℕ) : Type 0 where
+    pub narrow : Narrow form
+    pub read : decode form limits1 sheet ≡ got rs end
+    pub before : List ℕ
+    pub room : 64 ≤ length before
+    pub noted : begins ≡ begun form sheet before
 
--- the bits of the rules left stand in the sheet between two places; how many rules were drained and are left; and why the first of these stops
-pub record Leaving (sheet : List ℕ) (rs : List Rule) (start end drainedRules leftRules reason : ℕ) : Type 0 where
-  pub ordered : start ≤ end
-  pub inside : end ≤ 8 * length sheet
-  pub low : end < 2 ^ 25
-  pub stands : take (end - start) (drop start (sheetBits sheet)) ≡ flatMap ((rule form1 limits1) .write) (left rs)
-  pub drained-many : length (drained rs) ≡ drainedRules
-  pub left-many : length (left rs) ≡ leftRules
-  pub left-few : leftRules ≤ limits1 .rules
-  pub told : why rs ≡ reason
+  -- the rules of a sheet, so many, up to a bit
+  abbrev pub Readings : List ℕ → List ℕ → ℕ → ℕ → Type 0
+  Readings sheet begins many end = (rs : List Rule) × (SheetRead sheet begins rs end × (many ≡ length rs))
+
+  -- the bits of the rules left stand in the sheet between two places; how many rules were drained and are left; and why the first of these stops
+  pub record Leaving (sheet : List ℕ) (rs : List Rule) (start end drainedRules leftRules reason : ℕ) : Type 0 where
+    pub ordered : start ≤ end
+    pub inside : end ≤ 8 * length sheet
+    pub low : end < 2 ^ 25
+    pub stands : take (end - start) (drop start (sheetBits sheet)) ≡ flatMap ((rule form limits1) .write) (left rs)
+    pub drained-many : length (drained rs) ≡ drainedRules
+    pub left-many : length (left rs) ≡ leftRules
+    pub left-few : leftRules ≤ limits1 .rules
+    pub told : why rs ≡ reason

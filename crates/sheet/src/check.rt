@@ -1,11 +1,13 @@
 // A whole sheet, read once from its first bit to its last: how many rules, where each begins, where they end; or the refusal.
 use crate::end::Step;
 use field::Taken;
+use forms::Form;
 ghost use mathlib.Core.Path.{_≡_};
 ghost use Prim.Native.Nat.{_*_, _-_, _≤_, _<_, _^_};
 ghost use lib.ListN.{length, take, drop};
 ghost use Rattle.definition.specs.Field.{got, andThen, sheetBits};
 ghost use Rattle.definition.specs.Sheet.{firstSet, ended};
+ghost use Rattle.forms.specs.Form.{asForm};
 ghost use Rattle.sheet.specs.End.{asStep, skipAll};
 ghost use Rattle.sheet.specs.Rules.{ruleEnds, noted, placeOr, checked, checkedFrom, begun, asChecked};
 
@@ -28,16 +30,16 @@ impl Checked {
 }
 
 // Rules one behind the other, each one's beginning noted.
-fn rules_end(sheet: &[u8], begins: &mut [usize; 64], start: usize, count: usize) -> Step
+fn rules_end(form: Form, sheet: &[u8], begins: &mut [usize; 64], start: usize, count: usize) -> Step
     requires { ⌜ (start < 2 ^ 20) × (count ≤ 64) ⌝ }
-    ensures { λ r. ⌜ (asStep r ≡ skipAll ruleEnds count (sheetBits (now (sheet .entry))) start)
-        × (now (begins .exit) ≡ noted (sheetBits (now (sheet .entry))) count 0 start (now (begins .entry))) ⌝ }
+    ensures { λ r. ⌜ (asStep r ≡ skipAll (ruleEnds (asForm form)) count (sheetBits (now (sheet .entry))) start)
+        × (now (begins .exit) ≡ noted (asForm form) (sheetBits (now (sheet .entry))) count 0 start (now (begins .entry))) ⌝ }
 {
     let mut at = start;
     let mut i: usize = 0;
     while i < count {
         begins[i] = at;
-        let step = crate::rule::rule_end(sheet, at);
+        let step = crate::rule::rule_end(form, sheet, at);
         match step {
             Step::At(next) => {
                 at = next;
@@ -84,12 +86,18 @@ fn ended_at(sheet: &[u8], at: usize) -> Step
 }
 
 // The rules and what follows them, their number being known.
-fn check_rules(sheet: &[u8], begins: &mut [usize; 64], start: usize, count: usize) -> Checked
+fn check_rules(
+    form: Form,
+    sheet: &[u8],
+    begins: &mut [usize; 64],
+    start: usize,
+    count: usize,
+) -> Checked
     requires { ⌜ (start < 2 ^ 20) × (start ≤ 8 * length (now sheet)) × (count ≤ 64) ⌝ }
-    ensures { λ r. ⌜ (asChecked r ≡ checkedFrom (sheetBits (now (sheet .entry))) count start)
-        × (now (begins .exit) ≡ noted (sheetBits (now (sheet .entry))) count 0 start (now (begins .entry))) ⌝ }
+    ensures { λ r. ⌜ (asChecked r ≡ checkedFrom (asForm form) (sheetBits (now (sheet .entry))) count start)
+        × (now (begins .exit) ≡ noted (asForm form) (sheetBits (now (sheet .entry))) count 0 start (now (begins .entry))) ⌝ }
 {
-    let step = rules_end(sheet, begins, start, count);
+    let step = rules_end(form, sheet, begins, start, count);
     match step {
         Step::At(end) => Checked::of(count, ended_at(sheet, end)),
         Step::Refused(code, place) => Checked::Refused(code, place),
@@ -98,12 +106,12 @@ fn check_rules(sheet: &[u8], begins: &mut [usize; 64], start: usize, count: usiz
 
 // Every byte string gets an answer: "1, 2 and 4 as met from the first bit on; then 3". How many rules there are is read through 01's view of
 // the sheet, crate `reader`.
-pub fn check(sheet: &[u8], begins: &mut [usize; 64]) -> Checked
-    ensures { λ r. ⌜ (asChecked r ≡ checked (now (sheet .entry))) × (now (begins .exit) ≡ begun (now (sheet .entry)) (now (begins .entry))) ⌝ }
+pub fn check(form: Form, sheet: &[u8], begins: &mut [usize; 64]) -> Checked
+    ensures { λ r. ⌜ (asChecked r ≡ checked (asForm form) (now (sheet .entry))) × (now (begins .exit) ≡ begun (asForm form) (now (sheet .entry)) (now (begins .entry))) ⌝ }
 {
-    let count = reader::rule_count(sheet);
+    let count = reader::rule_count(form, sheet);
     match count {
-        Taken::Value(rules, start) => check_rules(sheet, begins, start, rules as usize),
+        Taken::Value(rules, start) => check_rules(form, sheet, begins, start, rules as usize),
         Taken::Refused(code, place) => Checked::Refused(code, place),
     }
 }

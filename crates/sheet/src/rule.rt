@@ -1,11 +1,12 @@
 // A rule's head and its end: operator, kind and comment; the five counts; and the items behind them.
 use crate::end::Step;
 use field::Taken;
-use field::width;
+use forms::Form;
 ghost use mathlib.Core.Path.{_≡_};
 ghost use Prim.Native.Nat.{_≤_, _<_, _^_};
 ghost use Rattle.definition.specs.Field.{Layout, sheetBits};
-ghost use Rattle.definition.specs.Sheet.{form1, limits1, title, counts, body, rule};
+ghost use Rattle.definition.specs.Sheet.{limits1, title, counts, body, rule};
+ghost use Rattle.forms.specs.Form.{asForm};
 ghost use Rattle.sheet.specs.End.{ends, asStep};
 ghost use Rattle.sheet.specs.Head.{asTitle, titleRefused, asCounts, countsRefused};
 ghost use Rattle.sheet.specs.Rules.{countedEnds};
@@ -47,9 +48,9 @@ impl CountsRead {
 }
 
 // "Rule: operator 2 (0 Normal, 1 Additional, 2 Fallback); kind 2 (0 Open, 1 Closed, 2 Unknown); comment 16".
-pub fn title_at(sheet: &[u8], at: usize) -> TitleRead
+pub fn title_at(form: Form, sheet: &[u8], at: usize) -> TitleRead
     requires { ⌜ at < 2 ^ 31 ⌝ }
-    ensures { λ r. ⌜ asTitle r ≡ (title form1 limits1) .read (sheetBits (now (sheet .entry))) at ⌝ }
+    ensures { λ r. ⌜ asTitle r ≡ (title (asForm form) limits1) .read (sheetBits (now (sheet .entry))) at ⌝ }
 {
     let first = field::choice_at(sheet, at);
     let Taken::Value(operator, after_operator) = first else {
@@ -59,7 +60,7 @@ pub fn title_at(sheet: &[u8], at: usize) -> TitleRead
     let Taken::Value(kind, after_kind) = second else {
         return TitleRead::refused(second);
     };
-    let third = field::take_at(sheet, after_kind, width::COMMENT);
+    let third = field::comment_at(form, sheet, after_kind);
     let Taken::Value(comment, next) = third else {
         return TitleRead::refused(third);
     };
@@ -67,27 +68,27 @@ pub fn title_at(sheet: &[u8], at: usize) -> TitleRead
 }
 
 // "five counts of 10 each: years, monthdays, weeks, weekdays, spans".
-pub fn counts_at(sheet: &[u8], at: usize) -> CountsRead
+pub fn counts_at(form: Form, sheet: &[u8], at: usize) -> CountsRead
     requires { ⌜ at < 2 ^ 31 ⌝ }
-    ensures { λ r. ⌜ asCounts r ≡ (counts form1 limits1) .read (sheetBits (now (sheet .entry))) at ⌝ }
+    ensures { λ r. ⌜ asCounts r ≡ (counts (asForm form) limits1) .read (sheetBits (now (sheet .entry))) at ⌝ }
 {
-    let first = field::count_at(sheet, at);
+    let first = field::count_at(form, sheet, at);
     let Taken::Value(years, after_years) = first else {
         return CountsRead::refused(first);
     };
-    let second = field::count_at(sheet, after_years);
+    let second = field::count_at(form, sheet, after_years);
     let Taken::Value(monthdays, after_monthdays) = second else {
         return CountsRead::refused(second);
     };
-    let third = field::count_at(sheet, after_monthdays);
+    let third = field::count_at(form, sheet, after_monthdays);
     let Taken::Value(weeks, after_weeks) = third else {
         return CountsRead::refused(third);
     };
-    let fourth = field::count_at(sheet, after_weeks);
+    let fourth = field::count_at(form, sheet, after_weeks);
     let Taken::Value(weekdays, after_weekdays) = fourth else {
         return CountsRead::refused(fourth);
     };
-    let fifth = field::count_at(sheet, after_weekdays);
+    let fifth = field::count_at(form, sheet, after_weekdays);
     let Taken::Value(spans, next) = fifth else {
         return CountsRead::refused(fifth);
     };
@@ -105,7 +106,7 @@ fn body_end(
     spans: u64,
 ) -> Step
     requires { ⌜ (at < 2 ^ 27) × (years ≤ 1024) × (monthdays ≤ 1024) × (weeks ≤ 1024) × (weekdays ≤ 1024) × (spans ≤ 1024) ⌝ }
-    ensures { λ r. ⌜ asStep r ≡ ends ((body form1 limits1 (years, (monthdays, (weeks, (weekdays, spans))))) .read (sheetBits (now (sheet .entry))) at) ⌝ }
+    ensures { λ r. ⌜ asStep r ≡ ends ((body (years, (monthdays, (weeks, (weekdays, spans))))) .read (sheetBits (now (sheet .entry))) at) ⌝ }
 {
     let first = crate::end::items_end(sheet, at, 0, years);
     let Step::At(after_years) = first else {
@@ -127,11 +128,11 @@ fn body_end(
 }
 
 // The counts, and the items that they count.
-fn counted_end(sheet: &[u8], at: usize) -> Step
+fn counted_end(form: Form, sheet: &[u8], at: usize) -> Step
     requires { ⌜ at < 2 ^ 26 ⌝ }
-    ensures { λ r. ⌜ asStep r ≡ countedEnds (sheetBits (now (sheet .entry))) at ⌝ }
+    ensures { λ r. ⌜ asStep r ≡ countedEnds (asForm form) (sheetBits (now (sheet .entry))) at ⌝ }
 {
-    let head = counts_at(sheet, at);
+    let head = counts_at(form, sheet, at);
     match head {
         CountsRead::Counts(years, monthdays, weeks, weekdays, spans, items) => {
             body_end(sheet, items, years, monthdays, weeks, weekdays, spans)
@@ -141,13 +142,17 @@ fn counted_end(sheet: &[u8], at: usize) -> Step
 }
 
 // A whole rule.
-pub fn rule_end(sheet: &[u8], at: usize) -> Step
+pub fn rule_end(form: Form, sheet: &[u8], at: usize) -> Step
     requires { ⌜ at < 2 ^ 25 ⌝ }
-    ensures { λ r. ⌜ asStep r ≡ ends ((rule form1 limits1) .read (sheetBits (now (sheet .entry))) at) ⌝ }
+    ensures { λ r. ⌜ asStep r ≡ ends ((rule (asForm form) limits1) .read (sheetBits (now (sheet .entry))) at) ⌝ }
 {
-    let head = title_at(sheet, at);
+    let head = title_at(form, sheet, at);
     match head {
-        TitleRead::Title(operator, kind, comment, after_title) => counted_end(sheet, after_title),
+        TitleRead::Title(operator, kind, comment, after_title) => counted_end(
+            form,
+            sheet,
+            after_title,
+        ),
         TitleRead::Refused(code, place) => Step::Refused(code, place),
     }
 }

@@ -7,9 +7,9 @@ use native.Mathlib.Nat.{zero-div, zero-mod}
 use native.Mathlib.Omega.{arith}
 use lib.ListN.{length, take, drop, replicate, length-append, length-drop, length-replicate}
 use lib.Seq.{sets-eq, take-append-le, drop-append-le, drop-append-add}
-use Rattle.definition.specs.Field.{bits, number, sheetBits, bytesFor, bytes, packed, Layout, field, tagged, several}
+use Rattle.definition.specs.Field.{bits, number, sheetBits, bytesFor, bytes, packed, Layout, field, _then_, via, tagged, several}
 use Rattle.definition.specs.Rule.{Rule}
-use Rattle.definition.specs.Sheet.{form1, limits1, rule, rules}
+use Rattle.definition.specs.Sheet.{Form, limits1, openingWidth, rule, opening, rules}
 use Rattle.definition.specs.Fold.{buffer}
 use Rattle.definition.proofs.Bits.{Bytes, length-bits, length-sheetBits, length-bytes, bytes-sheet}
 use Rattle.item_writer.specs.Written.{Wrote}
@@ -72,7 +72,29 @@ module _ (out new ws : List ℕ) (old-bytes : Bytes out) (new-bytes : Bytes new)
       ∙ ap (bytes n whole ++_) (bytes-sheet (drop n out) (Bytes-drop n out old-bytes))
       ∙ ap (λ k. bytes n whole ++ drop k out) (sym (length-bytes n whole))
 
--- the count, then the rules
-pub rules-bits : (rs : List Rule) → rules form1 limits1 .write rs ≡ bits 16 (length rs) ++ flatMap (rule form1 limits1 .write) rs
-unfolding rules tagged several field
-rules-bits rs = refl
+pub packed-length : (ws : List ℕ) → length (packed ws) ≡ bytesFor (length ws)
+unfolding packed
+packed-length ws = length-bytes (bytesFor (length ws)) _
+
+-- ## What stands in front of the padding
+module _ (form : Form) where
+  -- mark and count, the fields being as wide as the form says
+  pub opening-bits : (width mark wide count : ℕ) → width ≡ form .markWidth → mark ≡ form .mark → wide ≡ form .ruleCount
+      → opening form limits1 .write count ≡ bits width mark ++ bits wide count
+  unfolding opening via _then_ field
+  opening-bits width mark wide count e m v = rw (e, m, v)
+
+  pub opening-length : (count : ℕ) → length (opening form limits1 .write count) ≡ openingWidth form
+  opening-length count =
+      ap length (opening-bits _ _ _ count refl refl refl)
+      ∙ omega (
+        arith,
+        length-append (bits (form .markWidth) (form .mark)) (bits (form .ruleCount) count),
+        length-bits (form .markWidth) (form .mark),
+        length-bits (form .ruleCount) count,
+      )
+
+  -- mark and count, then the rules
+  pub rules-bits : (rs : List Rule) → rules form limits1 .write rs ≡ opening form limits1 .write (length rs) ++ flatMap (rule form limits1 .write) rs
+  unfolding rules tagged several
+  rules-bits rs = refl

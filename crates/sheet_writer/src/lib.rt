@@ -1,22 +1,28 @@
-// A whole sheet's frame: the rule count in front of the rules, and behind them rules that are copied and zero bits to the byte's end.
-use field::width;
+// A whole sheet's frame: the mark and the rule count in front of the rules, and behind them rules that are copied and zero bits to the byte's end.
+use forms::Form;
+use forms::mark;
+use forms::mark_width;
+use forms::rule_count_width;
 use item_writer::put::put;
 ghost use mathlib.Core.Path.{_≡_};
 ghost use mathlib.Core.List.{_++_};
 ghost use Prim.Native.Nat.{_+_, _*_, _-_, _≤_, _<_, _^_};
 ghost use lib.ListN.{length};
 ghost use lib.Seq.{sets};
-ghost use Rattle.definition.specs.Field.{bits, bytesFor, sheetBits};
-ghost use Rattle.definition.specs.Sheet.{Form, form1};
-ghost use Rattle.item_writer.specs.Written.{Wrote};
+ghost use Rattle.definition.specs.Field.{Layout, bytesFor, sheetBits};
+ghost use Rattle.definition.specs.Sheet.{limits1, opening};
+ghost use Rattle.forms.specs.Form.{asForm};
+ghost use Rattle.item_writer.specs.Written.{RoomFor, Wrote};
 ghost use Rattle.sheet_writer.specs.Frame.{padding, between};
 
-// "Rule count 16 bits"; answers where the rules begin.
-pub fn put_count(out: &mut [u8], count: u64) -> usize
-    requires { ⌜ (2 ≤ length (now out)) × (count < 2 ^ form1 .ruleCount) ⌝ }
-    ensures { λ r. ⌜ Wrote (now (out .entry)) 0 (bits (form1 .ruleCount) count) (now (out .exit)) r ⌝ }
+// The mark of the form and the rule count; answers where the rules begin.
+pub fn put_opening(form: Form, out: &mut [u8], count: u64) -> usize
+    requires { ⌜ count < 2 ^ asForm form .ruleCount ⌝ }
+    requires { ⌜ RoomFor (length (now out)) 0 (opening (asForm form) limits1 .write count) ⌝ }
+    ensures { λ r. ⌜ Wrote (now (out .entry)) 0 (opening (asForm form) limits1 .write count) (now (out .exit)) r ⌝ }
 {
-    put(out, 0, width::RULE_COUNT, count)
+    let count_at = put(out, 0, mark_width(form), mark(form));
+    put(out, count_at, rule_count_width(form), count)
 }
 
 // "then zero bits to the byte's end": behind the rules, which end at a bit; answers how many bytes the sheet has.

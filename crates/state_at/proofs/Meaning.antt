@@ -95,9 +95,9 @@ module _ (states counts spans : List ℕ) where
       list-ready there short = (omega arith, subst (All (InTables states counts spans)) (sym list-numbers) (entries-there (listOf lists node) named))
 
       -- THE STATE AT A MINUTE
-      pub list-answered : (m : ℕ) (r : StateFound) → r ≡ overList states counts spans m 65536 (numbersFrom lists (node * listPlaces + 1) 0 many)
+      pub list-answered : (m : ℕ) (r : StateFound) → r ≡ overList states counts spans m number.closedNumber (numbersFrom lists (node * listPlaces + 1) 0 many)
           → looked r ≡ stateAt [] (map (ruleAt rs) (listOf lists node)) m
       unfolding stateAt number.stateCoded
       list-answered m r h =
-          ap looked (h ∙ ap (overList states counts spans m 65536) list-numbers) ∙ list-looked m 65536 (listOf lists node)
+          ap looked (h ∙ ap (overList states counts spans m number.closedNumber) list-numbers) ∙ list-looked m number.closedNumber (listOf lists node)
           ∙ ap (λ es. settled rule.closed (flattened es) m) (entries-named (listOf lists node) named)

@@ -1,8 +1,6 @@
--- The comment of a state by its number, and one lemma for each return of the answer's numbers.
+-- One lemma for each return of the answer's numbers.
 use mathlib.Core.Path.{_≡_, sym, ap, ap₂, _∙_}
-use Prim.Native.Nat.{ℕ, _-_, _≤_, _<_}
-use native.Mathlib.Omega.{arith}
-use borrow.Author.Tests.{lt-ltb, le-ltb}
+use Prim.Native.Nat.{ℕ}
 use Rattle.definition.specs.Rule.{kindNumber}
 use Rattle.codes.specs.Number.{stateCoded}
 use Rattle.state_at.specs.Found.{looked}
@@ -10,20 +8,6 @@ use Rattle.answers.specs.Numbers.{lookedUp}
 use Rattle.state_at.specs.declared.StateFound.{StateFound}
 use Rattle.state_at.specs.declared.StateFound.the-variants.{State, Unsettled}
 
--- ## Comments
-pub open-comment : (n : ℕ) → n < 65536 → n ≡ stateCoded n .comment
-unfolding stateCoded
-open-comment n h = rw (lt-ltb n 65536 h)
-
-pub closed-comment : (n : ℕ) → 65536 ≤ n → n < 131072 → n - 65536 ≡ stateCoded n .comment
-unfolding stateCoded
-closed-comment n h k = rw (le-ltb n 65536 h, lt-ltb n 131072 k)
-
-pub unknown-comment : (n : ℕ) → 131072 ≤ n → n - 131072 ≡ stateCoded n .comment
-unfolding stateCoded
-unknown-comment n h = rw (le-ltb n 65536 (omega arith), le-ltb n 131072 h)
-
--- ## Numbers
 pub state-numbers : (found : StateFound) (state number kind comment : ℕ) → found ≡ State state → number ≡ state
     → kind ≡ kindNumber (stateCoded number .kind) → comment ≡ stateCoded number .comment
     → lookedUp (record { code = 0; kind = kind; comment = comment; place = 0 }) ≡ looked found

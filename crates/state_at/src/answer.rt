@@ -2,24 +2,13 @@
 use super::StateFound;
 use answers::Answer;
 use casts::u32_to_u64;
+use codes::comment_of;
 use codes::kind_of;
 ghost use mathlib.Core.Path.{_≡_};
-ghost use Rattle.codes.specs.Number.{stateCoded};
 ghost use Rattle.state_at.specs.Found.{looked};
 ghost use Rattle.answers.specs.Numbers.{lookedUp};
 
 const UNSETTLED: u64 = 9;
-
-// The comment of a state.
-fn comment_of(state: u64) -> u64
-    ensures { λ r. ⌜ r ≡ stateCoded state .comment ⌝ }
-{
-    match state {
-        0..=65535 => state,
-        65536..=131071 => state - 65536,
-        _ => state - 131072,
-    }
-}
 
 // The numbers of what is found.
 pub fn numbers_of(found: StateFound) -> Answer

@@ -16,7 +16,7 @@ ghost use Rattle.laws.specs.Lists.{All};
 ghost use Rattle.definition.specs.Rule.{Rule};
 ghost use Rattle.definition.specs.Day.{simple, within};
 ghost use Rattle.definition.specs.Lookup.{stateAt};
-ghost use Rattle.codes.specs.Number.{spanAt};
+ghost use Rattle.codes.specs.Number.{closedNumber, spanAt};
 ghost use Rattle.words.specs.Words.{part};
 ghost use Rattle.tables.specs.Sizes.{listPlaces, listLimit};
 ghost use Rattle.tables.specs.Lists.{listOf};
@@ -24,7 +24,7 @@ ghost use Rattle.tables.specs.Rules.{ruleAt, RuleTimes};
 ghost use Rattle.state_at.specs.Found.{overSpans, overRule, overList, InTables, numbersFrom, looked};
 
 // Plain Closed.
-const CLOSED: u32 = 65536;
+const CLOSED: u32 = 1;
 
 // The state that a simple span leaves at a minute: its own where it covers the minute, else the one before.
 fn after_span(span: u64, minute: u16, state: u32, before: u32) -> u32
@@ -95,7 +95,7 @@ fn over_list(
 ) -> StateFound
     requires { ⌜ first + «rule_count» ≤ length (now lists) ⌝ }
     requires { ⌜ All (InTables (now states) (now «span_counts») (now spans)) (numbersFrom (now lists) first 0 «rule_count») ⌝ }
-    ensures { λ r. ⌜ r ≡ overList (now (states .entry)) (now («span_counts» .entry)) (now (spans .entry)) minute 65536 (numbersFrom (now (lists .entry)) first 0 «rule_count») ⌝ }
+    ensures { λ r. ⌜ r ≡ overList (now (states .entry)) (now («span_counts» .entry)) (now (spans .entry)) minute closedNumber (numbersFrom (now (lists .entry)) first 0 «rule_count») ⌝ }
 {
     let mut shown = CLOSED;
     let mut next: usize = 0;

@@ -8,7 +8,7 @@ use lib.ListN.{length}
 use Rattle.laws.specs.Lists.{anyOf}
 use Rattle.definition.specs.Field.{got, Layout}
 use Rattle.definition.specs.Rule.{Operator, WeekDayRange, Rule}
-use Rattle.definition.specs.Sheet.{form1, limits1, yearRange, monthdayRange, weekRange, weekDayRange, span, Counts, counts}
+use Rattle.definition.specs.Sheet.{Form, limits1, titleWidth, headWidth, yearRange, monthdayRange, weekRange, weekDayRange, span, Counts, counts}
 use Rattle.definition.specs.Stop.{isFallback, yearStops, monthdayStops, weekStops, isHoliday, isMoved, lacksNth, spanStops, firstThatApplies, reason}
 use Rattle.definition.proofs.RuleParts.{RuleParts}
 use Rattle.sheet.specs.Begin.{ruleReadAt, Readable}
@@ -59,8 +59,8 @@ in-order t y m w ds =
     months k h = later-cond m k 4 _ h (weeks k (omega arith))
 
 -- ## A rule
-module _ (s : List ℕ) (p : ℕ) (r : Rule) (q : ℕ) (w : RuleParts s p r q) where
-  rows-read : bodyReason (w .many .0) (w .many .1 .0) (w .many .1 .1 .0) (w .many .1 .1 .1 .0) (length (r .spans)) s (p + 70) ≡ partsReason r
+module _ (form : Form) (s : List ℕ) (p : ℕ) (r : Rule) (q : ℕ) (w : RuleParts form s p r q) where
+  rows-read : bodyReason (w .many .0) (w .many .1 .0) (w .many .1 .1 .0) (w .many .1 .1 .1 .0) (length (r .spans)) s (p + headWidth form) ≡ partsReason r
   rows-read =
       let y = row-read yearRange yearReason 0 (λ s p. of-years _ _ _ _ _ 0 s p refl) _ s _ 0 _ _ (w .years-read)
       ∙ ap (λ z. found z (w .monthdays-at)) (earliest-only yearStops 3 (omega arith) (r .years)) in
@@ -72,19 +72,19 @@ module _ (s : List ℕ) (p : ℕ) (r : Rule) (q : ℕ) (w : RuleParts s p r q) w
       (w .weekdays-read) ∙ ap (λ z. found z (w .spans-at)) (days-found (r .weekdays)) in
       let t = row-read span spanReason 4 (λ s p. of-spans _ _ _ _ _ 4 s p (λ e. omega arith) (λ e. omega arith) (λ e. omega arith) (λ e. omega arith)) _ s _ 0 _ _
       (w .spans-read) ∙ ap (λ z. found z q) (earliest-only spanStops 2 (omega arith) (r .spans)) in
-      sym (body-found _ _ _ _ _ s (p + 70) _ _ _ _ _ (sym y) (sym m) (sym k) (sym d) (sym t))
+      sym (body-found _ _ _ _ _ s (p + headWidth form) _ _ _ _ _ (sym y) (sym m) (sym k) (sym d) (sym t))
       ∙ in-order (anyOf spanStops (r .spans)) (anyOf yearStops (r .years)) (anyOf monthdayStops (r .monthdays)) (anyOf weekStops (r .weeks)) (r .weekdays)
 
-module _ (s : List ℕ) (p : ℕ) (readable : Readable s p) where
+module _ (form : Form) (s : List ℕ) (p : ℕ) (readable : Readable form s p) where
   -- by the counts that were read
-  pub parts-read : (n : Counts) (q : ℕ) → (counts form1 limits1) .read s (p + 20) ≡ got n q
-      → bodyReason (n .0) (n .1 .0) (n .1 .1 .0) (n .1 .1 .1 .0) (n .1 .1 .1 .1) s q ≡ partsReason (ruleReadAt s p)
-  parts-read n q e =
-      let same = counts-same s p readable n q e in
-      let m = (parts s p readable) .many in
+  pub parts-read : (n : Counts) (i q : ℕ) → i ≡ p + titleWidth form → (counts form limits1) .read s i ≡ got n q
+      → bodyReason (n .0) (n .1 .0) (n .1 .1 .0) (n .1 .1 .1 .0) (n .1 .1 .1 .1) s q ≡ partsReason (ruleReadAt form s p)
+  parts-read n i q z e =
+      let same = counts-same form s p readable n i q z e in
+      let m = (parts form s p readable) .many in
       ap₂ (λ m j. bodyReason (m .0) (m .1 .0) (m .1 .1 .0) (m .1 .1 .1 .0) (n .1 .1 .1 .1) s j) (same .0) (same .1)
-      ∙ ap (λ k. bodyReason (m .0) (m .1 .0) (m .1 .1 .0) (m .1 .1 .1 .0) k s (p + 70)) (same .2)
-      ∙ rows-read s p (ruleReadAt s p) (readable .end) (parts s p readable)
+      ∙ ap (λ k. bodyReason (m .0) (m .1 .0) (m .1 .1 .0) (m .1 .1 .1 .0) k s (p + headWidth form)) (same .2)
+      ∙ rows-read form s p (ruleReadAt form s p) (readable .end) (parts form s p readable)
 
 -- ## With the operator that was read
 module _ (r : Rule) (o : Operator) (e : o ≡ r .operator) where

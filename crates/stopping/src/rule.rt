@@ -2,13 +2,15 @@
 use crate::part::Reasoned;
 use crate::part::item_reason;
 use codes::title::is_fallback;
-use field::width;
+use forms::Form;
+use forms::title_width;
 use sheet::rule::CountsRead;
 use sheet::rule::TitleRead;
 ghost use mathlib.Core.Path.{_≡_};
 ghost use Prim.Native.Nat.{_+_, _*_, _≤_, _<_, _^_};
 ghost use Rattle.definition.specs.Field.{sheetBits};
 ghost use Rattle.definition.specs.Stop.{reason};
+ghost use Rattle.forms.specs.Form.{asForm};
 ghost use Rattle.sheet.specs.Begin.{ruleReadAt, Readable};
 ghost use Rattle.stopping.specs.Rule.{earlier, begun, rowReasoned, bodyReason, partsReason};
 
@@ -68,12 +70,12 @@ fn body_reason(
 }
 
 // The parts of the rule at a bit.
-fn parts_reason(sheet: &[u8], at: usize) -> u64
-    requires { ⌜ Readable (sheetBits (now sheet)) at ⌝ }
+fn parts_reason(form: Form, sheet: &[u8], at: usize) -> u64
+    requires { ⌜ Readable (asForm form) (sheetBits (now sheet)) at ⌝ }
     requires { ⌜ at < 2 ^ 25 ⌝ }
-    ensures { λ r. ⌜ r ≡ partsReason (ruleReadAt (sheetBits (now (sheet .entry))) at) ⌝ }
+    ensures { λ r. ⌜ r ≡ partsReason (ruleReadAt (asForm form) (sheetBits (now (sheet .entry))) at) ⌝ }
 {
-    let counts = sheet::rule::counts_at(sheet, at + width::TITLE);
+    let counts = sheet::rule::counts_at(form, sheet, at + title_width(form));
     match counts {
         CountsRead::Counts(years, monthdays, weeks, weekdays, spans, items) => {
             body_reason(sheet, items, years, monthdays, weeks, weekdays, spans)
@@ -83,18 +85,18 @@ fn parts_reason(sheet: &[u8], at: usize) -> u64
 }
 
 // The rule at a bit: "The number given is the first that applies in the order 1 to 8", 0 where none does.
-pub fn reason_at(sheet: &[u8], at: usize) -> u64
-    requires { ⌜ Readable (sheetBits (now sheet)) at ⌝ }
+pub fn reason_at(form: Form, sheet: &[u8], at: usize) -> u64
+    requires { ⌜ Readable (asForm form) (sheetBits (now sheet)) at ⌝ }
     requires { ⌜ at < 2 ^ 25 ⌝ }
-    ensures { λ r. ⌜ r ≡ reason (ruleReadAt (sheetBits (now (sheet .entry))) at) ⌝ }
+    ensures { λ r. ⌜ r ≡ reason (ruleReadAt (asForm form) (sheetBits (now (sheet .entry))) at) ⌝ }
 {
-    let title = sheet::rule::title_at(sheet, at);
+    let title = sheet::rule::title_at(form, sheet, at);
     match title {
         TitleRead::Title(operator, kind, comment, next) => {
             if is_fallback(operator) {
                 return 1;
             }
-            parts_reason(sheet, at)
+            parts_reason(form, sheet, at)
         }
         TitleRead::Refused(code, place) => 0,
     }

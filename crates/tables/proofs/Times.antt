@@ -1,5 +1,5 @@
 -- A LIST OF NUMBERS OVER THE TABLES names the rules themselves: their states and spans are read back from their numbers. Rests on the
--- laws that every state and span that a sheet can carry has a number of its own.
+-- laws that every state has a number of its own, and every span that a sheet can carry.
 use mathlib.Core.Path.{_≡_, refl, sym, ap, ap₂, _∙_}
 use mathlib.Core.Bool.{true}
 use mathlib.Core.List.{List, [], _∷_, map}
@@ -9,13 +9,13 @@ use lib.ListN.{length, getD, length-map}
 use Rattle.laws.specs.Lists.{All}
 use Rattle.laws.proofs.Lists.{All-at, every-all}
 use Rattle.definition.specs.Rule.{Normal, Span, Rule, noRule}
-use Rattle.definition.specs.Sheet.{form1, limits1, span, rule}
+use Rattle.definition.specs.Sheet.{form2, limits1, span, rule}
 use Rattle.definition.specs.Day.{Entry, flattened, entryOf, day, dayOf}
 use Rattle.definition.specs.Group.{asRule}
 use Rattle.definition.proofs.Lawful.{items-fit}
 use Rattle.codes.specs.Number.{stateCoded, spanNumber, spanAt}
 use Rattle.codes.proofs.Numbers.{number-state, number-span}
-use Rattle.codes.proofs.Carried.{span-carried, span-numbered, state-numbered}
+use Rattle.codes.proofs.Carried.{span-carried, span-numbered}
 use Rattle.words.specs.Words.{part}
 use Rattle.day_flat.specs.Day.{listRules}
 use Rattle.tables.specs.Rules.{TimesAt, RuleTimes}
@@ -39,14 +39,14 @@ module _ (states counts spans : List ℕ) where
   abbrev pub entryAt : ℕ → Entry
   entryAt k = (stateCoded (getD states k 0), map spanAt (part spans (k * 16) (getD counts k 0)))
 
-  pub entry-back : (k : ℕ) (r : Rule) → TimesAt states counts spans k r → (rule form1 limits1) .fits r ≡ true → entryAt k ≡ entryOf r
+  pub entry-back : (k : ℕ) (r : Rule) → TimesAt states counts spans k r → (rule form2 limits1) .fits r ≡ true → entryAt k ≡ entryOf r
   entry-back k r h f =
       let numbers = map spanNumber (r .spans) in
       let long : getD counts k 0 ≡ length numbers = h .count-held ∙ sym (length-map (r .spans) spanNumber) in
       let held : part spans (k * 16) (getD counts k 0) ≡ numbers =
       ap (part spans (k * 16)) long ∙ part-held spans (k * 16) numbers (λ j l. h .spans-held j (omega (arith, length-map (r .spans) spanNumber))) in
-      let fit = every-all (λ s. span .fits s ≡ true) (span .fits) (λ s e. e) (r .spans) (items-fit form1 limits1 r f .spans-fit) in
-      ap₂ (λ S ss. (S, ss)) (ap stateCoded (h .state-held) ∙ number-state (r .state) (state-numbered r f)) (ap (map spanAt) held ∙ spans-back (r .spans) fit)
+      let fit = every-all (λ s. span .fits s ≡ true) (span .fits) (λ s e. e) (r .spans) (items-fit form2 limits1 r f .spans-fit) in
+      ap₂ (λ S ss. (S, ss)) (ap stateCoded (h .state-held) ∙ number-state (r .state)) (ap (map spanAt) held ∙ spans-back (r .spans) fit)
 
   -- ## A list
   -- rules from a place of a longer list on

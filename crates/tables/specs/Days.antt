@@ -6,12 +6,12 @@ use Prim.Native.Nat.{ℕ, zero, suc, _+_, _*_, _≤_, _<_, _^_}
 use lib.ListN.{length, getD}
 use Rattle.laws.specs.Lists.{All}
 use Rattle.definition.specs.Rule.{Span}
-use Rattle.definition.specs.Sheet.{span}
+use Rattle.definition.specs.Sheet.{Form, span}
 use Rattle.definition.specs.Day.{Entry, day}
-use Rattle.codes.specs.Number.{NumberedState}
 use Rattle.day_flat.specs.Day.{flat, listRules}
 use Rattle.tables.specs.Sizes.{listPlaces, listLimit}
 use Rattle.tables.specs.Lists.{listOf}
+use Rattle.tables.specs.Rules.{Commented}
 
 -- each rule that a list names stands in the tables, with sixteen spans at most
 pub record Tables (states counts spans list : List ℕ) : Type 0 where
@@ -34,11 +34,11 @@ unfoldable pub wordsOf : (ℕ → List ℕ) → ℕ → List ℕ
 wordsOf W zero = []
 wordsOf W (suc j) = W j
 
--- an entry of a day that a rule's fields can carry
 abbrev pub FitsSpan : Span → Type 0
 FitsSpan s = span .fits s ≡ true
 
-pub record Carried (e : Entry) : Type 0 where
-  pub stated : NumberedState (e .0)
+-- an entry of a day that the fields of a form can carry; so few spans the counts of either form can tell
+pub record Carried (form : Form) (e : Entry) : Type 0 where
+  pub commented : Commented form (e .0)
   pub spanned : All FitsSpan (e .1)
   pub few : length (e .1) < 2 ^ 10

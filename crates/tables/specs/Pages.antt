@@ -8,7 +8,7 @@ use lib.ListN.{length, take, drop, getD}
 use Rattle.laws.specs.Lists.{All}
 use Rattle.definition.specs.Rule.{Rule}
 use Rattle.definition.specs.Range.{Ends}
-use Rattle.definition.specs.Sheet.{limits1}
+use Rattle.definition.specs.Sheet.{Form, limits1}
 use Rattle.definition.specs.Point.{dimensions}
 use Rattle.definition.specs.Day.{Day}
 use Rattle.definition.specs.Group.{asRules, folded}
@@ -66,22 +66,22 @@ abbrev pub pagedRules : (states counts spans lists pages : List ℕ) → ℕ →
 pagedRules states counts spans lists pages n = pagesRules (boxWords states counts spans lists) (pagesAt n pages 0)
 
 -- ## What pages must be
-module _ (states counts spans lists pages : List ℕ) (room : ℕ) where
-  -- a page that is all there, with items and a day that a sheet can carry
+module _ (form : Form) (states counts spans lists pages : List ℕ) (room : ℕ) where
+  -- a page that is all there, with items and a day that a sheet of the form can carry
   pub record PageReady (at : ℕ) : Type 0 where
     pub inside : at + pageSize pages at ≤ length pages
     pub rows : Rows (pageEnds pages at) (pageCounts pages at)
     pub numbered : 1 ≤ getD pages at 0
     pub ready : Ready states counts spans lists room (getD pages at 0 - 1)
-    pub carried : All Carried (unflat (boxWords states counts spans lists (getD pages at 0 - 1)))
+    pub carried : All (Carried form) (unflat (boxWords states counts spans lists (getD pages at 0 - 1)))
 
   unfoldable pub Pages : ℕ → ℕ → Type 0
   Pages zero at = Unit {0}
   Pages (suc n) at = PageReady at × Pages n (at + pageSize pages at)
 
 -- THE PAGES OF SOME RULES' FOLD, so many, from the front on; "A group has at most 33 rules."
-pub record Paged (states counts spans lists pages : List ℕ) (n : ℕ) (rs : List Rule) : Type 0 where
+pub record Paged (form : Form) (states counts spans lists pages : List ℕ) (n : ℕ) (rs : List Rule) : Type 0 where
   pub few : n ≤ limits1 .boxes
-  pub ready : Pages states counts spans lists pages dayRoom n 0
+  pub ready : Pages form states counts spans lists pages dayRoom n 0
   pub brief : length (folded rs) ≤ 33 * n
   pub rules : pagedRules states counts spans lists pages n ≡ folded rs

@@ -3,11 +3,11 @@
 use mathlib.Core.Path.{_≡_}
 use mathlib.Core.Bool.{true, cond}
 use mathlib.Core.List.{List, map}
-use Prim.Native.Nat.{ℕ, _+_, _*_, _≤_, _<_}
+use Prim.Native.Nat.{ℕ, _+_, _*_, _^_, _≤_, _<_}
 use lib.ListN.{length, getD}
 use Rattle.laws.specs.Lists.{All}
-use Rattle.definition.specs.Rule.{Rule, noRule}
-use Rattle.definition.specs.Sheet.{form1, limits1, rule}
+use Rattle.definition.specs.Rule.{State, Rule, noRule}
+use Rattle.definition.specs.Sheet.{Form, form2, limits1, rule}
 use Rattle.definition.specs.Point.{dimensions, selector, replaces}
 use Rattle.codes.specs.Number.{stateNumber, spanNumber}
 use Rattle.tables.specs.Sizes.{rangePlaces}
@@ -17,9 +17,16 @@ use Rattle.tables.specs.Ranges.{tableRow, selectorOf}
 abbrev pub ruleAt : List Rule → ℕ → Rule
 ruleAt rs k = getD rs k noRule
 
--- each is one that a sheet can carry
+-- each is one that a sheet can carry: form 2 carries every rule that form 1 does
 abbrev pub AllFit : List Rule → Type 0
-AllFit = All (λ r. (rule form1 limits1) .fits r ≡ true)
+AllFit = All (λ r. (rule form2 limits1) .fits r ≡ true)
+
+-- a state's comment has room in a form; and those of some rules have
+abbrev pub Commented : Form → State → Type 0
+Commented form S = S .comment < 2 ^ form .comment
+
+abbrev pub AllCommented : Form → List Rule → Type 0
+AllCommented form = All (λ r. Commented form (r .state))
 
 -- ## Times
 -- a rule's state and spans in its rows

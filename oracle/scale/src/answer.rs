@@ -11,7 +11,9 @@ pub struct Numbers {
 
 /// Code, drained, emitted, left, bytes, place and why.
 pub const FOLD_NUMBERS: Numbers = Numbers { count: 7, place: 5 };
-/// Code, bytes and place, of a write-back or a line.
+/// Where the bytes of a fold stand among its numbers.
+pub const FOLD_BYTES: usize = 4;
+/// Code, bytes and place, of a write-back, a line or a conversion.
 pub const WRITTEN_NUMBERS: Numbers = Numbers { count: 3, place: 2 };
 /// Code, kind, comment and place.
 pub const LOOKUP_NUMBERS: Numbers = Numbers { count: 4, place: 3 };

@@ -1,5 +1,9 @@
-//! The sheets of the bench, put together rule by rule, all inside the Rust's domain.
+//! The sheets of the bench, put together rule by rule, all inside the Rust's domain, most of them in form 1.
 
+use oracle::form::Form;
+
+use crate::archive::Given;
+use crate::convert::LAST_SHORT_COMMENT;
 use crate::random::Random;
 use crate::rule::{
     ADDITIONAL, CLOSED, ITEM_LIMIT, MIDNIGHT, NORMAL, OPEN, RULE_LIMIT, Rule, Span, Stepped, Time,
@@ -9,11 +13,21 @@ use crate::sheet::write_sheet;
 
 pub struct BenchSheet {
     pub name: &'static str,
+    pub form: Form,
     pub bytes: Vec<u8>,
 }
 
+impl BenchSheet {
+    pub fn given(&self) -> Given<'_> {
+        Given {
+            form: self.form.number(),
+            bytes: &self.bytes,
+        }
+    }
+}
+
 pub fn bench_sheets() -> Vec<BenchSheet> {
-    named([
+    let mut sheets = named([
         ("one rule", vec![open(10, 18).on(0, 4)]),
         ("two rules (P2)", worked_day_p2()),
         ("20 rules of a landing site", landing_site()),
@@ -28,16 +42,35 @@ pub fn bench_sheets() -> Vec<BenchSheet> {
             "64 rules, 1,023 boxes in years, lists of up to 32 rules",
             many_years(30),
         ),
-    ])
+    ]);
+
+    sheets.push(landing_site_of_form_2());
+    sheets
 }
 
+/// Sheets of form 1.
 pub fn named<const N: usize>(sheets: [(&'static str, Vec<Rule>); N]) -> Vec<BenchSheet> {
     sheets
-        .map(|(name, rules)| BenchSheet {
-            name,
-            bytes: write_sheet(rules),
-        })
+        .map(|(name, rules)| bench_sheet(name, Form::One, rules))
         .into()
+}
+
+fn bench_sheet(name: &'static str, form: Form, rules: Vec<Rule>) -> BenchSheet {
+    BenchSheet {
+        name,
+        form,
+        bytes: write_sheet(form, rules),
+    }
+}
+
+/// The landing site's rules, their comments from 65,536 on.
+pub fn landing_site_of_form_2() -> BenchSheet {
+    let mut rules = landing_site();
+    for rule in rules.iter_mut().filter(|rule| rule.comment > 0) {
+        rule.comment += LAST_SHORT_COMMENT;
+    }
+
+    bench_sheet("20 rules of a landing site, form 2", Form::Two, rules)
 }
 
 /// Weekdays are numbered from 0 for Monday.

@@ -1,15 +1,20 @@
 //! The sheets of the bench that are checked alone, the largest accepted one among them.
 
-use crate::bench_sheets::{BenchSheet, all_dimensions, landing_site, named, worked_day_p2};
+use crate::bench_sheets::{
+    BenchSheet, all_dimensions, landing_site, landing_site_of_form_2, named, worked_day_p2,
+};
 use crate::rule::{DATED, ITEM_LIMIT, Monthday, RULE_LIMIT, Rule, Span, Time, range, weekdays};
 
 pub fn check_sheets() -> Vec<BenchSheet> {
-    named([
+    let mut sheets = named([
         ("two rules (P2)", worked_day_p2()),
         ("20 rules of a landing site", landing_site()),
         ("64 rules, in all dimensions", all_dimensions()),
         ("64 rules, the largest sheet", largest_sheet()),
-    ])
+    ]);
+
+    sheets.push(landing_site_of_form_2());
+    sheets
 }
 
 /// As many rules, items and spans as there may be, each of the sort that takes most bits.
@@ -42,13 +47,17 @@ fn largest_sheet() -> Vec<Rule> {
 
 #[cfg(test)]
 mod tests {
+    use oracle::form::Form;
+
     use super::*;
     use crate::sheet::write_sheet;
 
     /// 70 bits of a rule's head, and 16 times 44 of a year, 34 of a monthday, 20 of a week, 33 of a weekday and 52 of a span; and the count
-    /// of rules.
+    /// of rules. In form 2 a rule's head has 18 bits more, and head and count of the sheet have 28.
     #[test]
     fn largest() {
-        assert_eq!(write_sheet(largest_sheet()).len(), (16 + 64 * 2998) / 8);
+        let bytes = |form| write_sheet(form, largest_sheet()).len();
+        assert_eq!(bytes(Form::One), (16 + 64 * 2998) / 8);
+        assert_eq!(bytes(Form::Two), (28 + 64 * 3016_usize).div_ceil(8));
     }
 }

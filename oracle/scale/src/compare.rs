@@ -1,54 +1,98 @@
-//! One sheet given to the archive, in buffers of several lengths, and held against what is expected of it.
+//! One sheet given to the archive, in its form, in the other one and in forms that are none, and held against what is expected of it.
 
-use crate::answer::{Answer, FOLD_NUMBERS, LOOKUP_NUMBERS, Numbers, WRITTEN_NUMBERS};
-use crate::archive::{self, Writing};
+use oracle::form::Form;
+
+use crate::answer::Answer;
+use crate::archive::Given;
+use crate::calls::{
+    CONVERT, Difference, Entry, FOLD, LINE, WRITE_BACK, compare_full, compare_lookup,
+    compare_rooms, compare_short_numbers,
+};
 use crate::dates::moment;
 use crate::expected::Sheet;
 use crate::random::Random;
 use crate::tally::Tally;
 
-/// A call that was answered otherwise than expected.
-#[derive(Debug)]
-pub struct Difference {
-    pub call: String,
-    pub expected: String,
-    pub given: String,
+const LOOKUPS: usize = 2;
+const NO_FORM_PERCENT: usize = 5;
+const SHORT_NUMBERS_PERCENT: usize = 5;
+const NO_FORMS: [u64; 4] = [0, 3, (1 << 32) + 1, u64::MAX];
+
+/// Compares the fold, the write-back, the line, the conversion and some lookups of a sheet. What was expected goes into the tally.
+pub fn compare(
+    form: Form,
+    bytes: &[u8],
+    random: &mut Random,
+    tally: &mut Tally,
+) -> Result<(), Difference> {
+    let given = Given {
+        form: form.number(),
+        bytes,
+    };
+    let sheet = Sheet::new(given);
+    let expected = writings(&sheet);
+    let [(_, folded), _, (_, line), (_, converted)] = &expected;
+    count(&sheet, folded, line, converted, tally);
+
+    for (entry, ample) in &expected {
+        compare_rooms(entry, given, ample, random, tally)?;
+    }
+
+    let moved = (converted.numbers[0] == 0).then_some(Given {
+        form: form.other().number(),
+        bytes: &converted.result,
+    });
+    compare_lookups(&sheet, moved, random, tally)?;
+    if let Some(moved) = moved {
+        compare_moved(&sheet, moved, folded, line, tally)?;
+    }
+
+    if random.percent(NO_FORM_PERCENT) {
+        compare_no_form(bytes, random, tally)?;
+    }
+    if random.percent(SHORT_NUMBERS_PERCENT) {
+        let no_form = random.of(&NO_FORMS);
+        let form = random.of(&[given.form, no_form]);
+        compare_short_numbers(Given { form, bytes }, random)?;
+    }
+
+    Ok(())
 }
 
-/// What a buffer holds before a call. Two fills, so that no byte written can pass for one left alone in both.
-const FILLS: [u8; 2] = [0xA5, 0x5A];
-const NUMBER_FILL: u64 = 0xA5A5_5A5A_A5A5_5A5A;
-/// Numbers lent beyond those that are answered.
-const NUMBERS_MORE: usize = 2;
+/// What is expected of each function that writes.
+fn writings(sheet: &Sheet) -> [(Entry, Answer); 4] {
+    [
+        (FOLD, sheet.fold()),
+        (WRITE_BACK, sheet.write_back()),
+        (LINE, sheet.line()),
+        (CONVERT, sheet.convert()),
+    ]
+}
 
-/// Compares the fold, the write-back, the line and some lookups of a sheet. What was expected goes into the tally.
-pub fn compare(bytes: &[u8], random: &mut Random, tally: &mut Tally) -> Result<(), Difference> {
-    let sheet = Sheet::new(bytes);
-    let folded = sheet.fold();
-    tally.fold(&folded.numbers, bytes.len());
+fn count(sheet: &Sheet, folded: &Answer, line: &Answer, converted: &Answer, tally: &mut Tally) {
+    tally.fold(&folded.numbers, sheet.given().bytes.len());
+    tally.line(&line.numbers, sheet.unsaid());
+    tally
+        .forms
+        .conversion(sheet.given().form, &converted.numbers);
+
     if let Ok(accepted) = sheet.accepted() {
         tally.overlaps(accepted);
+        tally.forms.comments(accepted.rules());
         if let Some(extent) = accepted.extent() {
             tally.accepted_fold(accepted.rules(), extent, sheet.is_inside());
             tally.stopped(accepted.reasons());
         }
     }
+}
 
-    compare_rooms("fold", archive::fold, bytes, &folded, random, tally)?;
-    let written = sheet.write_back();
-    compare_rooms(
-        "write back",
-        archive::write_back,
-        bytes,
-        &written,
-        random,
-        tally,
-    )?;
-
-    let line = sheet.line();
-    tally.line(&line.numbers, sheet.unsaid());
-    compare_rooms("line", archive::line, bytes, &line, random, tally)?;
-
+/// Some lookups, of the sheet in the other form as well.
+fn compare_lookups(
+    sheet: &Sheet,
+    moved: Option<Given>,
+    random: &mut Random,
+    tally: &mut Tally,
+) -> Result<(), Difference> {
     let (rules, lookups) = match sheet.accepted() {
         Ok(accepted) => (accepted.rules(), LOOKUPS),
         Err(_) => (&[][..], 1),
@@ -58,138 +102,46 @@ pub fn compare(bytes: &[u8], random: &mut Random, tally: &mut Tally) -> Result<(
         let moment = moment(random, rules);
         let expected = sheet.lookup(moment);
         tally.lookup(&expected.numbers);
-        compare_lookup(bytes, moment, &expected)?;
-    }
-
-    if random.percent(SHORT_NUMBERS_PERCENT) {
-        compare_short_numbers(bytes, random)?;
+        compare_lookup(sheet.given(), moment, &expected)?;
+        if let Some(moved) = moved {
+            compare_lookup(moved, moment, &expected)?;
+        }
     }
 
     Ok(())
 }
 
-const LOOKUPS: usize = 2;
-const SHORT_NUMBERS_PERCENT: usize = 5;
-
-/// A buffer with some bytes to spare, one that is exactly full, one that is a byte short, and at times none or any shorter one.
-fn compare_rooms(
-    name: &str,
-    function: Writing,
-    sheet: &[u8],
-    ample: &Answer,
-    random: &mut Random,
+/// A sheet moved to the other form comes back byte for byte, has the same line, and its fold is the fold moved.
+fn compare_moved(
+    sheet: &Sheet,
+    moved: Given,
+    folded: &Answer,
+    line: &Answer,
     tally: &mut Tally,
 ) -> Result<(), Difference> {
-    let needed = ample.result.len();
-    compare_writing(
-        name,
-        function,
-        sheet,
-        ample,
-        needed + random.below(70),
-        FILLS[0],
-    )?;
+    compare_full(&CONVERT, moved, &sheet.write_back())?;
+    compare_full(&LINE, moved, line)?;
 
-    if needed > 0 {
-        compare_writing(name, function, sheet, ample, needed, FILLS[1])?;
-        let shorter = [needed - 1, needed - 1, needed - 1, 0, random.below(needed)];
-        compare_writing(name, function, sheet, ample, random.of(&shorter), FILLS[0])?;
-        tally.short_buffers += 1;
+    if let Some(folded) = sheet.fold_moved(folded) {
+        compare_full(&FOLD, moved, &folded)?;
+        tally.forms.folds_moved += 1;
     }
 
     Ok(())
 }
 
-/// One call with a buffer of so many bytes: the numbers, the bytes of the result, and all other bytes and numbers as they were.
-fn compare_writing(
-    name: &str,
-    function: Writing,
-    sheet: &[u8],
-    ample: &Answer,
-    room: usize,
-    fill: u8,
-) -> Result<(), Difference> {
-    let expected = ample.in_room(room);
-    let mut buffer = vec![fill; room];
-    buffer[..expected.result.len()].copy_from_slice(&expected.result);
+/// The same bytes in a form that is none, at any moment.
+fn compare_no_form(bytes: &[u8], random: &mut Random, tally: &mut Tally) -> Result<(), Difference> {
+    let form = random.of(&NO_FORMS);
+    let given = Given { form, bytes };
+    let sheet = Sheet::new(given);
 
-    let mut out = vec![fill; room];
-    let mut numbers = vec![NUMBER_FILL; expected.numbers.len() + NUMBERS_MORE];
-    let answered = function(sheet, &mut out, &mut numbers);
-
-    held(
-        || format!("{name} into {room} bytes of {fill:02X}"),
-        (true, with_more(&expected.numbers), buffer),
-        (answered, numbers, out),
-    )
-}
-
-fn compare_lookup(sheet: &[u8], moment: [u64; 4], expected: &Answer) -> Result<(), Difference> {
-    let mut numbers = vec![NUMBER_FILL; LOOKUP_NUMBERS.count + NUMBERS_MORE];
-    let answered = archive::lookup(sheet, moment, &mut numbers);
-
-    held(
-        || format!("lookup at {moment:?}"),
-        (true, with_more(&expected.numbers), Vec::new()),
-        (answered, numbers, Vec::new()),
-    )
-}
-
-/// A slice too short for the numbers is answered no, with nothing written anywhere. Most lack the last number alone.
-fn compare_short_numbers(sheet: &[u8], random: &mut Random) -> Result<(), Difference> {
-    let writings: [(Writing, Numbers); 3] = [
-        (archive::fold, FOLD_NUMBERS),
-        (archive::write_back, WRITTEN_NUMBERS),
-        (archive::line, WRITTEN_NUMBERS),
-    ];
-    let room = sheet.len();
-    let untouched = |length| (false, vec![NUMBER_FILL; length], vec![FILLS[0]; room]);
-
-    for (function, all) in writings {
-        let (_, mut numbers, mut out) = untouched(too_few(random, all));
-        let answered = function(sheet, &mut out, &mut numbers);
-        let call = || format!("{} numbers of {}", numbers.len(), all.count);
-        held(
-            call,
-            untouched(numbers.len()),
-            (answered, numbers.clone(), out),
-        )?;
+    for (entry, ample) in writings(&sheet) {
+        compare_rooms(&entry, given, &ample, random, tally)?;
     }
+    let moment = moment(random, &[]);
+    compare_lookup(given, moment, &sheet.lookup(moment))?;
+    tally.forms.refused += 1;
 
-    let (_, mut numbers, out) = untouched(too_few(random, LOOKUP_NUMBERS));
-    let answered = archive::lookup(sheet, [2000, 2, 29, 720], &mut numbers);
-    let call = || format!("lookup with {} numbers", numbers.len());
-    held(
-        call,
-        untouched(numbers.len()),
-        (answered, numbers.clone(), out),
-    )
-}
-
-fn too_few(random: &mut Random, all: Numbers) -> usize {
-    let any = random.below(all.count);
-    random.of(&[any, all.count - 1])
-}
-
-fn with_more(numbers: &[u64]) -> Vec<u64> {
-    [numbers, &[NUMBER_FILL; NUMBERS_MORE]].concat()
-}
-
-/// Whether the function answered, the numbers lent and the buffer lent.
-type Seen = (bool, Vec<u64>, Vec<u8>);
-
-fn held(call: impl Fn() -> String, expected: Seen, given: Seen) -> Result<(), Difference> {
-    if expected == given {
-        return Ok(());
-    }
-
-    Err(Difference {
-        call: call(),
-        expected: shown(&expected),
-        given: shown(&given),
-    })
-}
-
-fn shown((answered, numbers, buffer): &Seen) -> String {
-    format!("{answered} {numbers:?} {}", oracle::bits::to_hex(buffer))
+    Ok(())
 }

@@ -1,22 +1,43 @@
-//! Damage to sheets: cut short, bits flipped, ended wrong, fields set to what they may not hold, and noise.
+//! Damage to sheets: given in the other form, cut short, bits flipped, ended wrong, fields set to what they may not hold, and noise.
+
+use oracle::form::Form;
 
 use crate::layout::{Field, Refusal, Walk, walk_sheet};
 use crate::random::Random;
 use crate::rule::Rule;
-use crate::sheet::read_sheet;
+use crate::sheet::{overwrite, read_sheet, write_sheet};
 
-/// The sheet of these rules, damaged in one way or another. Not every damage makes it unlawful; where the first does not, a second follows.
-pub fn damaged(random: &mut Random, rules: &mut Vec<Rule>, sheet: &[u8]) -> Vec<u8> {
-    let once = damaged_once(random, rules, sheet.into());
+/// How many sheets are whole, and said to be of the other form.
+const OTHER_FORM_PERCENT: usize = 3;
 
-    match read_sheet(&once) {
-        Ok(mut read) => damaged_once(random, &mut read.rules, once),
-        Err(_) => once,
+/// The sheet of these rules, damaged in one way or another, and the form in which it is given. Not every damage makes it unlawful; where
+/// the first does not, a second follows.
+pub fn damaged(
+    random: &mut Random,
+    form: Form,
+    rules: &mut Vec<Rule>,
+    sheet: &[u8],
+) -> (Form, Vec<u8>) {
+    if random.percent(OTHER_FORM_PERCENT) {
+        return (form.other(), sheet.into());
     }
+
+    let once = damaged_once(random, form, rules, sheet.into());
+    let damaged = match read_sheet(form, &once) {
+        Ok(mut read) => damaged_once(random, form, &mut read.rules, once),
+        Err(_) => once,
+    };
+
+    (form, damaged)
 }
 
-fn damaged_once(random: &mut Random, rules: &mut Vec<Rule>, mut sheet: Vec<u8>) -> Vec<u8> {
-    match random.weighed(&[(15, 0), (20, 1), (5, 2), (12, 3), (40, 4), (5, 5)]) {
+fn damaged_once(
+    random: &mut Random,
+    form: Form,
+    rules: &mut Vec<Rule>,
+    mut sheet: Vec<u8>,
+) -> Vec<u8> {
+    match random.weighed(&[(15, 0), (20, 1), (5, 2), (12, 3), (40, 4), (5, 5), (3, 6)]) {
         0 => sheet.truncate(random.below(sheet.len())),
         1 => flip(random, &mut sheet, 1),
         2 => {
@@ -24,12 +45,10 @@ fn damaged_once(random: &mut Random, rules: &mut Vec<Rule>, mut sheet: Vec<u8>) 
             flip(random, &mut sheet, bits);
         }
         3 => end_wrong(random, &mut sheet),
-        4 => overwrite_field(random, rules, &mut sheet),
-        _ => {
-            let length = random.below(40);
-            sheet = vec![0, random.below(3) as u8];
-            sheet.extend(random.bytes(length));
-        }
+        4 => overwrite_field(random, form, rules, &mut sheet),
+        5 => sheet = noise(random, form),
+        // Of form 2 the head.
+        _ => overwrite(&mut sheet, 0, 4, random.within(0, 15)),
     }
 
     sheet
@@ -54,10 +73,21 @@ fn end_wrong(random: &mut Random, sheet: &mut Vec<u8>) {
     sheet.extend(random.of(&tail));
 }
 
+/// A few rules of which nothing but their count is sound.
+fn noise(random: &mut Random, form: Form) -> Vec<u8> {
+    let length = random.below(40);
+    let mut sheet = write_sheet(form, Vec::new());
+    let (place, width) = (form.rule_count_place(), form.rule_count_width());
+
+    overwrite(&mut sheet, place, width, random.within(0, 2));
+    sheet.extend(random.bytes(length));
+    sheet
+}
+
 /// One field, of whatever sort, set to its highest or lowest pattern, to a value next to its bounds, or to any value.
-fn overwrite_field(random: &mut Random, rules: &mut Vec<Rule>, sheet: &mut [u8]) {
+fn overwrite_field(random: &mut Random, form: Form, rules: &mut Vec<Rule>, sheet: &mut [u8]) {
     let mut places = Places::default();
-    walk_sheet(&mut places, rules).expect("a list of places refuses nothing");
+    walk_sheet(&mut places, form, rules).expect("a list of places refuses nothing");
     let (place, field) = random.of(&places.met);
 
     let highest_pattern = u32::MAX >> (32 - field.width);
@@ -69,18 +99,7 @@ fn overwrite_field(random: &mut Random, rules: &mut Vec<Rule>, sheet: &mut [u8])
         _ => random.next() as u32,
     };
 
-    for (offset, bit) in (0..field.width).rev().enumerate() {
-        set_bit(sheet, place + offset, value >> bit & 1 == 1);
-    }
-}
-
-fn set_bit(sheet: &mut [u8], place: usize, bit: bool) {
-    let mask = 0x80 >> (place % 8);
-
-    match bit {
-        true => sheet[place / 8] |= mask,
-        false => sheet[place / 8] &= !mask,
-    }
+    overwrite(sheet, place, field.width, value);
 }
 
 /// Every field of a sheet with its place.

@@ -1,5 +1,5 @@
-//! What documents 01 and 02 expect of a sheet: refusals, lookups, lines and why a fold stopped by the modules beside this one, folds by the
-//! Rust, which knows no refusal for ranges that overlap and isn't asked where they do.
+//! What documents 01 and 02 expect of a sheet in a form: refusals, lookups, lines, conversions and why a fold stopped by the modules beside
+//! this one, folds by the Rust, which knows no refusal for ranges that overlap and isn't asked where they do.
 //!
 //! Where the sheet stands for a value of the Rust, the Rust folds it whole. It has no years and weeks that wrap, and turns some steps into
 //! 1 (docs/DIFFERENCES.md). Where a sheet has such items, the Rust folds the drained rules alone, those that wrap as their two halves, and
@@ -7,9 +7,12 @@
 
 use oracle::bits::{BitReader, BitWriter};
 use oracle::fold::{Folded, fold_sheet, read_expression};
+use oracle::form::Form;
 
-use crate::answer::{Answer, FOLD_NUMBERS, LOOKUP_NUMBERS};
+use crate::answer::{Answer, FOLD_BYTES, FOLD_NUMBERS, LOOKUP_NUMBERS};
+use crate::archive::Given;
 use crate::calendar::point_of;
+use crate::convert::moved_to;
 use crate::layout::Refusal;
 use crate::line::{Unsaid, first_unsaid, line_of};
 use crate::overlap::check_overlaps;
@@ -17,24 +20,25 @@ use crate::points::{
     DIMENSIONS, Extent, Selector, check_limits, is_simple, list_at, selector_of, split,
 };
 use crate::rule::{CLOSED, MIDNIGHT, Rule, Stepped};
-use crate::sheet::{Read, read_sheet, write_sheet};
+use crate::sheet::{Read, overwrite, read_sheet, write_sheet};
 use crate::why::{Reasons, reasons_of, stops};
 
 /// A sheet as it was read, with what all answers about it rest on.
 pub struct Sheet<'a> {
-    bytes: &'a [u8],
+    given: Given<'a>,
     outcome: Result<Accepted, Refusal>,
 }
 
 /// What an accepted sheet holds.
 pub struct Accepted {
+    form: Form,
     read: Read,
     selectors: Vec<Selector>,
     extent: Result<Extent, Refusal>,
 }
 
 impl Accepted {
-    fn of(read: Read) -> Self {
+    fn of(form: Form, read: Read) -> Self {
         let selectors: Vec<Selector> = read
             .rules
             .iter()
@@ -45,6 +49,7 @@ impl Accepted {
             .and_then(|()| check_limits(&read.rules[..selectors.len()], &selectors));
 
         Self {
+            form,
             read,
             selectors,
             extent,
@@ -85,11 +90,17 @@ impl Accepted {
 }
 
 impl<'a> Sheet<'a> {
-    pub fn new(bytes: &'a [u8]) -> Self {
-        Self {
-            bytes,
-            outcome: read_sheet(bytes).map(Accepted::of),
-        }
+    /// A form that is none is refused before the sheet is read.
+    pub fn new(given: Given<'a>) -> Self {
+        let outcome = Form::of(given.form)
+            .ok_or(Refusal::at(2, 0))
+            .and_then(|form| Ok(Accepted::of(form, read_sheet(form, given.bytes)?)));
+
+        Self { given, outcome }
+    }
+
+    pub fn given(&self) -> Given<'a> {
+        self.given
     }
 
     /// What the sheet holds, where none of codes 1 to 4 refuses it.
@@ -99,7 +110,8 @@ impl<'a> Sheet<'a> {
 
     /// Whether the Rust's constructors take the sheet's values as they are.
     pub fn is_inside(&self) -> bool {
-        read_expression(self.bytes).is_ok()
+        self.accepted()
+            .is_ok_and(|accepted| read_expression(accepted.form, self.given.bytes).is_ok())
     }
 
     /// The fold into an ample buffer.
@@ -109,18 +121,16 @@ impl<'a> Sheet<'a> {
 
     fn folded(&self) -> Result<(Vec<u64>, Vec<u8>), Refusal> {
         let accepted = self.accepted().inspect_err(|refusal| {
-            let read = read_expression(self.bytes);
-            let unreadable = read.is_err_and(|reason| reason.is_unreadable());
             assert!(
-                refusal.code == 4 || unreadable,
+                refusal.code == 4 || !self.is_readable_to_oracle(),
                 "the oracle has no limits, but refuses as well"
             );
         })?;
         accepted.extent?;
 
-        let folded = fold_sheet(self.bytes).unwrap_or_else(|reason| {
+        let folded = fold_sheet(accepted.form, self.given.bytes).unwrap_or_else(|reason| {
             assert!(!reason.is_unreadable(), "the oracle reads the sheet");
-            fold_halves(self.bytes, accepted)
+            fold_halves(self.given.bytes, accepted)
         });
         let drained = accepted.drained().len();
         assert_eq!(folded.drained, drained, "the Rust drains as many rules");
@@ -128,7 +138,11 @@ impl<'a> Sheet<'a> {
         // Where the rules left were copied, they are not in the count yet.
         let counted = folded.emitted + folded.left;
         let mut result = folded.result.into_bytes();
-        result[..2].copy_from_slice(&(counted as u16).to_be_bytes());
+        let (place, width) = (
+            accepted.form.rule_count_place(),
+            accepted.form.rule_count_width(),
+        );
+        overwrite(&mut result, place, width, counted as u32);
 
         let counts = [
             0,
@@ -143,9 +157,40 @@ impl<'a> Sheet<'a> {
         Ok((counts.map(|count| count as u64).into(), result))
     }
 
+    fn is_readable_to_oracle(&self) -> bool {
+        Form::of(self.given.form).is_some_and(|form| {
+            let read = read_expression(form, self.given.bytes);
+            !read.is_err_and(|reason| reason.is_unreadable())
+        })
+    }
+
     /// The sheet written back into an ample buffer: reading and writing are inverse.
     pub fn write_back(&self) -> Answer {
-        Answer::written(self.accepted().map(|_| self.bytes.into()))
+        Answer::written(self.accepted().map(|_| self.given.bytes.into()))
+    }
+
+    /// The sheet moved to the other form, in an ample buffer.
+    pub fn convert(&self) -> Answer {
+        let moved = self
+            .accepted()
+            .and_then(|accepted| moved_to(accepted.form.other(), accepted.rules()));
+
+        Answer::written(moved)
+    }
+
+    /// What the fold of the sheet moved to the other form answers, where this one's fold answers so: the same rules, or the same refusal.
+    /// Nothing where the result passes a sheet's limits, so that it can't be read.
+    pub fn fold_moved(&self, folded: &Answer) -> Option<Answer> {
+        let form = self.accepted().ok()?.form;
+        let mut moved = folded.clone();
+
+        if folded.numbers[0] == 0 {
+            let rules = read_sheet(form, &folded.result).ok()?.rules;
+            moved.result = write_sheet(form.other(), rules);
+            moved.numbers[FOLD_BYTES] = moved.result.len() as u64;
+        }
+
+        Some(moved)
     }
 
     /// The sheet's line in an ample buffer.
@@ -200,9 +245,9 @@ impl<'a> Sheet<'a> {
 /// The fold of a sheet that the Rust can't hold: the drained rules with wrapping years and weeks as halves, then the rules left. The
 /// count in front is that of the folded rules alone.
 fn fold_halves(sheet: &[u8], accepted: &Accepted) -> Folded<BitWriter> {
-    let drained = accepted.drained();
-    let halved = write_sheet(drained.iter().map(with_halves).collect());
-    let mut folded = fold_sheet(&halved).expect("the Rust holds rising ranges of step 1");
+    let (form, drained) = (accepted.form, accepted.drained());
+    let halved = write_sheet(form, drained.iter().map(with_halves).collect());
+    let mut folded = fold_sheet(form, &halved).expect("the Rust holds rising ranges of step 1");
     let places = &accepted.read.places;
 
     folded.left = accepted.left().len();

@@ -1,5 +1,7 @@
-//! The layout of the packed sheet and its lawful values: `walk_sheet` meets every field in its order, and what a walk does there makes it
-//! a reading, a writing or a list of places.
+//! The layout of the packed sheet in either form and its lawful values: `walk_sheet` meets every field in its order, and what a walk does
+//! there makes it a reading, a writing or a list of places.
+
+use oracle::form::Form;
 
 use crate::rule::{
     DATED, ITEM_LIMIT, MONTHS, Monthday, RULE_LIMIT, Rule, Span, Stepped, Time, Weekday,
@@ -57,21 +59,25 @@ pub trait Walk {
 }
 
 /// Meets the fields of a sheet in their order. A reading starts from no rules and fills them in.
-pub fn walk_sheet(walk: &mut impl Walk, rules: &mut Vec<Rule>) -> Result<(), Refusal> {
-    walk_count(walk, count(16, RULE_LIMIT), rules)?;
+pub fn walk_sheet(walk: &mut impl Walk, form: Form, rules: &mut Vec<Rule>) -> Result<(), Refusal> {
+    if let Some(head) = form.head() {
+        let mut value = head.value;
+        walk.field(within(head.width, head.value, head.value), &mut value)?;
+    }
+    walk_count(walk, count(form.rule_count_width(), RULE_LIMIT), rules)?;
 
     rules.iter_mut().try_for_each(|rule| {
         walk.rule_begins();
-        walk_rule(walk, rule)
+        walk_rule(walk, form, rule)
     })
 }
 
-fn walk_rule(walk: &mut impl Walk, rule: &mut Rule) -> Result<(), Refusal> {
-    let items = count(10, ITEM_LIMIT);
+fn walk_rule(walk: &mut impl Walk, form: Form, rule: &mut Rule) -> Result<(), Refusal> {
+    let items = count(form.item_count_width(), ITEM_LIMIT);
 
     walk.field(within(2, 0, 2), &mut rule.operator)?;
     walk.field(within(2, 0, 2), &mut rule.kind)?;
-    walk.field(whole(16), &mut rule.comment)?;
+    walk.field(whole(form.comment_width()), &mut rule.comment)?;
     walk_count(walk, items, &mut rule.years)?;
     walk_count(walk, items, &mut rule.monthdays)?;
     walk_count(walk, items, &mut rule.weeks)?;

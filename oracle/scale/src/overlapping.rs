@@ -138,7 +138,10 @@ fn put<T>(random: &mut Random, items: &mut Vec<T>, item: T) {
 
 #[cfg(test)]
 mod tests {
+    use oracle::form::Form;
+
     use super::*;
+    use crate::archive::Given;
     use crate::bench_sheets::bench_sheets;
     use crate::expected::Sheet;
     use crate::recipes::rules;
@@ -147,9 +150,12 @@ mod tests {
     const SHEETS: u64 = 20_000;
 
     /// The code of a sheet's fold, and the place where it is 11.
-    fn refused(rules: Vec<Rule>) -> (u64, u64) {
-        let bytes = write_sheet(rules);
-        let fold = Sheet::new(&bytes).fold();
+    fn refused(form: Form, rules: Vec<Rule>) -> (u64, u64) {
+        let given = Given {
+            form: form.number(),
+            bytes: &write_sheet(form, rules),
+        };
+        let fold = Sheet::new(given).fold();
         (fold.numbers[0], fold.numbers[5])
     }
 
@@ -160,9 +166,10 @@ mod tests {
 
         for number in 0..SHEETS {
             let mut random = Random::new(1, number);
-            let sound = rules(&mut random);
-            let changed = refused(overlapping(&mut random, &sound));
-            assert_ne!(refused(sound).0, 11, "sheet {number}");
+            let form = random.of(&[Form::One, Form::Two]);
+            let sound = rules(&mut random, form);
+            let changed = refused(form, overlapping(&mut random, &sound));
+            assert_ne!(refused(form, sound).0, 11, "sheet {number}");
 
             match changed {
                 (11, place) => places[(place as usize).min(3)] += 1,
@@ -180,7 +187,7 @@ mod tests {
     #[test]
     fn no_sheet_of_the_bench_is_refused() {
         for sheet in bench_sheets() {
-            let read = Sheet::new(&sheet.bytes);
+            let read = Sheet::new(sheet.given());
             let accepted = read.accepted().expect("it is read");
             assert!(accepted.extent().is_some(), "{}", sheet.name);
         }

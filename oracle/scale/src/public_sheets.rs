@@ -3,6 +3,9 @@
 //! 9 at every moment (document 01), so that there is none. Years stand in all rules of a sheet or in none, but for a few: else the fold
 //! names the years from 1900 on, which the evaluator doesn't read.
 
+use oracle::form::Form;
+
+use crate::archive::Given;
 use crate::public_moments::{FIRST_YEAR, LAST_YEAR, moment};
 use crate::random::Random;
 use crate::rule::{
@@ -10,12 +13,22 @@ use crate::rule::{
 };
 use crate::sheet::write_sheet;
 
-/// A sheet, and moments to look up in it.
+/// A sheet of form 1, and moments to look up in it.
 pub struct PublicSheet {
-    pub bytes: Vec<u8>,
+    bytes: Vec<u8>,
     pub moments: Vec<[u64; 4]>,
 }
 
+impl PublicSheet {
+    pub fn given(&self) -> Given<'_> {
+        Given {
+            form: FORM.number(),
+            bytes: &self.bytes,
+        }
+    }
+}
+
+const FORM: Form = Form::One;
 const MOMENTS: usize = 20;
 
 /// The sheet of a number, by nothing else but the seed.
@@ -25,7 +38,7 @@ pub fn public_sheet(seed: u64, number: u64) -> PublicSheet {
     let moments = (0..MOMENTS).map(|_| moment(&mut random, &rules)).collect();
 
     PublicSheet {
-        bytes: write_sheet(rules),
+        bytes: write_sheet(FORM, rules),
         moments,
     }
 }
@@ -142,8 +155,8 @@ mod tests {
     #[test]
     fn no_two_ranges_of_a_rule_share_a_value_and_all_rules_drain() {
         for number in 0..SHEETS {
-            let bytes = public_sheet(1, number).bytes;
-            let sheet = Sheet::new(&bytes);
+            let made = public_sheet(1, number);
+            let sheet = Sheet::new(made.given());
             let accepted = sheet.accepted().expect("it is read");
             assert!(!accepted.selectors().iter().any(overlaps), "{number}");
             assert!(accepted.left().is_empty(), "{number}");

@@ -1,5 +1,7 @@
 //! Recipes of sound sheets: drained whole, stopped, at the limits and one past them, each anyhow or so that it has a line.
 
+use oracle::form::Form;
+
 use crate::overlapping::take_overlaps;
 use crate::points::{DIMENSIONS, LIST_LIMIT};
 use crate::random::Random;
@@ -10,8 +12,9 @@ use crate::stock::Stock;
 use crate::stoppers::stop;
 use crate::telling::{add_unsaid, make_sayable};
 
-/// The rules of one sheet. Half of them stay where the Rust's constructors take the values as they are.
-pub fn rules(random: &mut Random) -> Vec<Rule> {
+/// The rules of one sheet. Half of them stay where the Rust's constructors take the values as they are, and of form 2 some have comments of
+/// form 1 alone, so that they can go there.
+pub fn rules(random: &mut Random, form: Form) -> Vec<Rule> {
     let recipe = random.weighed(&[
         (600, drained as fn(&mut Stock) -> Vec<Rule>),
         (260, stopped),
@@ -21,10 +24,14 @@ pub fn rules(random: &mut Random) -> Vec<Rule> {
         (3, all_at_the_limit),
     ]);
     let rising = random.percent(50);
-    let mut rules = recipe(&mut Stock::new(random, rising));
+    let comment_form = match random.percent(SHORT_COMMENTS_PERCENT) {
+        true => Form::One,
+        false => form,
+    };
+    let mut rules = recipe(&mut Stock::new(random, rising, comment_form));
 
     if random.percent(SAYABLE_PERCENT) {
-        make_sayable(&mut rules, random, rising);
+        make_sayable(&mut rules, random, rising, comment_form);
         if random.percent(UNSAID_PERCENT) {
             add_unsaid(&mut rules, random);
         }
@@ -34,6 +41,7 @@ pub fn rules(random: &mut Random) -> Vec<Rule> {
     rules
 }
 
+const SHORT_COMMENTS_PERCENT: usize = 40;
 /// How many sheets are made to have a line, and how many of those then lose it by one thing alone.
 const SAYABLE_PERCENT: usize = 45;
 const UNSAID_PERCENT: usize = 20;
@@ -257,7 +265,7 @@ mod tests {
     #[test]
     fn rules_stop_for_each_reason_and_for_each_two_at_each_place() {
         let met: HashSet<_> = (0..SHEETS)
-            .filter_map(|number| stopped(&rules(&mut Random::new(1, number))))
+            .filter_map(|number| stopped(&rules(&mut Random::new(1, number), Form::One)))
             .collect();
 
         for place in [Place::First, Place::Between, Place::Last] {

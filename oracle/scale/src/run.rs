@@ -1,6 +1,9 @@
-//! Sheets by their numbers, sound, overlapping and damaged, compared one after the other.
+//! Sheets by their numbers, sound, overlapping and damaged, half of them in each form, compared one after the other.
 
-use crate::compare::{Difference, compare};
+use oracle::form::Form;
+
+use crate::calls::Difference;
+use crate::compare::compare;
 use crate::damage::damaged;
 use crate::overlapping::overlapping;
 use crate::random::Random;
@@ -15,26 +18,27 @@ pub struct Report {
     pub sound: Tally,
     pub overlapping: Tally,
     pub damaged: Tally,
-    pub differences: Vec<(Vec<u8>, Difference)>,
+    pub differences: Vec<(Form, Vec<u8>, Difference)>,
 }
 
 impl Report {
     /// Compares the sound sheet of a number, one made from it in which ranges overlap or touch, and a damaged copy of it.
     pub fn compare_number(&mut self, seed: u64, number: u64) {
         let mut random = Random::new(seed, number);
-        let mut rules = rules(&mut random);
-        let sheet = write_sheet(rules.clone());
-        let changed = write_sheet(overlapping(&mut random, &rules));
-        let copy = damaged(&mut random, &mut rules, &sheet);
+        let form = random.of(&[Form::One, Form::Two]);
+        let mut rules = rules(&mut random, form);
+        let sheet = write_sheet(form, rules.clone());
+        let changed = write_sheet(form, overlapping(&mut random, &rules));
+        let (copy_form, copy) = damaged(&mut random, form, &mut rules, &sheet);
         let state = random.next();
 
-        for (sheet, tally) in [
-            (sheet, &mut self.sound),
-            (changed, &mut self.overlapping),
-            (copy, &mut self.damaged),
+        for (form, sheet, tally) in [
+            (form, sheet, &mut self.sound),
+            (form, changed, &mut self.overlapping),
+            (copy_form, copy, &mut self.damaged),
         ] {
             self.differences
-                .extend(first_difference(sheet, state, tally));
+                .extend(first_difference(form, sheet, state, tally));
         }
     }
 
@@ -51,29 +55,36 @@ impl Report {
 }
 
 /// The difference that a sheet shows, if any, in a smaller sheet where one was found.
-fn first_difference(sheet: Vec<u8>, seed: u64, tally: &mut Tally) -> Option<(Vec<u8>, Difference)> {
+fn first_difference(
+    form: Form,
+    sheet: Vec<u8>,
+    seed: u64,
+    tally: &mut Tally,
+) -> Option<(Form, Vec<u8>, Difference)> {
     let compared = |sheet: &[u8], tally: &mut Tally| {
-        let _named = NamedOnPanic(sheet);
-        compare(sheet, &mut Random::new(seed, 0), tally)
+        let _named = NamedOnPanic(form, sheet);
+        compare(form, sheet, &mut Random::new(seed, 0), tally)
     };
 
     let difference = compared(&sheet, tally).err()?;
-    let smaller = shrunk(sheet, |smaller| {
+    let smaller = shrunk(form, sheet, |smaller| {
         compared(smaller, &mut Tally::default()).is_err()
     });
     let difference = compared(&smaller, &mut Tally::default())
         .err()
         .unwrap_or(difference);
-    Some((smaller, difference))
+    Some((form, smaller, difference))
 }
 
 /// Names the sheet on which the Rust or this program stumbled, among the many of a run.
-struct NamedOnPanic<'a>(&'a [u8]);
+struct NamedOnPanic<'a>(Form, &'a [u8]);
 
 impl Drop for NamedOnPanic<'_> {
     fn drop(&mut self) {
         if std::thread::panicking() {
-            eprintln!("stumbled over the sheet {}", oracle::bits::to_hex(self.0));
+            let Self(form, sheet) = self;
+            let hex = oracle::bits::to_hex(sheet);
+            eprintln!("stumbled over the sheet {hex} of form {}", form.number());
         }
     }
 }

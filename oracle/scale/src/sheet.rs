@@ -1,6 +1,7 @@
-//! Packed sheets read, or refused by codes 1 to 4, and written. Rests on `layout`.
+//! Packed sheets of either form read, or refused by codes 1 to 4, and written. Rests on `layout`.
 
 use oracle::bits::{BitReader, BitWriter};
+use oracle::form::Form;
 
 use crate::layout::{Field, Refusal, Walk, walk_sheet};
 use crate::rule::Rule;
@@ -33,14 +34,14 @@ impl Walk for Reading<'_> {
     }
 }
 
-pub fn read_sheet(sheet: &[u8]) -> Result<Read, Refusal> {
+pub fn read_sheet(form: Form, sheet: &[u8]) -> Result<Read, Refusal> {
     let mut rules = Vec::new();
     let mut reading = Reading {
         bits: BitReader::new(sheet),
         places: Vec::new(),
     };
 
-    walk_sheet(&mut reading, &mut rules)?;
+    walk_sheet(&mut reading, form, &mut rules)?;
     reading.rule_begins();
     let end = reading.bits.position();
 
@@ -67,8 +68,24 @@ impl Walk for BitWriter {
     }
 }
 
-pub fn write_sheet(mut rules: Vec<Rule>) -> Vec<u8> {
+pub fn write_sheet(form: Form, mut rules: Vec<Rule>) -> Vec<u8> {
     let mut writer = BitWriter::default();
-    walk_sheet(&mut writer, &mut rules).expect("a writing refuses nothing");
+    walk_sheet(&mut writer, form, &mut rules).expect("a writing refuses nothing");
     writer.into_bytes()
+}
+
+/// Sets the bits of a field, whatever stood there.
+pub fn overwrite(sheet: &mut [u8], place: usize, width: usize, value: u32) {
+    for (offset, bit) in (0..width).rev().enumerate() {
+        set_bit(sheet, place + offset, value >> bit & 1 == 1);
+    }
+}
+
+fn set_bit(sheet: &mut [u8], place: usize, bit: bool) {
+    let mask = 0x80 >> (place % 8);
+
+    match bit {
+        true => sheet[place / 8] |= mask,
+        false => sheet[place / 8] &= !mask,
+    }
 }

@@ -1,11 +1,13 @@
 //! A sheet that shows a difference made smaller: rules and items go as long as it still shows one.
 
+use oracle::form::Form;
+
 use crate::rule::Rule;
 use crate::sheet::{read_sheet, write_sheet};
 
 /// The smallest sheet found that still differs. One that can't be read stays as it is.
-pub fn shrunk(sheet: Vec<u8>, differs: impl Fn(&[u8]) -> bool) -> Vec<u8> {
-    let Ok(read) = read_sheet(&sheet) else {
+pub fn shrunk(form: Form, sheet: Vec<u8>, differs: impl Fn(&[u8]) -> bool) -> Vec<u8> {
+    let Ok(read) = read_sheet(form, &sheet) else {
         return sheet;
     };
 
@@ -13,12 +15,12 @@ pub fn shrunk(sheet: Vec<u8>, differs: impl Fn(&[u8]) -> bool) -> Vec<u8> {
 
     while let Some(smaller) = smaller_ones(&rules)
         .into_iter()
-        .find(|smaller| differs(&write_sheet(smaller.clone())))
+        .find(|smaller| differs(&write_sheet(form, smaller.clone())))
     {
         rules = smaller;
     }
 
-    match write_sheet(rules) {
+    match write_sheet(form, rules) {
         smaller if differs(&smaller) => smaller,
         _ => sheet,
     }

@@ -1,6 +1,8 @@
 //! The ranges and spans from which one sheet's rules are put together. They are few for each sheet, so that ranges meet and wrap, days
 //! repeat and groups grow.
 
+use oracle::form::Form;
+
 use crate::points::{DIMENSIONS, Dimension};
 use crate::random::Random;
 use crate::rule::{
@@ -15,6 +17,9 @@ pub const YEAR_VALUES: [u32; 11] = [
 pub const MINUTES: [u32; 11] = [0, 1, 480, 599, 600, 660, 720, 780, 1080, 1439, MIDNIGHT];
 const COMMENTS: [u32; 8] = [0, 0, 0, 0, 1, 1, 2, 65535];
 const BUSY_COMMENTS: [u32; 5] = [0, 1, 2, 3, 4];
+/// Those of form 2. Some are the same in their last sixteen bits.
+const LONG_COMMENTS: [u32; 9] = [0, 0, 0, 1, 2, 65535, 65536, 65537, 0xFF_FFFF];
+const LONG_BUSY_COMMENTS: [u32; 5] = [0, 1, 2, 65536, 65537];
 /// Offsets of an event in minutes, as sixteen bits in two's complement: 30, -30, -1, the highest and the lowest among them.
 const OFFSETS: [u32; 7] = [0, 0, 30, 0xFFE2, 0xFFFF, 0x7FFF, 0x8000];
 
@@ -22,6 +27,8 @@ pub struct Stock<'a> {
     pub random: &'a mut Random,
     /// Whether years and weeks rise, as the Rust's constructors ask.
     pub rising: bool,
+    /// Whose comments the rules have.
+    comment_form: Form,
     years: Vec<Stepped>,
     monthdays: Vec<Monthday>,
     weeks: Vec<Stepped>,
@@ -31,15 +38,19 @@ pub struct Stock<'a> {
 }
 
 impl<'a> Stock<'a> {
-    pub fn new(random: &'a mut Random, rising: bool) -> Self {
+    pub fn new(random: &'a mut Random, rising: bool, comment_form: Form) -> Self {
         let mut stock = Self {
             random,
             rising,
+            comment_form,
             years: Vec::new(),
             monthdays: Vec::new(),
             weeks: Vec::new(),
             weekdays: Vec::new(),
-            comments: &COMMENTS,
+            comments: match comment_form {
+                Form::One => &COMMENTS,
+                Form::Two => &LONG_COMMENTS,
+            },
             spans: Vec::new(),
         };
 
@@ -75,7 +86,10 @@ impl<'a> Stock<'a> {
 
         // Many states painted one over the other.
         if self.random.percent(20) {
-            self.comments = &BUSY_COMMENTS;
+            self.comments = match self.comment_form {
+                Form::One => &BUSY_COMMENTS,
+                Form::Two => &LONG_BUSY_COMMENTS,
+            };
             self.spans.truncate(1);
             for _ in 0..8 {
                 let (start, end) = self.rising_minutes();

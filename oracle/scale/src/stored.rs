@@ -6,11 +6,28 @@ use std::path::Path;
 use oracle::bits::from_hex;
 
 use crate::answer::{Answer, FOLD_NUMBERS, LOOKUP_NUMBERS, Numbers, WRITTEN_NUMBERS};
-use crate::archive::{self, Writing};
+use crate::archive::{self, Given, Writing};
 use crate::expected::Sheet;
 
-/// Sheet, numbers and, where the file has one, result of each stored case.
-fn cases(file: &str, numbers: usize) -> Vec<(Vec<u8>, Vec<u64>, Vec<u8>)> {
+struct Case {
+    form: u64,
+    sheet: Vec<u8>,
+    numbers: Vec<u64>,
+    /// Nothing where the file has none.
+    result: Vec<u8>,
+}
+
+impl Case {
+    fn given(&self) -> Given<'_> {
+        Given {
+            form: self.form,
+            bytes: &self.sheet,
+        }
+    }
+}
+
+/// The cases of a file, each of which has so many numbers behind its sheet.
+fn cases(file: &str, numbers: usize) -> Vec<Case> {
     let folder = Path::new(env!("CARGO_MANIFEST_DIR")).join("../../crates/replay/data");
     let text = fs::read_to_string(folder.join(file)).expect("the stored answers are there");
 
@@ -18,19 +35,23 @@ fn cases(file: &str, numbers: usize) -> Vec<(Vec<u8>, Vec<u64>, Vec<u8>)> {
         .filter(|line| !line.starts_with('#'))
         .map(|line| {
             let fields: Vec<&str> = line.split(' ').collect();
-            let (sheet, rest) = fields.split_first().expect("a line has fields");
+            let [form, sheet, rest @ ..] = fields.as_slice() else {
+                panic!("a case has a form and a sheet");
+            };
             let (counted, result) = rest.split_at(numbers);
-            let counted = counted
-                .iter()
-                .map(|number| number.parse().expect("a number"));
 
-            (
-                bytes(sheet),
-                counted.collect(),
-                result.first().map_or_else(Vec::new, |hex| bytes(hex)),
-            )
+            Case {
+                form: number(form),
+                sheet: bytes(sheet),
+                numbers: counted.iter().map(|field| number(field)).collect(),
+                result: result.first().map_or_else(Vec::new, |hex| bytes(hex)),
+            }
         })
         .collect()
+}
+
+fn number(field: &str) -> u64 {
+    field.parse().expect("a number")
 }
 
 fn bytes(hex: &str) -> Vec<u8> {
@@ -41,17 +62,18 @@ fn bytes(hex: &str) -> Vec<u8> {
 }
 
 fn check_writing(file: &str, function: Writing, sort: Numbers, ample: fn(&Sheet) -> Answer) {
-    for (sheet, numbers, result) in cases(file, 1 + sort.count) {
-        let (room, numbers) = (numbers[0] as usize, numbers[1..].to_vec());
+    for case in cases(file, 1 + sort.count) {
+        let (form, sheet) = (case.form, &case.sheet);
+        let room = case.numbers[0] as usize;
         let stored = Answer {
             sort,
-            numbers,
-            result,
+            numbers: case.numbers[1..].to_vec(),
+            result: case.result.clone(),
         };
         assert_eq!(
-            ample(&Sheet::new(&sheet)).in_room(room),
+            ample(&Sheet::new(case.given())).in_room(room),
             stored,
-            "expected of {sheet:02X?}"
+            "expected of {sheet:02X?} in form {form}"
         );
 
         let mut given = Answer {
@@ -59,9 +81,13 @@ fn check_writing(file: &str, function: Writing, sort: Numbers, ample: fn(&Sheet)
             numbers: vec![0; sort.count],
             result: vec![0; room],
         };
-        assert!(function(&sheet, &mut given.result, &mut given.numbers));
+        assert!(function(
+            case.given(),
+            &mut given.result,
+            &mut given.numbers
+        ));
         given.result.truncate(stored.result.len());
-        assert_eq!(given, stored, "given for {sheet:02X?}");
+        assert_eq!(given, stored, "given for {sheet:02X?} in form {form}");
     }
 }
 
@@ -87,19 +113,31 @@ fn lines() {
 }
 
 #[test]
+fn conversions() {
+    check_writing("convert.txt", archive::convert, WRITTEN_NUMBERS, |sheet| {
+        sheet.convert()
+    });
+}
+
+#[test]
 fn lookups() {
-    for (sheet, numbers, _) in cases("lookup.txt", 4 + LOOKUP_NUMBERS.count) {
-        let (moment, stored) = numbers
+    for case in cases("lookup.txt", 4 + LOOKUP_NUMBERS.count) {
+        let (form, sheet) = (case.form, &case.sheet);
+        let (moment, stored) = case
+            .numbers
             .split_first_chunk()
             .expect("a moment has four numbers");
-        let expected = Sheet::new(&sheet).lookup(*moment);
+        let expected = Sheet::new(case.given()).lookup(*moment);
         assert_eq!(
             expected.numbers, stored,
-            "expected of {sheet:02X?} at {moment:?}"
+            "expected of {sheet:02X?} in form {form} at {moment:?}"
         );
 
         let mut given = vec![0; LOOKUP_NUMBERS.count];
-        assert!(archive::lookup(&sheet, *moment, &mut given));
-        assert_eq!(given, stored, "given for {sheet:02X?} at {moment:?}");
+        assert!(archive::lookup(case.given(), *moment, &mut given));
+        assert_eq!(
+            given, stored,
+            "given for {sheet:02X?} in form {form} at {moment:?}"
+        );
     }
 }

@@ -1,9 +1,10 @@
 //! What a run met: how often each code and each reason, how many rules were drained, emitted and left, which ranges overlap, how long
-//! lines were.
+//! lines were, and which forms.
 
 use std::fmt::{Display, Formatter, Result};
 
 use crate::expected::Accepted;
+use crate::forms_tally::Forms;
 use crate::line::{REASONS, Unsaid};
 use crate::overlap_tally::Overlaps;
 use crate::points::{BOX_LIMIT, Extent, LIST_LIMIT};
@@ -11,8 +12,8 @@ use crate::rule::{ITEM_LIMIT, RULE_LIMIT, Rule};
 use crate::sizes::{Sizes, add_each, met};
 use crate::why::{Reasons, WHYS};
 
-/// Codes go from 0 to 11.
-const CODES: usize = 12;
+/// Codes go from 0 to 12.
+pub const CODES: usize = 13;
 
 /// Accepted folds that stand exactly at a limit.
 #[derive(Default)]
@@ -114,6 +115,7 @@ impl Display for Lines {
 pub struct Tally {
     pub sheets: u64,
     pub short_buffers: u64,
+    pub forms: Forms,
     folded_whole: u64,
     at_limits: AtLimits,
     fold_codes: [u64; CODES],
@@ -174,6 +176,7 @@ impl Tally {
     pub fn add(&mut self, other: &Self) {
         self.sheets += other.sheets;
         self.short_buffers += other.short_buffers;
+        self.forms.add(&other.forms);
         self.folded_whole += other.folded_whole;
         add_each(&mut self.at_limits.0, &other.at_limits.0);
         add_each(&mut self.fold_codes, &other.fold_codes);
@@ -210,10 +213,11 @@ impl Display for Tally {
         writeln!(f, "  left {}", self.left)?;
         writeln!(f, "{}", self.stopped)?;
         writeln!(f, "{}", self.overlaps)?;
-        write!(f, "{}", self.lines)
+        writeln!(f, "{}", self.lines)?;
+        write!(f, "{}", self.forms)
     }
 }
 
-fn by_code(codes: &[u64; CODES]) -> String {
+pub fn by_code(codes: &[u64; CODES]) -> String {
     met(codes.iter().copied().enumerate())
 }

@@ -1,13 +1,15 @@
 //! Sheets that a line can say: of those made anyhow few have a line, so that some are made to have one, and some all but.
 
+use oracle::form::Form;
+
 use crate::random::Random;
 use crate::rule::{MONTHS, NORMAL, Rule, Span, Stepped, Time, fixed, fixed_time};
 use crate::stock::{MINUTES, variable_time};
 use crate::stoppers::{stopping_monthday, stopping_weekday};
 use crate::why::is_plain_weekday;
 
-/// Takes away all that a line can't say, and adds operators of every sort and numbers of every length.
-pub fn make_sayable(rules: &mut Vec<Rule>, random: &mut Random, rising: bool) {
+/// Takes away all that a line can't say, and adds operators of every sort and numbers of every length, comments up to those of a form.
+pub fn make_sayable(rules: &mut Vec<Rule>, random: &mut Random, rising: bool, comment_form: Form) {
     if random.percent(1) {
         rules.clear();
     }
@@ -20,7 +22,7 @@ pub fn make_sayable(rules: &mut Vec<Rule>, random: &mut Random, rising: bool) {
     for rule in rules.iter_mut() {
         take_unsaid(rule, random);
         if random.percent(20) {
-            rule.comment = any_digits(random, 16);
+            rule.comment = any_digits(random, comment_form.comment_width() as u32);
         }
         // The Rust's constructors ask for steps that fit the range.
         if !rising && random.percent(5) {

@@ -9,4 +9,4 @@ state-class-spec =
     tie.close
     (tie.spec (λ c. plain-open _ (omega arith)) (λ c. plain-closed _ (omega arith)) (λ c. plain-unknown _ (omega arith))
     (λ c. open-class _ (omega arith) (omega arith))
-    (λ c. closed-class _ (omega arith) (omega arith)) (λ c. unknown-class _ (omega arith)))
+    (λ c. closed-class _ (omega arith) (omega arith)) (λ c. unknown-class _ (omega arith) (omega arith)))

@@ -16,7 +16,7 @@ use Rattle.day_writer.proofs.measure_entries.Kinds as measure-entries-k
 use Rattle.day_writer.proofs.+measure_entries.Lts-measure_entries as measure-entries-lts
 
 abbrev μ-measure-entries : Measures 2 measure-entries-kinds.ps ℕ
-μ-measure-entries κs a = a .1 .1 .0
+μ-measure-entries κs a = a .1 .1 .1 .0
 
 abbrev measure-entries-at : ℕ → In 2 measure-entries-kinds.ps
 measure-entries-at t = and 2 measure-entries-kinds.ps (is 2 measure-entries-kinds.ps μ-measure-entries t) measure-entries.Pre
@@ -32,61 +32,61 @@ pub +measure-entries-spec : {M : Type 1} → statement M
     (λ c.
     let entry = c .before .before .before in
     let args = entry .args in (
-      λ operator ends h. no-size operator ends (args .item-counts .now) (args .words .now) (args .at) (args .words-left) (c .if1 .taken),
+      λ operator ends h. no-size _ operator ends (args .item-counts .now) (args .words .now) (args .at) (args .words-left) (c .if1 .taken),
       omega arith,
       omega arith,
     ))
     (λ c.
     let entry = c .before .before .before in
     let pre = entry .pre in
-    let s = step _ _ _ _ (c .if1 .left) refl (pre .1 .1 .0) in
+    let s = step _ _ _ _ _ (c .if1 .left) refl (pre .1 .1 .0) in
     omega (arith, s .within, pre .1 .1 .0 .inside))
     (λ c. search needs)
     (λ c.
     let entry = c .before .before .before .before in
     let pre = entry .pre in
-    let s = step _ _ _ _ (c .before .if1 .left) refl (pre .1 .1 .0) in
+    let s = step _ _ _ _ _ (c .before .if1 .left) refl (pre .1 .1 .0) in
     omega (arith, s .within, pre .1 .1 .0 .inside))
     (λ c κs. search needs)
     (λ c.
     let if1 = c .before .before in
     let entry = if1 .before .before .before in
     let pre = entry .pre in
-    let s = step _ _ _ _ (if1 .if1 .left) (c .u64-to-usize .ensures) (pre .1 .1 .0) in
+    let s = step _ _ _ _ _ (if1 .if1 .left) (c .u64-to-usize .ensures) (pre .1 .1 .0) in
     omega (arith, s .within, pre .1 .1 .0 .inside))
     (λ c κs.
     let if1 = c .before .before in
     let entry = if1 .before .before .before in
     let pre = entry .pre in
-    let s = step _ _ _ _ (if1 .if1 .left) (c .u64-to-usize .ensures) (pre .1 .1 .0) in
+    let s = step _ _ _ _ _ (if1 .if1 .left) (c .u64-to-usize .ensures) (pre .1 .1 .0) in
     (pre .1 .0, (omega (arith, s .within, pre .1 .1 .0 .inside), s .few)))
     (λ c.
     let if1 = c .before .before .before in
     let entry = if1 .before .before .before in
     let pre = entry .pre in
-    let s = step _ _ _ _ (if1 .if1 .left) (c .before .u64-to-usize .ensures) (pre .1 .1 .0) in
+    let s = step _ _ _ _ _ (if1 .if1 .left) (c .before .u64-to-usize .ensures) (pre .1 .1 .0) in
     omega (arith, s .within, pre .1 .1 .0 .inside))
     (λ c.
     let if1 = c .before .before .before in
     let entry = if1 .before .before .before in
     let pre = entry .pre in
-    let s = step _ _ _ _ (if1 .if1 .left) (c .before .u64-to-usize .ensures) (pre .1 .1 .0) in
+    let s = step _ _ _ _ _ (if1 .if1 .left) (c .before .u64-to-usize .ensures) (pre .1 .1 .0) in
     omega (arith, s .within, pre .1 .1 .0 .inside))
     (λ c.
     let if1 = c .before .before .before in
     let entry = if1 .before .before .before in
-    let s = step _ _ _ _ (if1 .if1 .left) (c .before .u64-to-usize .ensures) (entry .pre .1 .1 .0) in
+    let s = step _ _ _ _ _ (if1 .if1 .left) (c .before .u64-to-usize .ensures) (entry .pre .1 .1 .0) in
     omega (arith, s .within))
     (λ c.
     let if1 = c .before .before .before in
     let entry = if1 .before .before .before in
-    let s = step _ _ _ _ (if1 .if1 .left) (c .before .u64-to-usize .ensures) (entry .pre .1 .1 .0) in
+    let s = step _ _ _ _ _ (if1 .if1 .left) (c .before .u64-to-usize .ensures) (entry .pre .1 .1 .0) in
     omega (arith, s .within))
     (λ c κs.
     let if1 = c .before .before .before in
     let entry = if1 .before .before .before in
     let pre = entry .pre in
-    let s = step _ _ _ _ (if1 .if1 .left) (c .before .u64-to-usize .ensures) (pre .1 .1 .0) in
+    let s = step _ _ _ _ _ (if1 .if1 .left) (c .before .u64-to-usize .ensures) (pre .1 .1 .0) in
     (omega (arith, pre .0, s .within), (pre .1 .0, (s .behind, omega (arith, pre .1 .1 .1)))))
     (λ c.
     let entry = c .before .before .before .before .before .before .before .before in
@@ -103,10 +103,10 @@ pub +measure-entries-spec : {M : Type 1} → statement M
     let if1 = cast .before .before in
     let entry = if1 .before .before .before in
     let a = entry .args in
-    let s = step _ _ _ _ (if1 .if1 .left) (cast .u64-to-usize .ensures) (entry .pre .1 .1 .0) in (
+    let s = step _ _ _ _ _ (if1 .if1 .left) (cast .u64-to-usize .ensures) (entry .pre .1 .1 .0) in (
       λ operator ends h. (
-        entries-count operator ends (a .item-counts .now) (a .words .now) (a .at) (a .words-left) _ s _ (at-measure-entries .measure-entries .ensures .0 1 ends h .0),
-        entries-size operator ends (a .item-counts .now) (a .words .now) (a .at) (a .words-left) _ s _ _ (rule-bits .rule-bits .ensures .0 operator _ ends h)
+        entries-count _ operator ends (a .item-counts .now) (a .words .now) (a .at) (a .words-left) _ s _ (at-measure-entries .measure-entries .ensures .0 1 ends h .0),
+        entries-size _ operator ends (a .item-counts .now) (a .words .now) (a .at) (a .words-left) _ s _ _ (rule-bits .rule-bits .ensures .0 operator _ ends h)
             (at-measure-entries .measure-entries .ensures .0 1 ends h .1),
       ),
       omega (arith, s .within, at-measure-entries .measure-entries .ensures .1),

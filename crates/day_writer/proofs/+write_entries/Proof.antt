@@ -17,7 +17,7 @@ use Rattle.day_writer.proofs.write_entries.Kinds as write-entries-kinds
 use Rattle.day_writer.proofs.+write_entries.Lts-write_entries as write-entries-lts
 
 abbrev μ-write-entries : Measures 4 write-entries-kinds.ps ℕ
-μ-write-entries κs a = a .1 .1 .1 .1 .1 .0
+μ-write-entries κs a = a .1 .1 .1 .1 .1 .1 .0
 
 abbrev write-entries-at : ℕ → In 4 write-entries-kinds.ps
 write-entries-at t = and 4 write-entries-kinds.ps (is 4 write-entries-kinds.ps μ-write-entries t) write-entries.Pre
@@ -33,17 +33,17 @@ pub +write-entries-spec : {M : Type 1} → statement M
     (λ c.
     let entry = c .before .before .before .before .before in
     let args = entry .args in
-    wrote-none (no-bits (args .operator) (args .ends .now) (args .item-counts .now) (args .words .now) (args .next) (args .words-left) (c .if1 .taken)))
+    wrote-none (no-bits _ (args .operator) (args .ends .now) (args .item-counts .now) (args .words .now) (args .next) (args .words-left) (c .if1 .taken)))
     (λ c.
     let entry = c .before .before .before .before .before in
     let pre = entry .pre in
-    let s = step _ _ _ _ (c .if1 .left) refl (pre .1 .1 .0) in
+    let s = step _ _ _ _ _ (c .if1 .left) refl (pre .1 .1 .0) in
     omega (arith, s .within, pre .1 .1 .0 .inside))
     (λ c. search needs)
     (λ c.
     let entry = c .before .before .before .before .before .before in
     let pre = entry .pre in
-    let s = step _ _ _ _ (c .before .if1 .left) refl (pre .1 .1 .0) in
+    let s = step _ _ _ _ _ (c .before .if1 .left) refl (pre .1 .1 .0) in
     omega (arith, s .within, pre .1 .1 .0 .inside))
     (λ c κs. search needs)
     (λ c. search needs)
@@ -52,14 +52,14 @@ pub +write-entries-spec : {M : Type 1} → statement M
     let if1 = cast .before .before in
     let entry = if1 .before .before .before .before .before in
     let pre = entry .pre in
-    let s = step _ _ _ _ (if1 .if1 .left) (cast .u64-to-usize .ensures) (pre .1 .1 .0) in
+    let s = step _ _ _ _ _ (if1 .if1 .left) (cast .u64-to-usize .ensures) (pre .1 .1 .0) in
     omega (arith, s .within, pre .1 .1 .0 .inside))
     (λ c.
     let cast = c .before .before in
     let if1 = cast .before .before in
     let entry = if1 .before .before .before .before .before in
     let pre = entry .pre in
-    let s = step _ _ _ _ (if1 .if1 .left) (cast .u64-to-usize .ensures) (pre .1 .1 .0) in
+    let s = step _ _ _ _ _ (if1 .if1 .left) (cast .u64-to-usize .ensures) (pre .1 .1 .0) in
     omega (arith, s .within, pre .1 .1 .0 .inside))
     (λ c κs.
     let cast = c .before .before in
@@ -67,9 +67,9 @@ pub +write-entries-spec : {M : Type 1} → statement M
     let entry = if1 .before .before .before .before .before in
     let args = entry .args in
     let pre = entry .pre in
-    let s = step _ _ _ _ (if1 .if1 .left) (cast .u64-to-usize .ensures) (pre .1 .1 .0) in
-    let bits = entries-bits (args .operator) (args .ends .now) (args .item-counts .now) (args .words .now) (args .next) (args .words-left) _ s in (
-      (pre .1 .0, s .state),
+    let s = step _ _ _ _ _ (if1 .if1 .left) (cast .u64-to-usize .ensures) (pre .1 .1 .0) in
+    let bits = entries-bits _ (args .operator) (args .ends .now) (args .item-counts .now) (args .words .now) (args .next) (args .words-left) _ s in (
+      (pre .1 .0, s .first .commented),
       (pre .1 .1 .1 .0, ((omega (arith, s .within, pre .1 .1 .0 .inside), s .few, s .first .spanned), room-first _ _ (room-as bits (pre .1 .1 .1 .1)))),
     ))
     (λ c.
@@ -77,26 +77,26 @@ pub +write-entries-spec : {M : Type 1} → statement M
     let if1 = cast .before .before in
     let entry = if1 .before .before .before .before .before in
     let pre = entry .pre in
-    let s = step _ _ _ _ (if1 .if1 .left) (cast .u64-to-usize .ensures) (pre .1 .1 .0) in
+    let s = step _ _ _ _ _ (if1 .if1 .left) (cast .u64-to-usize .ensures) (pre .1 .1 .0) in
     omega (arith, s .within, pre .1 .1 .0 .inside))
     (λ c.
     let cast = c .before .before .before .before .before .before in
     let if1 = cast .before .before in
     let entry = if1 .before .before .before .before .before in
     let pre = entry .pre in
-    let s = step _ _ _ _ (if1 .if1 .left) (cast .u64-to-usize .ensures) (pre .1 .1 .0) in
+    let s = step _ _ _ _ _ (if1 .if1 .left) (cast .u64-to-usize .ensures) (pre .1 .1 .0) in
     omega (arith, s .within, pre .1 .1 .0 .inside))
     (λ c.
     let cast = c .before .before .before .before .before .before in
     let if1 = cast .before .before in
     let entry = if1 .before .before .before .before .before in
-    let s = step _ _ _ _ (if1 .if1 .left) (cast .u64-to-usize .ensures) (entry .pre .1 .1 .0) in
+    let s = step _ _ _ _ _ (if1 .if1 .left) (cast .u64-to-usize .ensures) (entry .pre .1 .1 .0) in
     omega (arith, s .within))
     (λ c.
     let cast = c .before .before .before .before .before .before in
     let if1 = cast .before .before in
     let entry = if1 .before .before .before .before .before in
-    let s = step _ _ _ _ (if1 .if1 .left) (cast .u64-to-usize .ensures) (entry .pre .1 .1 .0) in
+    let s = step _ _ _ _ _ (if1 .if1 .left) (cast .u64-to-usize .ensures) (entry .pre .1 .1 .0) in
     omega (arith, s .within))
     (λ c κs.
     let put-rule = c .before .before .before in
@@ -105,8 +105,8 @@ pub +write-entries-spec : {M : Type 1} → statement M
     let entry = if1 .before .before .before .before .before in
     let args = entry .args in
     let pre = entry .pre in
-    let s = step _ _ _ _ (if1 .if1 .left) (cast .u64-to-usize .ensures) (pre .1 .1 .0) in
-    let bits = entries-bits (args .operator) (args .ends .now) (args .item-counts .now) (args .words .now) (args .next) (args .words-left) _ s in (
+    let s = step _ _ _ _ _ (if1 .if1 .left) (cast .u64-to-usize .ensures) (pre .1 .1 .0) in
+    let bits = entries-bits _ (args .operator) (args .ends .now) (args .item-counts .now) (args .words .now) (args .next) (args .words-left) _ s in (
       omega (arith, pre .0, s .within),
       (omega arith, (s .behind, (pre .1 .1 .1 .0, room-rest (put-rule .put-rule .ensures) _ (room-as bits (pre .1 .1 .1 .1))))),
     ))
@@ -118,6 +118,6 @@ pub +write-entries-spec : {M : Type 1} → statement M
     let if1 = cast .before .before in
     let entry = if1 .before .before .before .before .before in
     let args = entry .args in
-    let s = step _ _ _ _ (if1 .if1 .left) (cast .u64-to-usize .ensures) (entry .pre .1 .1 .0) in
-    wrote-as (entries-bits (args .operator) (args .ends .now) (args .item-counts .now) (args .words .now) (args .next) (args .words-left) _ s)
+    let s = step _ _ _ _ _ (if1 .if1 .left) (cast .u64-to-usize .ensures) (entry .pre .1 .1 .0) in
+    wrote-as (entries-bits _ (args .operator) (args .ends .now) (args .item-counts .now) (args .words .now) (args .next) (args .words-left) _ s)
     (wrote-then (put-rule .put-rule .ensures) (at-write-entries .write-entries .ensures)))

@@ -4,6 +4,7 @@ use mathlib.Core.List.{List}
 use Prim.Native.Nat.{ℕ}
 use borrow.Author.Needs.{needs}
 use lib.ListN.{length}
+use Rattle.forms.specs.Form.{asForm}
 use Rattle.tables.specs.Items.{rowsBelow}
 use Rattle.day_writer.specs.Rules.{rulesBits, dayIn}
 use Rattle.day_writer.proofs.Laid.{entries-day}
@@ -16,7 +17,7 @@ returns c =
     let measured = c .measure-entries .ensures in
     let same : (ends : List ℕ) → _ =
     λ ends. sym (entries-day (rowsBelow ends (args .item-counts .now) 4) (dayIn (args .words .now) 0 (args .count))) in (
-      λ ends h. (ap length (same ends) ∙ measured .0 0 ends h .0, ap (λ rs. length (rulesBits rs)) (same ends) ∙ measured .0 0 ends h .1),
+      λ ends h. (ap length (same ends) ∙ measured .0 0 ends h .0, ap (λ rs. length (rulesBits (asForm (args .form)) rs)) (same ends) ∙ measured .0 0 ends h .1),
       measured .1,
       measured .2,
     )

@@ -3,6 +3,7 @@ use mathlib.Core.Path.{sym, ap}
 use native.Mathlib.Omega.{arith}
 use borrow.Author.Needs.{needs}
 use Rattle.item_writer.proofs.Chain.{room-as, wrote-as}
+use Rattle.forms.specs.Form.{asForm}
 use Rattle.tables.specs.Items.{rowsBelow}
 use Rattle.day_writer.specs.Rules.{rulesBits, dayIn}
 use Rattle.day_writer.proofs.Laid.{entries-day}
@@ -19,7 +20,7 @@ write-entries-requires c κs =
         pre .0,
         (
           pre .1 .0,
-          room-as (ap rulesBits (sym (entries-day (rowsBelow (a .ends .now) (a .item-counts .now) 4) (dayIn (a .words .now) 0 (a .count))))) (pre .1 .1),
+          room-as (ap (rulesBits (asForm (a .form))) (sym (entries-day (rowsBelow (a .ends .now) (a .item-counts .now) 4) (dayIn (a .words .now) 0 (a .count))))) (pre .1 .1),
         ),
       ),
     )
@@ -29,7 +30,7 @@ returns c =
     let write-entries = c .before .before in
     let entry = write-entries .before .before .before .before .before .before in
     let a = entry .args in
-    wrote-as (ap rulesBits (sym (entries-day (rowsBelow (a .ends .now) (a .item-counts .now) 4) (dayIn (a .words .now) 0 (a .count)))))
+    wrote-as (ap (rulesBits (asForm (a .form))) (sym (entries-day (rowsBelow (a .ends .now) (a .item-counts .now) 4) (dayIn (a .words .now) 0 (a .count)))))
     (write-entries .write-entries .ensures)
 
 pub write-day-spec : {M : Type 1} → statement M

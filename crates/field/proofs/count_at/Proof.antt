@@ -5,18 +5,24 @@ use Rattle.field.proofs.Taking.{test-passed, test-failed, still-refused
 use Rattle.field.proofs.count_at.Statement.{statement}
 use Rattle.field.proofs.count_at.Tie as tie
 
+returns : tie.Need-returns
+returns c =
+    let width = c .before .before .before in
+    rw (sym (width .item-count-width .ensures .0)) (still-refused _ _ _ _ _ _ (c .before .before .take-at .ensures) _ _ (c .enum-told .given .1))
+
 returns-2 : tie.Need-returns-2
 returns-2 c =
     let taken = c .before .before .before in
-    test-passed _ _ _ _ _ _ (taken .before .before .take-at .ensures) _ _ (taken .taken .given .1) (sym (c .before .items-allowed .ensures) ∙ c .if1 .taken)
+    rw (sym (taken .before .before .before .item-count-width .ensures .0))
+    (test-passed _ _ _ _ _ _ (taken .before .before .take-at .ensures) _ _ (taken .taken .given .1) (sym (c .before .items-allowed .ensures) ∙ c .if1 .taken))
 
 returns-3 : tie.Need-returns-3
 returns-3 c =
     let taken = c .before .before .before in
-    test-failed _ _ _ _ _ _ (taken .before .before .take-at .ensures) _ _ (taken .taken .given .1) (sym (c .before .items-allowed .ensures) ∙ c .if1 .left)
+    rw (sym (taken .before .before .before .item-count-width .ensures .0))
+    (test-failed _ _ _ _ _ _ (taken .before .before .take-at .ensures) _ _ (taken .taken .given .1) (sym (c .before .items-allowed .ensures) ∙ c .if1 .left))
 
 pub count-at-spec : {M : Type 1} → statement M
 count-at-spec =
     tie.close
-    (tie.spec (λ c κs. search needs) (λ c. search needs) (λ c. search needs)
-    (λ c. still-refused _ _ _ _ _ _ (c .before .before .take-at .ensures) _ _ (c .enum-told .given .1)) (λ c κs. search needs) returns-2 returns-3)
+    (tie.spec (λ c κs. search needs) (λ c. search needs) (λ c. search needs) (λ c. search needs) returns (λ c κs. search needs) returns-2 returns-3)

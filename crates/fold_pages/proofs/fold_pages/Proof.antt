@@ -102,10 +102,10 @@ returns c =
     let a = entry .args in
     let pre = entry .pre in
     let cells = lent (boxes .result) _ (numbers .result) (boxes .ensures) (pre .0 .2 .few-boxes) (numbers .ensures) in
-    λ rs tables boxed. pages-folded (now (a .states)) (now (a .span-counts)) (now (a .spans)) (now (a .row-starts)) (now (a .sizes)) (now (a .cuts))
+    λ rs form tables boxed commented. pages-folded (now (a .states)) (now (a .span-counts)) (now (a .spans)) (now (a .row-starts)) (now (a .sizes)) (now (a .cuts))
     (now (a .lists)) _ _ rs tables boxed (length (take (boxes .result) (numbers .result))) cells (numbered .ensures)
     (numbered .kept .1 .1 .1 .1 .1 .0) (numbered .last .1 .1 .1 .1 .0) _
-    (omega (arith, cells, pre .1, numbered .kept .1 .1 .1 .1 .0)) (popped .ensures .1) _ (popped .ensures .0) _ (c .count-pages .ensures)
+    (omega (arith, cells, pre .1, numbered .kept .1 .1 .1 .1 .0)) (popped .ensures .1) _ (popped .ensures .0) form commented _ (c .count-pages .ensures)
 
 pub fold-pages-spec : {M : Type 1} → statement M
 fold-pages-spec =

@@ -1,35 +1,34 @@
--- `hours::fold` meets its contract: a refused sheet is refused as the definition refuses it, and the rules of any other are folded.
+-- `hours::fold` meets its contract: in the form that the number names, or refused.
 use mathlib.Core.Path.{sym, ap, _∙_}
-use native.Mathlib.Omega.{arith}
 use lib.ListN.{length}
 use borrow.Author.Needs.{needs}
-use Rattle.sheet.proofs.Begins.{begun-length}
-use Rattle.normalize.proofs.Answers as answers
-use Rattle.hours.proofs.Checked.{rules-read, sheet-refused}
+use Rattle.definition.specs.Sheet.{limits1}
+use Rattle.definition.specs.Fold.{buffer, numbers, refusal, fold}
+use Rattle.definition.specs.Forms.{foldIn}
+use Rattle.hours.proofs.Entries.{form-known, form-unknown}
 use Rattle.hours.proofs.fold.Statement.{statement}
 use Rattle.hours.proofs.fold.Tie as tie
 
-slice-aggregate-fold-rules : tie.Need-slice-aggregate-fold-rules
-slice-aggregate-fold-rules c = sym (ap length (c .before .before .before .before .check .ensures .1) ∙ begun-length _ _)
-
-fold-rules-requires : tie.Need-fold-rules-requires
-fold-rules-requires c κs =
-    let checked = c .before .before .before in
-    let at-check = checked .before .before in
-    let check = at-check .check in
-    rules-read _ _ (check .ensures .0) _ _ (check .ensures .1) (omega arith) _ _ (checked .checked .given .1)
+returns : tie.Need-returns
+unfolding foldIn
+returns c =
+    let called = c .before .before in
+    let named = called .before .before .before in
+    let form = named .before .before in
+    let a = form .before .before .before .args in
+    let same = form-known refusal (λ form. fold form limits1 (length (a .out .now)) (a .sheet .now)) (a .form) _ (form .form-of .ensures) _ (named .named .given .1) in
+    (called .fold .ensures .0 ∙ sym (ap numbers same), called .fold .ensures .1 ∙ sym (ap (λ w. buffer (w .result) (a .out .now)) same))
 
 returns-2 : tie.Need-returns-2
+unfolding foldIn
 returns-2 c =
-    let checked2 = c .before .before in
-    let check = checked2 .before .before in
-    let entry = check .before .before .before .before in
-    let args = entry .args in
-    let refusal = sheet-refused (args .sheet .now) _ (check .check .ensures .0) _ _ (checked2 .checked2 .given .1) in
-    answers.sheet-refused (args .sheet .now) (args .out .now) _ _ _ refusal (c .fold-refused .ensures)
+    let told = c .before in
+    let form = told .before .before in
+    let a = form .before .before .before .args in
+    let same = form-unknown refusal (λ form. fold form limits1 (length (a .out .now)) (a .sheet .now)) (a .form) _ (form .form-of .ensures) (told .enum-told .given .1) in
+    (c .fold-refused .ensures ∙ sym (ap numbers same), sym (ap (λ f. buffer (f .result) (a .out .now)) same))
 
 pub fold-spec : {M : Type 1} → statement M
 fold-spec =
     tie.close
-    (tie.spec (λ c κs. search needs) (λ c. search needs) slice-aggregate-fold-rules fold-rules-requires (λ c. search needs) (λ c. search needs)
-    (λ c κs. search needs) (λ c. search needs) (λ c. search needs) returns-2)
+    (tie.spec (λ c κs. search needs) (λ c. search needs) (λ c κs. search needs) (λ c. search needs) (λ c κs. search needs) (λ c. search needs) returns returns-2)

@@ -1,34 +1,34 @@
--- `hours::lookup` meets its contract: a refused sheet is refused as the definition refuses it, and else the date is looked up in its rules.
-use mathlib.Core.Path.{sym, ap, _∙_}
-use native.Mathlib.Omega.{arith}
-use lib.ListN.{length}
+-- `hours::lookup` meets its contract: in the form that the number names, or refused.
+use mathlib.Core.Path.{sym, _∙_}
 use borrow.Author.Needs.{needs}
-use Rattle.sheet.proofs.Begins.{begun-length}
-use Rattle.lookup.proofs.Cases.{look-refused}
-use Rattle.hours.proofs.Checked.{rules-read, sheet-refused}
+use Rattle.definition.specs.Sheet.{limits1}
+use Rattle.definition.specs.Lookup.{refusal, lookup}
+use Rattle.definition.specs.Forms.{lookupIn}
+use Rattle.hours.proofs.Entries.{form-known, form-unknown}
 use Rattle.hours.proofs.lookup.Statement.{statement}
 use Rattle.hours.proofs.lookup.Tie as tie
 
-slice-aggregate-look-rules : tie.Need-slice-aggregate-look-rules
-slice-aggregate-look-rules c = sym (ap length (c .before .before .before .before .check .ensures .1) ∙ begun-length _ _)
-
-look-rules-requires : tie.Need-look-rules-requires
-look-rules-requires c κs =
-    let check = c .before .before .before .before .check in
-    let rules = rules-read _ _ (check .ensures .0) _ _ (check .ensures .1) (omega arith) _ _ (c .before .before .checked .given .1) in
-    (rules .0, (_, rules .1))
+returns : tie.Need-returns
+unfolding lookupIn
+returns c =
+    let named = c .before .before in
+    let form = named .before .before in
+    let a = form .before .before .args in
+    c .lookup .ensures
+    ∙ sym (form-known refusal (λ form. lookup form limits1 (a .sheet .now) (a .year) (a .month) (a .day) (a .minute)) (a .form) _ (form .form-of .ensures) _
+    (named .named .given .1))
 
 returns-2 : tie.Need-returns-2
+unfolding lookupIn
 returns-2 c =
-    let checked2 = c .before .before in
-    let check = checked2 .before .before in
-    let entry = check .before .before .before in
-    let args = entry .args in
-    let refusal = sheet-refused (args .sheet .now) _ (check .check .ensures .0) _ _ (checked2 .checked2 .given .1) in
-    c .lookup-refused .ensures ∙ sym (look-refused (args .sheet .now) (args .year) (args .month) (args .day) (args .minute) _ _ refusal)
+    let told = c .before in
+    let form = told .before .before in
+    let a = form .before .before .args in
+    c .lookup-refused .ensures
+    ∙ sym (form-unknown refusal (λ form. lookup form limits1 (a .sheet .now) (a .year) (a .month) (a .day) (a .minute)) (a .form) _ (form .form-of .ensures)
+    (told .enum-told .given .1))
 
 pub lookup-spec : {M : Type 1} → statement M
 lookup-spec =
     tie.close
-    (tie.spec (λ c κs. search needs) (λ c. search needs) slice-aggregate-look-rules look-rules-requires (λ c. search needs) (λ c. search needs)
-    (λ c κs. search needs) (λ c. search needs) returns-2)
+    (tie.spec (λ c κs. search needs) (λ c. search needs) (λ c κs. search needs) (λ c. search needs) (λ c κs. search needs) returns returns-2)

@@ -6,6 +6,7 @@ use borrow.Author.Needs.{needs}
 use borrow.Author.Tests.{ltb-true, ltb-false}
 use Rattle.definition.specs.Field.{sheetBits}
 use Rattle.definition.specs.Fold.{buffer, writtenNumbers}
+use Rattle.forms.specs.Form.{asForm}
 use Rattle.sheet.specs.Rules.{rulesAt}
 use Rattle.line.proofs.Answers.{lines-written, shown-to, shown-not, shown-long, shown-fine}
 use Rattle.line.proofs.line_of.Statement.{statement}
@@ -18,7 +19,7 @@ returns c =
     let measure = measured2 .before .before in
     let entry = measure .before .before .before .before in
     let args = entry .args in
-    let same = shown-long (rulesAt (sheetBits (args .sheet .now)) (args .begins .now) (args .count)) _ (measure .measure .ensures)
+    let same = shown-long (rulesAt (asForm (args .form)) (sheetBits (args .sheet .now)) (args .begins .now) (args .count)) _ (measure .measure .ensures)
     (length (args .out .now)) _ (measured2 .measured2 .given .1) (ltb-true _ _ (sym (room .lacks-room .ensures) ∙ c .if1 .taken)) in
     (sym (ap writtenNumbers same), sym (ap (λ w. buffer (w .result) (args .out .now)) same))
 
@@ -27,7 +28,7 @@ returns-2 c =
     let measure = c .before .before .before in
     let entry = measure .before .before .before .before in
     let args = entry .args in
-    let same = shown-not (rulesAt (sheetBits (args .sheet .now)) (args .begins .now) (args .count)) _ (measure .measure .ensures)
+    let same = shown-not (rulesAt (asForm (args .form)) (sheetBits (args .sheet .now)) (args .begins .now) (args .count)) _ (measure .measure .ensures)
     (length (args .out .now)) _ (c .before .measured .given .1) in
     (sym (ap writtenNumbers same), sym (ap (λ w. buffer (w .result) (args .out .now)) same))
 
@@ -40,12 +41,12 @@ returns-3 c =
     let measure = measured2 .before .before in
     let entry = measure .before .before .before .before in
     let args = entry .args in
-    let rs = rulesAt (sheetBits (args .sheet .now)) (args .begins .now) (args .count) in
+    let rs = rulesAt (asForm (args .form)) (sheetBits (args .sheet .now)) (args .begins .now) (args .count) in
     let words = shown-to rs _ (measure .measure .ensures) (length (args .out .now)) _ (measured2 .measured2 .given .1) in
     let enough = ltb-false _ _ (sym (room .lacks-room .ensures) ∙ branch .if1 .left) in
     let same = shown-fine rs _ (measure .measure .ensures) (length (args .out .now)) _ (measured2 .measured2 .given .1) enough in (
       sym (ap writtenNumbers same),
-      lines-written _ _ _ _ _ (show-rules .show-rules .result) (show-rules .show-rules .ensures) (words .0) (omega (arith, words .1, enough))
+      lines-written _ _ _ _ _ _ (show-rules .show-rules .result) (show-rules .show-rules .ensures) (words .0) (omega (arith, words .1, enough))
           ∙ sym (ap (λ w. buffer (w .result) (args .out .now)) same),
     )
 

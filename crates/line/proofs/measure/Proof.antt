@@ -6,4 +6,4 @@ use Rattle.line.proofs.measure.Tie as tie
 
 pub measure-spec : {M : Type 1} → statement M
 measure-spec = tie.close
-    (tie.spec (λ c. search needs) (λ c κs. search needs) (λ c. lines-measured _ _ _ _ _ (c .before .show-rules .result) (c .before .show-rules .ensures)))
+    (tie.spec (λ c. search needs) (λ c κs. search needs) (λ c. lines-measured _ _ _ _ _ _ (c .before .show-rules .result) (c .before .show-rules .ensures)))

@@ -33,7 +33,7 @@ prepare-requires c κs =
     let sheet = entry .args .sheet .now in
     let rules = entry .pre .0 in
     let read = rules .1 .1 in
-    let all = rules-few sheet _ _ (known-bytes sheet (λ j. omega (arith, known .shared-slice-known .given j))) (read .0 .read) in (
+    let all = rules-few _ sheet _ _ (known-bytes sheet (λ j. omega (arith, known .shared-slice-known .given j))) (read .0 .read) in (
       rules,
       (
         (omega (arith, all, read .1), omega (arith, all, read .1), omega (arith, all, read .1), omega (arith, all, read .1)),
@@ -45,28 +45,28 @@ mul-places : tie.Need-mul-places
 mul-places c = search (needs, few c)
 
 array-share-prefix-states : tie.Need-array-share-prefix-states
-array-share-prefix-states c = omega (arith, few c, preparing c .prepare .kept .1 .1 .1 .0)
+array-share-prefix-states c = omega (arith, few c, preparing c .prepare .kept .1 .1 .1 .1 .0)
 
 slice-aggregate-look-boxes : tie.Need-slice-aggregate-look-boxes
 slice-aggregate-look-boxes c =
     let told = c .before in
-    sym (length-take-le (told .before .judged .given .0 .0) _ (omega (arith, few told, preparing told .prepare .kept .1 .1 .1 .0)))
+    sym (length-take-le (told .before .judged .given .0 .0) _ (omega (arith, few told, preparing told .prepare .kept .1 .1 .1 .1 .0)))
 
 array-share-prefix-span-counts : tie.Need-array-share-prefix-span-counts
-array-share-prefix-span-counts c = let told = c .before in omega (arith, few told, preparing told .prepare .kept .1 .1 .1 .1 .0)
+array-share-prefix-span-counts c = let told = c .before in omega (arith, few told, preparing told .prepare .kept .1 .1 .1 .1 .1 .0)
 
 slice-aggregate-look-boxes-2 : tie.Need-slice-aggregate-look-boxes-2
 slice-aggregate-look-boxes-2 c =
     let told = c .before .before in
-    sym (length-take-le (told .before .judged .given .0 .0) _ (omega (arith, few told, preparing told .prepare .kept .1 .1 .1 .1 .0)))
+    sym (length-take-le (told .before .judged .given .0 .0) _ (omega (arith, few told, preparing told .prepare .kept .1 .1 .1 .1 .1 .0)))
 
 array-share-prefix-spans : tie.Need-array-share-prefix-spans
-array-share-prefix-spans c = let told = c .before .before in omega (arith, few told, preparing told .prepare .kept .1 .1 .1 .1 .1 .0)
+array-share-prefix-spans c = let told = c .before .before in omega (arith, few told, preparing told .prepare .kept .1 .1 .1 .1 .1 .1 .0)
 
 slice-aggregate-look-boxes-3 : tie.Need-slice-aggregate-look-boxes-3
 slice-aggregate-look-boxes-3 c =
     let told = c .before .before .before in
-    sym (length-take-le (told .before .judged .given .0 .0 * 16) _ (omega (arith, few told, preparing told .prepare .kept .1 .1 .1 .1 .1 .0)))
+    sym (length-take-le (told .before .judged .given .0 .0 * 16) _ (omega (arith, few told, preparing told .prepare .kept .1 .1 .1 .1 .1 .1 .0)))
 
 sub-look-boxes : tie.Need-sub-look-boxes
 sub-look-boxes c =
@@ -82,14 +82,14 @@ look-boxes-requires c κs =
     let pre = start p .pre in
     let read = pre .0 .1 .1 in
     let fine = judged-fine _ _ _ _ _ _ _ _ _ _ _ (p .prepare .ensures _ _ (read .0) (read .1)) _ _ (told .before .judged .given .1) in
-    ((_, prepared-lookable _ _ _ _ _ _ _ _ _ _ _ (fine .0) _ (read .1) (omega (arith, few told, p .prepare .kept .1 .1 .1 .0))), pre .1)
+    ((_, prepared-lookable _ _ _ _ _ _ _ _ _ _ _ (fine .0) _ (read .1) (omega (arith, few told, p .prepare .kept .1 .1 .1 .1 .0))), pre .1)
 
 returns : tie.Need-returns
 returns c =
     let told = c .before .before .before .before .before .before .before .before .before .before in
     let p = preparing told in λ rs end reading many.
     let fine = judged-fine _ _ _ _ _ _ _ _ _ _ _ (p .prepare .ensures rs end reading many) _ _ (told .before .judged .given .1) in
-    c .look-boxes .ensures rs (prepared-lookable _ _ _ _ _ _ _ _ _ _ _ (fine .0) _ many (omega (arith, few told, p .prepare .kept .1 .1 .1 .0)))
+    c .look-boxes .ensures rs (prepared-lookable _ _ _ _ _ _ _ _ _ _ _ (fine .0) _ many (omega (arith, few told, p .prepare .kept .1 .1 .1 .1 .0)))
 
 returns-2 : tie.Need-returns-2
 returns-2 c =

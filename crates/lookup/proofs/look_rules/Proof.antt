@@ -17,7 +17,7 @@ returns c =
     let args = entry .args in
     let read = entry .pre .1 .1 .0 .read in
     c .lookup-refused .ensures
-    ∙ sym (look-no-minute (args .sheet .now) (args .year) (args .month) (args .day) (args .minute) _ _ read
+    ∙ sym (look-no-minute _ (args .sheet .now) (args .year) (args .month) (args .day) (args .minute) _ _ read
     (leb-true _ _ (sym (midnight .past-midnight .ensures) ∙ c .before .if1 .taken)))
 
 -- behind the test the minute lies in the day
@@ -39,7 +39,7 @@ returns-2 c =
     let read = rules .1 .1 .0 .read in
     let point = point-dated _ _ _ _ (sym (ap pointIn (dated .dated .given .1)) ∙ dated .before .before .point-of .ensures) in
     c .look-moment .ensures _ _ (rules .1 .1 .0) (rules .1 .1 .1) ∙ ap (λ p. lookAt (rules .0) p (args .minute)) (point .1)
-    ∙ sym (look-dated (args .sheet .now) (args .year) (args .month) (args .day) (args .minute) _ _ read (point .0)
+    ∙ sym (look-dated _ (args .sheet .now) (args .year) (args .month) (args .day) (args .minute) _ _ read (point .0)
     (in-day branch))
 
 returns-3 : tie.Need-returns-3
@@ -49,7 +49,7 @@ returns-3 c =
     let args = entry .args in
     let read = entry .pre .1 .1 .0 .read in
     let missing = point-missing _ _ _ (sym (ap pointIn (told .enum-told .given .1)) ∙ told .before .before .point-of .ensures) in
-    c .lookup-refused2 .ensures ∙ sym (look-no-date (args .sheet .now) (args .year) (args .month) (args .day) (args .minute) _ _ read missing)
+    c .lookup-refused2 .ensures ∙ sym (look-no-date _ (args .sheet .now) (args .year) (args .month) (args .day) (args .minute) _ _ read missing)
 
 pub look-rules-spec : {M : Type 1} → statement M
 look-rules-spec =

@@ -20,7 +20,7 @@ fold-rules-in-requires-2 c κs =
     let entry = known .before in
     let sheet = entry .args .sheet .now in
     let read = entry .pre .1 in
-    let all = rules-few sheet _ _ (known-bytes sheet (λ j. omega (arith, known .shared-slice-known .given j))) (read .0 .read) in (
+    let all = rules-few _ sheet _ _ (known-bytes sheet (λ j. omega (arith, known .shared-slice-known .given j))) (read .0 .read) in (
       entry .pre,
       (
         (omega (arith, all, read .1), omega (arith, all, read .1), omega (arith, all, read .1), omega (arith, all, read .1)),

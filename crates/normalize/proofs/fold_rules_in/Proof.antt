@@ -8,7 +8,7 @@ use Rattle.field.proofs.Bytes.{known-bytes}
 use Rattle.prepare.proofs.Reading.{begins-there}
 use Rattle.prepare.proofs.ToDraw.{drained-within, prepared-to-draw, judged-fine, judged-refused}
 use Rattle.normalize.proofs.Answers.{rules-refused}
-use Rattle.normalize.proofs.Left.{rules-leaving}
+use Rattle.normalize.proofs.Left.{rules-leaving, rules-commented}
 use Rattle.normalize.proofs.fold_rules_in.Statement.{statement}
 use Rattle.normalize.proofs.fold_rules_in.Tie as tie
 
@@ -46,43 +46,43 @@ rules-left-requires c κs =
     let known = p .before .before .before .before .before .before .before .before .before .before .before .before .before .before .before .before .before .before .before .shared-slice-known in
     let bytes = known-bytes sheet (λ j. omega (arith, known .given j)) in
     let read = start p .pre .0 .1 in
-    (begins-there sheet bytes _ _ _ _ (read .0) (read .1), within c)
+    (begins-there _ sheet bytes _ _ _ _ (read .0) (read .1), within c)
 
 slice-reshare-prefix-fold-boxes : tie.Need-slice-reshare-prefix-fold-boxes
 slice-reshare-prefix-fold-boxes c =
     let told = c .before .before in
     let p = preparing told in
-    omega (arith, within told, start p .pre .1 .0 .0, p .prepare .kept .1 .1 .1 .0)
+    omega (arith, within told, start p .pre .1 .0 .0, p .prepare .kept .1 .1 .1 .1 .0)
 
 slice-aggregate-fold-boxes : tie.Need-slice-aggregate-fold-boxes
 slice-aggregate-fold-boxes c =
     let told = c .before .before .before in
     let p = preparing told in
-    sym (length-take-le (told .before .judged .given .0 .0) _ (omega (arith, within told, start p .pre .1 .0 .0, p .prepare .kept .1 .1 .1 .0)))
+    sym (length-take-le (told .before .judged .given .0 .0) _ (omega (arith, within told, start p .pre .1 .0 .0, p .prepare .kept .1 .1 .1 .1 .0)))
 
 slice-reshare-prefix-fold-boxes-2 : tie.Need-slice-reshare-prefix-fold-boxes-2
 slice-reshare-prefix-fold-boxes-2 c =
     let told = c .before .before .before in
     let p = preparing told in
-    omega (arith, within told, start p .pre .1 .0 .1, p .prepare .kept .1 .1 .1 .1 .0)
+    omega (arith, within told, start p .pre .1 .0 .1, p .prepare .kept .1 .1 .1 .1 .1 .0)
 
 slice-aggregate-fold-boxes-2 : tie.Need-slice-aggregate-fold-boxes-2
 slice-aggregate-fold-boxes-2 c =
     let told = c .before .before .before .before in
     let p = preparing told in
-    sym (length-take-le (told .before .judged .given .0 .0) _ (omega (arith, within told, start p .pre .1 .0 .1, p .prepare .kept .1 .1 .1 .1 .0)))
+    sym (length-take-le (told .before .judged .given .0 .0) _ (omega (arith, within told, start p .pre .1 .0 .1, p .prepare .kept .1 .1 .1 .1 .1 .0)))
 
 slice-reshare-prefix-fold-boxes-3 : tie.Need-slice-reshare-prefix-fold-boxes-3
 slice-reshare-prefix-fold-boxes-3 c =
     let told = c .before .before .before .before in
     let p = preparing told in
-    omega (arith, within told, start p .pre .1 .0 .2, p .prepare .kept .1 .1 .1 .1 .1 .0)
+    omega (arith, within told, start p .pre .1 .0 .2, p .prepare .kept .1 .1 .1 .1 .1 .1 .0)
 
 slice-aggregate-fold-boxes-3 : tie.Need-slice-aggregate-fold-boxes-3
 slice-aggregate-fold-boxes-3 c =
     let told = c .before .before .before .before .before in
     let p = preparing told in
-    sym (length-take-le (told .before .judged .given .0 .0 * 16) _ (omega (arith, within told, start p .pre .1 .0 .2, p .prepare .kept .1 .1 .1 .1 .1 .0)))
+    sym (length-take-le (told .before .judged .given .0 .0 * 16) _ (omega (arith, within told, start p .pre .1 .0 .2, p .prepare .kept .1 .1 .1 .1 .1 .1 .0)))
 
 fold-boxes-requires : tie.Need-fold-boxes-requires
 fold-boxes-requires c κs =
@@ -99,9 +99,10 @@ fold-boxes-requires c κs =
       record {
         end = start p .args .end;
         read = read .0 .read;
-        leaving = rules-leaving sheet bytes _ _ _ (read .0) _ _ (fine .0 .rules-many) (read .1) _ _ _ _ _ (left .0) (left .1) (left .2)
-            (length-take-le _ _ (omega (arith, within told, start p .pre .1 .0 .0, p .prepare .kept .1 .1 .1 .0))) (left .3 ∙ fine .1);
-        to-draw = prepared-to-draw _ _ _ _ _ _ _ _ _ _ _ (fine .0) (omega (arith, within told, start p .pre .1 .0 .0, p .prepare .kept .1 .1 .1 .0));
+        commented = rules-commented _ sheet bytes _ _ _ (read .0);
+        leaving = rules-leaving _ sheet bytes _ _ _ (read .0) _ _ (fine .0 .rules-many) (read .1) _ _ _ _ _ (left .0) (left .1) (left .2)
+            (length-take-le _ _ (omega (arith, within told, start p .pre .1 .0 .0, p .prepare .kept .1 .1 .1 .1 .0))) (left .3 ∙ fine .1);
+        to-draw = prepared-to-draw _ _ _ _ _ _ _ _ _ _ _ (fine .0) (omega (arith, within told, start p .pre .1 .0 .0, p .prepare .kept .1 .1 .1 .1 .0));
       },
     )
 
@@ -117,7 +118,7 @@ returns-2 c =
     let p = judging (c .before) in
     let args = start p .args in
     let read = start p .pre .0 .1 in
-    rules-refused (args .sheet .now) (args .out .now) _ _ _ (read .0 .read) _ _
+    rules-refused _ (args .sheet .now) (args .out .now) _ _ _ (read .0 .read) _ _
     (judged-refused _ _ _ _ _ _ _ _ _ _ _ (p .prepare .ensures _ _ (read .0) (read .1)) _ _ (c .before .before .judged2 .given .1)) (c .fold-refused .ensures)
 
 pub fold-rules-in-spec : {M : Type 1} → statement M
@@ -128,12 +129,12 @@ fold-rules-in-spec =
     slice-aggregate-fold-boxes slice-reshare-prefix-fold-boxes-2 slice-aggregate-fold-boxes-2 slice-reshare-prefix-fold-boxes-3
     slice-aggregate-fold-boxes-3 (λ c. search needs) (λ c. search needs) fold-boxes-requires (λ c. search needs) (λ c κs. search needs)
     (λ c. search needs)
-    (λ c. finished c .prepare .kept .1 .1 .1 .0)
     (λ c. finished c .prepare .kept .1 .1 .1 .1 .0)
     (λ c. finished c .prepare .kept .1 .1 .1 .1 .1 .0)
     (λ c. finished c .prepare .kept .1 .1 .1 .1 .1 .1 .0)
     (λ c. finished c .prepare .kept .1 .1 .1 .1 .1 .1 .1 .0)
     (λ c. finished c .prepare .kept .1 .1 .1 .1 .1 .1 .1 .1 .0)
+    (λ c. finished c .prepare .kept .1 .1 .1 .1 .1 .1 .1 .1 .1 .0)
     (λ c. search needs) (λ c. search needs)
     (λ c. search needs) (λ c. search needs) (λ c. search needs) (λ c. search needs) (λ c. search needs) (λ c. search needs) (λ c. search needs)
     returns-2)

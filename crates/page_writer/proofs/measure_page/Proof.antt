@@ -5,6 +5,7 @@ use native.Mathlib.Omega.{arith}
 use borrow.Author.Needs.{needs}
 use lib.ListN.{length}
 use Rattle.day_writer.specs.Rules.{rulesBits}
+use Rattle.forms.specs.Form.{asForm}
 use Rattle.tables.specs.Pages.{pageEnds}
 use Rattle.tables.proofs.Pages.{size-low}
 use Rattle.page_writer.proofs.Folding.{box-ready, whole, short, page-rules}
@@ -49,7 +50,7 @@ returns c =
     let few = short page _ named _ _ (day .kept .0) (day .ensures .0) (day .ensures .1) in
     let measured = c .measure-day .ensures in
     let m = measured .0 ends (page .rows .inside) in
-    (ap length (sym same) ∙ m .0, ap (λ rs. length (rulesBits rs)) (sym same) ∙ m .1, omega (arith, few, measured .1), omega (arith, few, measured .2))
+    (ap length (sym same) ∙ m .0, ap (λ rs. length (rulesBits (asForm (entry .args .form)) rs)) (sym same) ∙ m .1, omega (arith, few, measured .1), omega (arith, few, measured .2))
 
 pub measure-page-spec : {M : Type 1} → statement M
 measure-page-spec =

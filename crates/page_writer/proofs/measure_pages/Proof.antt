@@ -5,17 +5,18 @@ use native.Mathlib.Omega.{arith}
 use borrow.Author.Needs.{needs}
 use Rattle.tables.proofs.Pages.{size-low}
 use Rattle.page_writer.proofs.Reading.{cut-ready}
+use Rattle.forms.specs.Form.{asForm}
 use Rattle.page_writer.proofs.Walking.{Sized, sized-scratch, Measured, measured-none, measured-page, measured-more, measured-all}
 use Rattle.page_writer.proofs.measure_pages.Statement.{statement}
 use Rattle.page_writer.proofs.measure_pages.Tie as tie
 
 abbrev Inv-loop : tie.InvT-loop
-Inv-loop states counts spans lists pages count words₀ span-states₀ span-codes₀ strokes₀ cuts₀ intervals₀ here₀ left₀ rules₀ bits₀ words span-states span-codes strokes cuts
+Inv-loop form states counts spans lists pages count words₀ span-states₀ span-codes₀ strokes₀ cuts₀ intervals₀ here₀ left₀ rules₀ bits₀ words span-states span-codes strokes cuts
     intervals here left rules bits =
-    Measured states counts spans lists pages count left here rules bits × Sized words span-states span-codes strokes cuts intervals
+    Measured (asForm form) states counts spans lists pages count left here rules bits × Sized words span-states span-codes strokes cuts intervals
 
 abbrev μ-loop : tie.MeasureT-loop
-μ-loop states counts spans lists pages count words₀ span-states₀ span-codes₀ strokes₀ cuts₀ intervals₀ here₀ left₀ rules₀ bits₀ words span-states span-codes strokes cuts
+μ-loop form states counts spans lists pages count words₀ span-states₀ span-codes₀ strokes₀ cuts₀ intervals₀ here₀ left₀ rules₀ bits₀ words span-states span-codes strokes cuts
     intervals here left rules bits =
     left
 
@@ -23,7 +24,7 @@ loop-holds : tie.Need-loop-holds Inv-loop μ-loop
 loop-holds c =
     let words = c .before .before .before .before .before in
     let entry = words .before .before .before .before .before .before in (
-      measured-none _ _ _ _ _ _ (entry .pre .0),
+      measured-none _ _ _ _ _ _ _ (entry .pre .0),
       record {
         words = words .words .ensures;
         states = c .before .before .before .before .states .ensures;
@@ -96,7 +97,7 @@ loop-again c =
     let size = call .before .before .before .before .before .before .before .before in
     let inv = size .before .before .loop .inv in
     let page = call .measure-page .ensures in
-    let kept = call .measure-page .kept in (
+    let kept = call .measure-page .kept .1 in (
       measured-more (inv .0) (size .before .loop-test .taken) (size .page-size .ensures) (page .0) (page .1) (page .2) (page .3),
       record {
         words = inv .1 .words ∙ sym (kept .0);

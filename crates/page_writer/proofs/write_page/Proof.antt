@@ -5,6 +5,7 @@ use native.Mathlib.Omega.{arith}
 use borrow.Author.Needs.{needs}
 use Rattle.item_writer.proofs.Chain.{room-as, wrote-as}
 use Rattle.day_writer.specs.Rules.{rulesBits}
+use Rattle.forms.specs.Form.{asForm}
 use Rattle.tables.proofs.Pages.{size-low}
 use Rattle.page_writer.proofs.Folding.{ends-whole, rows-whole, box-ready, whole, page-rules}
 use Rattle.page_writer.proofs.write_page.Statement.{statement}
@@ -48,7 +49,7 @@ write-day-requires c κs =
     let day = fold-box .fold-box in
     let same = page-rules page _ named _ _ (day .kept .0) (day .ensures .0) (day .ensures .1) _ (ends-whole page all) in (
       whole page _ named _ _ (day .kept .0) (day .ensures .0) (day .ensures .1),
-      (rows-whole page all, room-as (ap rulesBits (sym same)) (entry .pre .1 .1)),
+      (rows-whole page all, room-as (ap (rulesBits (asForm (entry .args .form))) (sym same)) (entry .pre .1 .1)),
     )
 
 returns : tie.Need-returns
@@ -60,7 +61,7 @@ returns c =
     let named = ap (_- 1) (fold-box .before .u16-to-usize .ensures .0) in
     let day = fold-box .fold-box in
     let same = page-rules page _ named _ _ (day .kept .0) (day .ensures .0) (day .ensures .1) _ (ends-whole page (entry .pre .0 .1)) in
-    wrote-as (ap rulesBits (sym same)) (write-day .write-day .ensures)
+    wrote-as (ap (rulesBits (asForm (entry .args .form))) (sym same)) (write-day .write-day .ensures)
 
 pub write-page-spec : {M : Type 1} → statement M
 write-page-spec =

@@ -5,18 +5,19 @@ use native.Mathlib.Omega.{arith}
 use borrow.Author.Needs.{needs}
 use lib.ListN.{length}
 use Rattle.tables.proofs.Pages.{size-low}
+use Rattle.forms.specs.Form.{asForm}
 use Rattle.page_writer.proofs.Reading.{cut-ready, cut-whole}
 use Rattle.page_writer.proofs.Walking.{Sized, sized-scratch, Writing, writing-none, writing-page, page-room, writing-more, writing-all}
 use Rattle.page_writer.proofs.write_pages.Statement.{statement}
 use Rattle.page_writer.proofs.write_pages.Tie as tie
 
 abbrev Inv-loop : tie.InvT-loop
-Inv-loop out₀ place states counts spans lists pages count words₀ span-states₀ span-codes₀ strokes₀ cuts₀ intervals₀ here₀ left₀ next₀ out words span-states span-codes
+Inv-loop form out₀ place states counts spans lists pages count words₀ span-states₀ span-codes₀ strokes₀ cuts₀ intervals₀ here₀ left₀ next₀ out words span-states span-codes
     strokes cuts intervals here left next =
-    Writing states counts spans lists pages count out₀ place left here out next × Sized words span-states span-codes strokes cuts intervals × (length out ≡ length out₀)
+    Writing (asForm form) states counts spans lists pages count out₀ place left here out next × Sized words span-states span-codes strokes cuts intervals × (length out ≡ length out₀)
 
 abbrev μ-loop : tie.MeasureT-loop
-μ-loop out₀ place states counts spans lists pages count words₀ span-states₀ span-codes₀ strokes₀ cuts₀ intervals₀ here₀ left₀ next₀ out words span-states span-codes
+μ-loop form out₀ place states counts spans lists pages count words₀ span-states₀ span-codes₀ strokes₀ cuts₀ intervals₀ here₀ left₀ next₀ out words span-states span-codes
     strokes cuts intervals here left next =
     left
 
@@ -24,7 +25,7 @@ loop-holds : tie.Need-loop-holds Inv-loop μ-loop
 loop-holds c =
     let words = c .before .before .before .before .before in
     let entry = words .before .before .before .before .before .before .before in (
-      writing-none _ _ _ _ _ _ (entry .pre .0) _ _ (entry .pre .1),
+      writing-none _ _ _ _ _ _ _ (entry .pre .0) _ _ (entry .pre .1),
       record {
         words = words .words .ensures;
         states = c .before .before .before .before .states .ensures;
@@ -86,7 +87,7 @@ loop-again c =
     let call = c .before .before .before .before .before .before .before .before in
     let size = call .before .before .before .before .before .before .before .before .before in
     let inv = size .before .before .loop .inv in
-    let kept = call .write-page .kept in
+    let kept = call .write-page .kept .1 in
     let scratch = kept .1 .1 in (
       writing-more (inv .0) (size .before .loop-test .taken) (size .page-size .ensures) (call .write-page .ensures),
       record {

@@ -9,7 +9,7 @@ use std::time::{Duration, Instant};
 
 use oracle::bits::to_hex;
 use oracle::fold::{normalize_sheet, read_expression};
-use scale::archive::{self, numbers};
+use scale::archive::{self, Given, numbers};
 use scale::bench_sheets::{BenchSheet, bench_sheets};
 use scale::check_sheets::check_sheets;
 use scale::line_sheets::line_sheets;
@@ -49,7 +49,7 @@ const NO_ROOM: u64 = 7;
 
 fn print_sheet(sheet: &BenchSheet) {
     let expression =
-        read_expression(&sheet.bytes).expect("the Rust holds every sheet of the bench");
+        read_expression(sheet.form, &sheet.bytes).expect("the Rust holds every sheet of the bench");
     println!(
         "{}\n  {}\n  {expression}\n",
         sheet.name,
@@ -58,7 +58,7 @@ fn print_sheet(sheet: &BenchSheet) {
 }
 
 /// What is called with each sheet of a table.
-type Call = fn(&[u8], &mut [u8]);
+type Call = fn(Given, &mut [u8]);
 
 fn table_of(name: &str) -> Option<(Vec<BenchSheet>, Call)> {
     match name {
@@ -70,26 +70,26 @@ fn table_of(name: &str) -> Option<(Vec<BenchSheet>, Call)> {
 }
 
 fn profile(sheets: &[BenchSheet], call: Call, sheet: usize, runs: usize) {
-    let sheet = &sheets[sheet - 1].bytes;
+    let given = sheets[sheet - 1].given();
     let mut out = vec![0; ROOM];
 
     for _ in 0..runs {
-        call(black_box(sheet), black_box(&mut out));
+        call(black_box(given), black_box(&mut out));
     }
 }
 
 /// The seven numbers of a fold.
-fn fold(sheet: &[u8], out: &mut [u8]) -> [u64; 7] {
+fn fold(sheet: Given, out: &mut [u8]) -> [u64; 7] {
     numbers(archive::fold, sheet, out)
 }
 
 /// Code, bytes and place of a line.
-fn line(sheet: &[u8], out: &mut [u8]) -> [u64; 3] {
+fn line(sheet: Given, out: &mut [u8]) -> [u64; 3] {
     numbers(archive::line, sheet, out)
 }
 
 /// The code of a sheet written back without room: of an accepted sheet 7, as soon as it is checked.
-fn check(sheet: &[u8]) -> u64 {
+fn check(sheet: Given) -> u64 {
     let [code, _, _] = numbers(archive::write_back, sheet, &mut []);
     code
 }
@@ -112,10 +112,10 @@ fn print_times() {
 }
 
 fn print_row(sheet: &BenchSheet) {
-    let bytes = &sheet.bytes;
+    let (given, form, bytes) = (sheet.given(), sheet.form, &sheet.bytes);
     let mut out = vec![0; ROOM];
-    let numbers = fold(bytes, &mut out);
-    let result = normalize_sheet(bytes).expect("the Rust holds every sheet of the bench");
+    let numbers = fold(given, &mut out);
+    let result = normalize_sheet(form, bytes).expect("the Rust holds every sheet of the bench");
     let length = numbers[4] as usize;
     assert!(
         numbers[0] == 0 && out[..length] == result,
@@ -123,17 +123,17 @@ fn print_row(sheet: &BenchSheet) {
         sheet.name
     );
 
-    let expression = read_expression(bytes).expect("the Rust holds it, as above");
+    let expression = read_expression(form, bytes).expect("the Rust holds it, as above");
     let [ours, rust, normalized] = times([
         &mut || {
-            black_box(fold(black_box(bytes), &mut out));
+            black_box(fold(black_box(given), &mut out));
         },
-        &mut || drop(black_box(normalize_sheet(black_box(bytes)))),
+        &mut || drop(black_box(normalize_sheet(form, black_box(bytes)))),
         &mut || drop(black_box(black_box(&expression).clone().normalize())),
     ]);
     let mut room = vec![0; length];
     let stack = stack_of(|| {
-        fold(bytes, &mut room);
+        fold(given, &mut room);
     });
 
     println!(
@@ -170,23 +170,23 @@ fn print_line_times() {
 }
 
 fn print_line_row(sheet: &BenchSheet) {
-    let bytes = &sheet.bytes;
+    let given = sheet.given();
     let mut out = vec![0; ROOM];
-    let [code, length, _] = line(bytes, &mut out);
+    let [code, length, _] = line(given, &mut out);
     assert!(code == 0, "{} has a line", sheet.name);
 
     let [ours] = times([&mut || {
-        black_box(line(black_box(bytes), &mut out));
+        black_box(line(black_box(given), &mut out));
     }]);
     let a_byte = |time: f64| 1e3 * time / length as f64;
     let stack = stack_of(|| {
-        line(bytes, &mut out);
+        line(given, &mut out);
     });
 
     println!(
         "| {} | {}, {length} | {:.1} | {:.1} | {:.1} | {:.1} | {stack} |",
         sheet.name,
-        bytes.len(),
+        given.bytes.len(),
         ours.best,
         ours.median,
         a_byte(ours.best),
@@ -200,21 +200,21 @@ fn print_check_times() {
 }
 
 fn print_check_row(sheet: &BenchSheet) {
-    let bytes = &sheet.bytes;
-    assert!(check(bytes) == NO_ROOM, "{} is accepted", sheet.name);
+    let given = sheet.given();
+    assert!(check(given) == NO_ROOM, "{} is accepted", sheet.name);
 
     let [ours] = times([&mut || {
-        black_box(check(black_box(bytes)));
+        black_box(check(black_box(given)));
     }]);
-    let a_byte = |time: f64| 1e3 * time / bytes.len() as f64;
+    let a_byte = |time: f64| 1e3 * time / given.bytes.len() as f64;
     let stack = stack_of(|| {
-        check(bytes);
+        check(given);
     });
 
     println!(
         "| {} | {} | {:.2} | {:.2} | {:.2} | {:.2} | {stack} |",
         sheet.name,
-        bytes.len(),
+        given.bytes.len(),
         ours.best,
         ours.median,
         a_byte(ours.best),

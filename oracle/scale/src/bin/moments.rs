@@ -10,7 +10,7 @@
 use std::io::{self, BufWriter, Write};
 use std::process::ExitCode;
 
-use scale::archive;
+use scale::archive::{self, Given};
 use scale::arguments;
 use scale::public_sheets::{PublicSheet, public_sheet};
 
@@ -34,14 +34,14 @@ fn main() -> ExitCode {
 }
 
 fn print_sheet(out: &mut impl Write, sheet: &PublicSheet) -> io::Result<()> {
-    let Some(line) = line_of_fold(&sheet.bytes) else {
+    let Some(line) = line_of_fold(sheet.given()) else {
         return Ok(());
     };
 
     writeln!(out, "L {line}")?;
 
     for moment in &sheet.moments {
-        if let Some([kind, comment]) = state(&sheet.bytes, *moment) {
+        if let Some([kind, comment]) = state(sheet.given(), *moment) {
             let [year, month, day, minute] = moment;
             writeln!(out, "M {year} {month} {day} {minute} {kind} {comment}")?;
         }
@@ -54,7 +54,7 @@ fn print_sheet(out: &mut impl Write, sheet: &PublicSheet) -> io::Result<()> {
 const ROOM: usize = 1 << 16;
 
 /// The line of the sheet's fold, where nothing is left and there is one.
-fn line_of_fold(sheet: &[u8]) -> Option<String> {
+fn line_of_fold(sheet: Given) -> Option<String> {
     let mut folded = vec![0; ROOM];
     let [code, _, _, left, bytes, _, _] = archive::numbers(archive::fold, sheet, &mut folded);
     if (code, left) != (0, 0) {
@@ -62,14 +62,17 @@ fn line_of_fold(sheet: &[u8]) -> Option<String> {
     }
 
     let mut line = vec![0; ROOM];
-    folded.truncate(bytes as usize);
-    let [code, bytes, _] = archive::numbers(archive::line, &folded, &mut line);
+    let folded = Given {
+        bytes: &folded[..bytes as usize],
+        ..sheet
+    };
+    let [code, bytes, _] = archive::numbers(archive::line, folded, &mut line);
     line.truncate(bytes as usize);
     (code == 0).then(|| String::from_utf8(line).expect("a line is in ASCII"))
 }
 
 /// Kind and comment at a moment, where the lookup answers.
-fn state(sheet: &[u8], moment: [u64; 4]) -> Option<[u64; 2]> {
+fn state(sheet: Given, moment: [u64; 4]) -> Option<[u64; 2]> {
     let mut numbers = [0; 4];
     assert!(
         archive::lookup(sheet, moment, &mut numbers),

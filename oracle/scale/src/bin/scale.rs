@@ -30,8 +30,8 @@ fn main() -> ExitCode {
     let report = compare_all(&arguments);
     let seconds = began.elapsed().as_secs_f64();
 
-    for (sheet, difference) in &report.differences {
-        println!("sheet {}", to_hex(sheet));
+    for (form, sheet, difference) in &report.differences {
+        println!("sheet {} of form {}", to_hex(sheet), form.number());
         println!("  {}", difference.call);
         println!("  expected {}", difference.expected);
         println!("  given    {}", difference.given);

@@ -5,6 +5,7 @@ use native.Mathlib.Omega.{arith}
 use borrow.Author.Needs.{needs}
 use lib.ListN.{length}
 use Rattle.definition.specs.Field.{sheetBits}
+use Rattle.forms.specs.Form.{asForm}
 use Rattle.sheet.specs.Begin.{ruleReadAt}
 use Rattle.draining.specs.Rule.{partsStop, loadOf}
 use Rattle.draining.proofs.RuleReturns.{spans-few, load-some, load-none, drain-stop, drain-go}
@@ -17,10 +18,10 @@ set-rule-requires c κs =
     let load-rule = load .before .before .before .before .before .before .before .before in
     let entry = load-rule .before .before .before .before .before .before .before .before .before .before .before in
     let a = entry .pre .1 .0 in
-    let r = ruleReadAt (sheetBits (entry .args .sheet .now)) (entry .args .at) in
+    let r = ruleReadAt (asForm (entry .args .form)) (sheetBits (entry .args .sheet .now)) (entry .args .at) in
     let many : load .load .given .0 .0 ≡ length (r .spans) = load-some (partsStop r) _ _
     (sym (ap loadOf (load .load .given .1)) ∙ load-rule .load-rule .ensures .0) .1 in
-    let few : length (r .spans) ≤ 16 = spans-few _ _ (entry .pre .0) in
+    let few : length (r .spans) ≤ 16 = spans-few _ _ _ (entry .pre .0) in
     (entry .pre .0, (a .0, omega (arith, many, few), a .2, a .3, a .4))
 
 returns : tie.Need-returns

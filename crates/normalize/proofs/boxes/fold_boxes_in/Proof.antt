@@ -18,7 +18,7 @@ returns c =
     let entry = drawing .before .before .before .before .before .before .before .before .before .before .before .before .before .before .before in
     let given = entry .pre .0 .1 in
     let listing = drawing .draw-rules .ensures _ (given .to-draw .drawable) in
-    list-refused (entry .args .sheet .now) (entry .args .out .now) _ _ _ (given .read) (given .to-draw .passed .apart) (boxes-few _ _ _ _ _ _ _ _ _ _ (given .to-draw)) _
+    list-refused _ (entry .args .sheet .now) (entry .args .out .now) _ _ _ (given .read) (given .to-draw .passed .apart) (boxes-few _ _ _ _ _ _ _ _ _ _ (given .to-draw)) _
     (listing-long _ _ _ _ _ _ _ listing (c .before .if1 .taken)) (c .fold-refused .ensures)
 
 fold-pages-requires : tie.Need-fold-pages-requires
@@ -37,7 +37,7 @@ emit-requires c κs =
     let given = drawing .before .before .before .before .before .before .before .before .before .before .before .before .before .before .before .pre .0 .1 in
     let listing = drawing .draw-rules .ensures _ (given .to-draw .drawable) in
     let all = listing-all _ _ _ _ _ _ _ listing (paging .before .before .before .if1 .left) in
-    (_, paging .fold-pages .ensures _ (given .to-draw .times) (listing .all-boxed (all .0)), given .leaving)
+    (_, paging .fold-pages .ensures _ _ (given .to-draw .times) (listing .all-boxed (all .0)) (given .commented), given .leaving)
 
 returns-2 : tie.Need-returns-2
 returns-2 c =
@@ -48,8 +48,8 @@ returns-2 c =
     let given = entry .pre .0 .1 in
     let listing = drawing .draw-rules .ensures _ (given .to-draw .drawable) in
     let all = listing-all _ _ _ _ _ _ _ listing (paging .before .before .before .if1 .left) in
-    let paged = paging .fold-pages .ensures _ (given .to-draw .times) (listing .all-boxed (all .0)) in
-    rules-folded (entry .args .sheet .now) (entry .args .out .now) _ _ _ (given .read) (given .to-draw .passed .apart) (boxes-few _ _ _ _ _ _ _ _ _ _ (given .to-draw)) _ (all .1)
+    let paged = paging .fold-pages .ensures _ _ (given .to-draw .times) (listing .all-boxed (all .0)) (given .commented) in
+    rules-folded _ (entry .args .sheet .now) (entry .args .out .now) _ _ _ (given .read) (given .to-draw .passed .apart) (boxes-few _ _ _ _ _ _ _ _ _ _ (given .to-draw)) _ (all .1)
     (emitting .emit .ensures _ paged (given .leaving))
 
 pub fold-boxes-in-spec : {M : Type 1} → statement M

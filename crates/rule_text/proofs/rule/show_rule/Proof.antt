@@ -7,6 +7,7 @@ use borrow.Author.Needs.{needs}
 use Rattle.definition.specs.Field.{sheetBits}
 use Rattle.definition.specs.Text.{Text}
 use Rattle.definition.specs.Line.{stateText}
+use Rattle.forms.specs.Form.{asForm}
 use Rattle.sheet.specs.Begin.{ruleReadAt}
 use Rattle.sheet.specs.Head.{asTitle}
 use Rattle.sheet.proofs.Titles.{title-same, title-refused}
@@ -25,8 +26,8 @@ put-start-requires c κs =
     let pre = entry .pre in
     let s = sheetBits (args .sheet .now) in
     let read = sym (at-title .title-at .ensures) ∙ ap asTitle (title .title .given .1) in
-    let same = title-same s (args .at) (pre .0) _ _ _ _ read in
-    omega (arith, pre .1 .1, shown-long (args .first) (ruleReadAt s (args .at)), ap (λ o. length (startText (args .first) o)) (same .0))
+    let same = title-same _ s (args .at) (pre .0) _ _ _ _ read in
+    omega (arith, pre .1 .1, shown-long (args .first) (ruleReadAt (asForm (args .form)) s (args .at)), ap (λ o. length (startText (args .first) o)) (same .0))
 
 show-body-requires : tie.Need-show-body-requires
 show-body-requires c κs =
@@ -38,9 +39,9 @@ show-body-requires c κs =
     let pre = entry .pre in
     let s = sheetBits (args .sheet .now) in
     let read = sym (at-title .title-at .ensures) ∙ ap asTitle (title .title .given .1) in
-    let same = title-same s (args .at) (pre .0) _ _ _ _ read in
+    let same = title-same _ s (args .at) (pre .0) _ _ _ _ read in
     let start = ap (λ o. length (startText (args .first) o)) (same .0) in
-    (pre .0, (pre .1 .0, omega (arith, pre .1 .1, shown-long (args .first) (ruleReadAt s (args .at)), start, put-start .put-start .ensures .ends)))
+    (pre .0, (pre .1 .0, omega (arith, pre .1 .1, shown-long (args .first) (ruleReadAt (asForm (args .form)) s (args .at)), start, put-start .put-start .ensures .ends)))
 
 put-state-requires : tie.Need-put-state-requires
 put-state-requires c κs =
@@ -53,13 +54,13 @@ put-state-requires c κs =
     let pre = entry .pre in
     let s = sheetBits (args .sheet .now) in
     let read = sym (at-title .title-at .ensures) ∙ ap asTitle (title .title .given .1) in
-    let same = title-same s (args .at) (pre .0) _ _ _ _ read in
+    let same = title-same _ s (args .at) (pre .0) _ _ _ _ read in
     let start = ap (λ o. length (startText (args .first) o)) (same .0) in
-    let state = ap (λ S. length (stateText .write S)) (state-same (ruleReadAt s (args .at)) _ _ (same .1) (same .2)) in
+    let state = ap (λ S. length (stateText .write S)) (state-same (ruleReadAt (asForm (args .form)) s (args .at)) _ _ (same .1) (same .2)) in
     omega (
       arith,
       pre .1 .1,
-      shown-long (args .first) (ruleReadAt s (args .at)),
+      shown-long (args .first) (ruleReadAt (asForm (args .form)) s (args .at)),
       start,
       state,
       put-start .put-start .ensures .ends,
@@ -75,9 +76,9 @@ returns c =
     let at-title = title .before .before in
     let entry = at-title .before .before .before in
     let args = entry .args in
-    let r = ruleReadAt (sheetBits (args .sheet .now)) (args .at) in
+    let r = ruleReadAt (asForm (args .form)) (sheetBits (args .sheet .now)) (args .at) in
     let read = sym (at-title .title-at .ensures) ∙ ap asTitle (title .title .given .1) in
-    let same = title-same (sheetBits (args .sheet .now)) (args .at) (entry .pre .0) _ _ _ _ read in
+    let same = title-same _ (sheetBits (args .sheet .now)) (args .at) (entry .pre .0) _ _ _ _ read in
     let body = show-body .show-body .ensures in
     record {
       put = put-as (shown-text (args .first) r _ _ (same .0) (state-same r _ _ (same .1) (same .2)))
@@ -93,4 +94,4 @@ show-rule-spec =
     (λ c.
     let title = c .before .before .before in
     let entry = title .before .before .before in
-    title-refused _ _ (entry .pre .0) _ _ (sym (title .title-at .ensures) ∙ ap asTitle (c .before .title2 .given .1))))
+    title-refused _ _ _ (entry .pre .0) _ _ (sym (title .title-at .ensures) ∙ ap asTitle (c .before .title2 .given .1))))

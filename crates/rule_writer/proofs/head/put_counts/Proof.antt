@@ -1,7 +1,9 @@
 -- `rule_writer::head::put_counts` meets its contract: three counts, and two.
 use mathlib.Core.Path.{refl}
+use Prim.Native.Nat.{_≤_}
 use native.Mathlib.Omega.{arith}
 use borrow.Author.Needs.{needs}
+use Rattle.forms.proofs.Numbers.{count-fits}
 use Rattle.item_writer.proofs.Chain.{wrote-then, room-first, room-rest, room-as, wrote-as}
 use Rattle.rule_writer.proofs.Items.{counts-bits}
 use Rattle.rule_writer.proofs.head.put_counts.Statement.{statement}
@@ -11,17 +13,21 @@ put-three-requires : tie.Need-put-three-requires
 put-three-requires c κs =
     let cast2 = c .before .before in
     let cast = cast2 .before .before in
-    let entry = cast .before .before .before .before .before in
+    let width = cast .before .before .before in
+    let entry = width .before .before .before in
     let args = entry .args in
     let pre = entry .pre in
-    let few = pre .0 .1 in (
+    let few = pre .0 .1 in
+    let narrow : width .item-count-width .result ≤ 32 = omega (arith, width .item-count-width .ensures .1) in
+    let fits = count-fits (args .form) _ in
+    let same = width .item-count-width .ensures .0 in (
       (
-        (omega arith, omega (arith, cast .u16-to-u64 .ensures .0, few 0)),
-        (omega arith, omega (arith, cast2 .u16-to-u642 .ensures .0, few 1)),
-        (omega arith, omega (arith, c .u16-to-u643 .ensures .0, few 2)),
+        (narrow, fits _ same (omega (arith, cast .u16-to-u64 .ensures .0, few 0))),
+        (narrow, fits _ same (omega (arith, cast2 .u16-to-u642 .ensures .0, few 1))),
+        (narrow, fits _ same (omega (arith, c .u16-to-u643 .ensures .0, few 2))),
       ),
       room-first _ _
-          (room-as (counts-bits (args .item-counts .now) _ _ _ _ (args .spans) (cast .u16-to-u64 .ensures .0) (cast2 .u16-to-u642 .ensures .0) (c .u16-to-u643 .ensures .0) refl) (pre .1)),
+          (room-as (counts-bits _ (args .item-counts .now) _ _ _ _ (args .spans) _ (cast .u16-to-u64 .ensures .0) (cast2 .u16-to-u642 .ensures .0) (c .u16-to-u643 .ensures .0) refl (width .item-count-width .ensures .0)) (pre .1)),
     )
 
 put-requires : tie.Need-put-requires
@@ -30,13 +36,14 @@ put-requires c κs =
     let cast3 = put-three .before in
     let cast2 = cast3 .before .before in
     let cast = cast2 .before .before in
-    let entry = cast .before .before .before .before .before in
+    let width = cast .before .before .before in
+    let entry = width .before .before .before in
     let args = entry .args in
     let pre = entry .pre in
     let whole = room-as
-    (counts-bits (args .item-counts .now) _ _ _ _ (args .spans) (cast .u16-to-u64 .ensures .0) (cast2 .u16-to-u642 .ensures .0) (cast3 .u16-to-u643 .ensures .0) (c .u16-to-u644 .ensures .0))
+    (counts-bits _ (args .item-counts .now) _ _ _ _ (args .spans) _ (cast .u16-to-u64 .ensures .0) (cast2 .u16-to-u642 .ensures .0) (cast3 .u16-to-u643 .ensures .0) (c .u16-to-u644 .ensures .0) (width .item-count-width .ensures .0))
     (pre .1) in
-    ((omega arith, omega (arith, c .u16-to-u644 .ensures .0, pre .0 .1 3)), room-first _ _ (room-rest (put-three .put-three .ensures) _ whole))
+    ((omega (arith, width .item-count-width .ensures .1), count-fits (args .form) _ _ (width .item-count-width .ensures .0) (omega (arith, c .u16-to-u644 .ensures .0, pre .0 .1 3))), room-first _ _ (room-rest (put-three .put-three .ensures) _ whole))
 
 put-requires-2 : tie.Need-put-requires-2
 put-requires-2 c κs =
@@ -46,13 +53,14 @@ put-requires-2 c κs =
     let cast3 = put-three .before in
     let cast2 = cast3 .before .before in
     let cast = cast2 .before .before in
-    let entry = cast .before .before .before .before .before in
+    let width = cast .before .before .before in
+    let entry = width .before .before .before in
     let args = entry .args in
     let pre = entry .pre in
     let whole = room-as
-    (counts-bits (args .item-counts .now) _ _ _ _ (args .spans) (cast .u16-to-u64 .ensures .0) (cast2 .u16-to-u642 .ensures .0) (cast3 .u16-to-u643 .ensures .0)
-    (cast4 .u16-to-u644 .ensures .0)) (pre .1) in
-    ((omega arith, pre .0 .2), room-rest (put .put .ensures) _ (room-rest (put-three .put-three .ensures) _ whole))
+    (counts-bits _ (args .item-counts .now) _ _ _ _ (args .spans) _ (cast .u16-to-u64 .ensures .0) (cast2 .u16-to-u642 .ensures .0) (cast3 .u16-to-u643 .ensures .0)
+    (cast4 .u16-to-u644 .ensures .0) (width .item-count-width .ensures .0)) (pre .1) in
+    ((omega (arith, width .item-count-width .ensures .1), count-fits (args .form) _ _ (width .item-count-width .ensures .0) (pre .0 .2)), room-rest (put .put .ensures) _ (room-rest (put-three .put-three .ensures) _ whole))
 
 returns : tie.Need-returns
 returns c =
@@ -63,23 +71,15 @@ returns c =
     let cast3 = put-three .before in
     let cast2 = cast3 .before .before in
     let cast = cast2 .before .before in
-    let entry = cast .before .before .before .before .before in
+    let width = cast .before .before .before in
+    let entry = width .before .before .before in
     let args = entry .args in
     wrote-as
-    (counts-bits (args .item-counts .now) _ _ _ _ (args .spans) (cast .u16-to-u64 .ensures .0) (cast2 .u16-to-u642 .ensures .0) (cast3 .u16-to-u643 .ensures .0)
-    (cast4 .u16-to-u644 .ensures .0)) (wrote-then (put-three .put-three .ensures) (wrote-then (put .put .ensures) (put2 .put2 .ensures)))
+    (counts-bits _ (args .item-counts .now) _ _ _ _ (args .spans) _ (cast .u16-to-u64 .ensures .0) (cast2 .u16-to-u642 .ensures .0) (cast3 .u16-to-u643 .ensures .0)
+    (cast4 .u16-to-u644 .ensures .0) (width .item-count-width .ensures .0)) (wrote-then (put-three .put-three .ensures) (wrote-then (put .put .ensures) (put2 .put2 .ensures)))
 
 pub put-counts-spec : {M : Type 1} → statement M
 put-counts-spec =
     tie.close
-    (tie.spec (λ c. omega (arith, c .before .before .before .before .pre .0 .0)) (λ c κs. search needs)
-    (λ c. omega (arith, c .before .before .before .before .before .before .pre .0 .0)) (λ c κs. search needs)
-    (λ c.
-    let entry = c .before .before .before .before .before .before .before .before in
-    omega (arith, entry .pre .0 .0))
-    (λ c κs. search needs) put-three-requires
-    (λ c.
-    let entry = c .before .before .before .before .before .before .before .before .before .before .before .before .before .before in
-    omega (arith, entry .pre .0 .0))
-    (λ c κs. search needs)
-    put-requires put-requires-2 (λ c. search needs) returns)
+    (tie.spec (λ c κs. search needs) (λ c. search needs) (λ c κs. search needs) (λ c. search needs) (λ c κs. search needs) (λ c. search needs) (λ c κs. search needs)
+    put-three-requires (λ c. search needs) (λ c κs. search needs) put-requires put-requires-2 (λ c. search needs) returns)

@@ -20,7 +20,7 @@ returns c =
     let args = entry .args in
     let bytes = known-bytes (args .sheet .now) (λ j. omega (arith, known .shared-slice-known .given j)) in
     let check = sym (at-check .check .ensures .0) ∙ ap asChecked (checked .checked .given .1) in
-    let same = back-copied (length (args .out .now)) (args .sheet .now) bytes _ _ check in (
+    let same = back-copied _ (length (args .out .now)) (args .sheet .now) bytes _ _ check in (
       copy-back .copy-back .ensures .0 ∙ sym (ap writtenNumbers same),
       copy-back .copy-back .ensures .1 ∙ sym (ap (λ w. buffer (w .result) (args .out .now)) same),
     )
@@ -31,7 +31,7 @@ returns-2 c =
     let entry = at-check .before .before .before .before in
     let args = entry .args in
     let check = sym (at-check .check .ensures .0) ∙ ap asChecked (c .before .checked2 .given .1) in
-    let same = back-refused (length (args .out .now)) (args .sheet .now) _ _ check in
+    let same = back-refused _ (length (args .out .now)) (args .sheet .now) _ _ check in
     (sym (ap writtenNumbers same), sym (ap (λ w. buffer (w .result) (args .out .now)) same))
 
 pub write-back-spec : {M : Type 1} → statement M

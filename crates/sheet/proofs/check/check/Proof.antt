@@ -4,6 +4,7 @@ use native.Mathlib.Omega.{arith}
 use borrow.Author.Needs.{needs}
 use Rattle.field.proofs.Bytes.{known-bytes}
 use Rattle.field.proofs.Taking.{took, stopped}
+use Rattle.forms.proofs.Numbers.{narrow}
 use Rattle.sheet.proofs.Whole.{count-goes, count-stops, count-begun, none-begun, count-low}
 use Rattle.sheet.proofs.check.check.Statement.{statement}
 use Rattle.sheet.proofs.check.check.Tie as tie
@@ -12,8 +13,8 @@ check-rules-requires : tie.Need-check-rules-requires
 check-rules-requires c κs =
     let s = c .before .before .before .before .before .before .args .sheet .now in
     let bytes = known-bytes s (λ j. omega (arith, c .before .before .before .before .before .shared-slice-known .given j)) in
-    let low = count-low s bytes _ _ (took _ _ _ (c .before .before .before .before .rule-count .ensures) (c .before .before .count .given .1)) in
-    (omega (arith, low .1), low .2, low .0)
+    let low = count-low _ s bytes _ _ (took _ _ _ (c .before .before .before .before .rule-count .ensures) (c .before .before .count .given .1)) in
+    (omega (arith, low .1, narrow (c .before .before .before .before .before .before .args .form) .opening-narrow), low .2, low .0)
 
 returns : tie.Need-returns
 returns c =
@@ -24,12 +25,12 @@ returns c =
     let s = entry .args .sheet .now in
     let bytes = known-bytes s (λ j. omega (arith, known .shared-slice-known .given j)) in
     let count = took _ _ _ (rule-count .rule-count .ensures) (at-count .count .given .1) in
-    (c .check-rules .ensures .0 ∙ sym (count-goes s bytes _ _ count), c .check-rules .ensures .1 ∙ sym (count-begun s _ _ count _))
+    (c .check-rules .ensures .0 ∙ sym (count-goes _ s bytes _ _ count), c .check-rules .ensures .1 ∙ sym (count-begun _ s _ _ count _))
 
 returns-2 : tie.Need-returns-2
 returns-2 c =
     let count = stopped _ _ _ (c .before .before .before .rule-count .ensures) (c .before .count2 .given .1) in
-    (sym (count-stops _ _ _ count), sym (none-begun _ _ _ count _))
+    (sym (count-stops _ _ _ _ count), sym (none-begun _ _ _ _ count _))
 
 pub check-spec : {M : Type 1} → statement M
 check-spec = tie.close (tie.spec (λ c κs. search needs) (λ c. search needs) check-rules-requires (λ c. search needs) returns returns-2)

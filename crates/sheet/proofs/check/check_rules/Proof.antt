@@ -7,6 +7,7 @@ use lib.ListN.{length}
 use Rattle.definition.specs.Field.{got, andThen, sheetBits}
 use Rattle.definition.proofs.Bits.{sheet-bits, length-sheetBits}
 use Rattle.field.proofs.Bytes.{known-bytes}
+use Rattle.forms.proofs.Numbers.{narrow}
 use Rattle.sheet.proofs.Ends.{went, halted}
 use Rattle.sheet.proofs.RuleRows.{rules-short, rules-within}
 use Rattle.sheet.proofs.Whole.{rules-go, rules-stop}
@@ -19,8 +20,8 @@ ended-at-requires c κs =
     let s = start .args .sheet .now in
     let bytes = known-bytes s (λ j. omega (arith, c .before .before .before .before .before .shared-slice-known .given j)) in
     let rows = went _ _ (c .before .before .before .rules-end .ensures .0) (c .before .step .given .1) in
-    let within : c .before .step .given .0 .0 ≤ length (sheetBits s) = rules-within _ (sheet-bits s bytes) _ _ _ (omega (arith, length-sheetBits s)) rows in
-    let short : c .before .step .given .0 .0 ≤ start .args .start + start .args .count * 2998 = rules-short _ _ _ _ rows in
+    let within : c .before .step .given .0 .0 ≤ length (sheetBits s) = rules-within _ _ (sheet-bits s bytes) _ _ _ (omega (arith, length-sheetBits s)) rows in
+    let short : c .before .step .given .0 .0 ≤ start .args .start + start .args .count * 3016 = rules-short _ (narrow (start .args .form)) _ _ _ _ rows in
     (omega (arith, length-sheetBits s, within), omega (arith, short))
 
 pub check-rules-spec : {M : Type 1} → statement M
@@ -29,9 +30,9 @@ check-rules-spec =
     (tie.spec (λ c κs. search needs) (λ c. search needs) ended-at-requires (λ c κs. search needs) (λ c. search needs)
     (λ c. (
       c .of .ensures ∙ ap (andThen (λ u e. got _ e)) (c .before .ended-at .ensures)
-          ∙ sym (rules-go _ _ _ _ (went _ _ (c .before .before .before .before .before .rules-end .ensures .0) (c .before .before .before .step .given .1))),
+          ∙ sym (rules-go _ _ _ _ _ (went _ _ (c .before .before .before .before .before .rules-end .ensures .0) (c .before .before .before .step .given .1))),
       c .before .before .before .before .before .rules-end .ensures .1,
     ))
     (λ c.
     let rules-end = c .before .before .before in
-    (sym (rules-stop _ _ _ _ _ (halted _ _ _ (rules-end .rules-end .ensures .0) (c .before .step2 .given .1))), rules-end .rules-end .ensures .1)))
+    (sym (rules-stop _ _ _ _ _ _ (halted _ _ _ (rules-end .rules-end .ensures .0) (c .before .step2 .given .1))), rules-end .rules-end .ensures .1)))

@@ -1,10 +1,12 @@
 -- `sheet::check::rules_end` meets its contract. The loop's invariant: what is left from here ends, and is noted, as the whole row is; each
--- rule passed took 2,998 bits at most.
+-- rule passed took 3,016 bits at most.
 use mathlib.Core.Path.{_≡_, sym, ap, _∙_}
 use Prim.Native.Nat.{_+_, _-_, _*_, _≤_}
 use native.Mathlib.Omega.{arith}
 use borrow.Author.Needs.{needs}
 use Rattle.definition.specs.Field.{sheetBits}
+use Rattle.forms.specs.Form.{asForm}
+use Rattle.forms.proofs.Numbers.{narrow}
 use Rattle.sheet.specs.End.{skipAll}
 use Rattle.sheet.specs.Rules.{ruleEnds, noted}
 use Rattle.sheet.proofs.Ends.{went, halted, skip-goes, skip-stops, skip-ends}
@@ -13,13 +15,13 @@ use Rattle.sheet.proofs.check.rules_end.Statement.{statement}
 use Rattle.sheet.proofs.check.rules_end.Tie as tie
 
 abbrev Inv-loop : tie.InvT-loop
-Inv-loop sheet begins₀ start count at₀ i₀ begins at i =
-    (i ≤ count) × (at + (count - i) * 2998 ≤ start + count * 2998)
-    × (skipAll ruleEnds (count - i) (sheetBits sheet) at ≡ skipAll ruleEnds count (sheetBits sheet) start)
-    × (noted (sheetBits sheet) (count - i) i at begins ≡ noted (sheetBits sheet) count 0 start begins₀)
+Inv-loop form sheet begins₀ start count at₀ i₀ begins at i =
+    (i ≤ count) × (at + (count - i) * 3016 ≤ start + count * 3016)
+    × (skipAll (ruleEnds (asForm form)) (count - i) (sheetBits sheet) at ≡ skipAll (ruleEnds (asForm form)) count (sheetBits sheet) start)
+    × (noted (asForm form) (sheetBits sheet) (count - i) i at begins ≡ noted (asForm form) (sheetBits sheet) count 0 start begins₀)
 
 abbrev μ-loop : tie.MeasureT-loop
-μ-loop sheet begins₀ start count at₀ i₀ begins at i = count - i
+μ-loop form sheet begins₀ start count at₀ i₀ begins at i = count - i
 
 loop-holds : tie.Need-loop-holds Inv-loop μ-loop
 loop-holds c =
@@ -27,15 +29,15 @@ loop-holds c =
     let none : start .count - 0 ≡ start .count = omega arith in (
       omega arith,
       omega arith,
-      ap (λ n. skipAll ruleEnds n (sheetBits (start .sheet .now)) (start .start)) none,
-      ap (λ n. noted (sheetBits (start .sheet .now)) n 0 (start .start) (start .begins .now)) none,
+      ap (λ n. skipAll (ruleEnds (asForm (start .form))) n (sheetBits (start .sheet .now)) (start .start)) none,
+      ap (λ n. noted (asForm (start .form)) (sheetBits (start .sheet .now)) n 0 (start .start) (start .begins .now)) none,
     )
 
 returns : tie.Need-returns Inv-loop μ-loop
 returns c =
     let old = c .before .before .before .before .before .loop in
     let step = halted _ _ _ (c .before .before .before .rule-end .ensures) (c .before .step2 .given .1) in
-    (sym (sym (old .inv .2) ∙ skip-stops _ _ _ _ _ _ (omega arith) step), sym (noted-stops _ _ _ _ _ _ _ (omega arith) step) ∙ old .inv .3)
+    (sym (sym (old .inv .2) ∙ skip-stops _ _ _ _ _ _ (omega arith) step), sym (noted-stops _ _ _ _ _ _ _ _ (omega arith) step) ∙ old .inv .3)
 
 loop-again : tie.Need-loop-again Inv-loop μ-loop
 loop-again c =
@@ -43,17 +45,17 @@ loop-again c =
     let loop = rule-end .before .before in
     let old = loop .loop in
     let step = went _ _ (rule-end .rule-end .ensures) (c .before .step .given .1) in
-    let short : c .before .step .given .0 .0 ≤ old .at + 2998 = rule-end-short _ _ _ step in (
+    let short : c .before .step .given .0 .0 ≤ old .at + 3016 = rule-end-short _ (narrow (loop .before .before .args .form)) _ _ _ step in (
       omega arith,
       omega (arith, short, old .inv .1),
       sym (skip-goes _ _ _ _ _ _ (omega arith) step) ∙ old .inv .2,
-      sym (noted-goes _ _ _ _ _ _ _ (omega arith) step) ∙ old .inv .3,
+      sym (noted-goes _ _ _ _ _ _ _ _ (omega arith) step) ∙ old .inv .3,
     )
 
 returns-2 : tie.Need-returns-2 Inv-loop μ-loop
 returns-2 c =
     let old = c .before .loop in
-    (sym (sym (old .inv .2) ∙ skip-ends _ _ _ _ (omega arith)), sym (noted-ends _ _ _ _ _ (omega arith)) ∙ old .inv .3)
+    (sym (sym (old .inv .2) ∙ skip-ends _ _ _ _ (omega arith)), sym (noted-ends _ _ _ _ _ _ (omega arith)) ∙ old .inv .3)
 
 pub rules-end-spec : {M : Type 1} → statement M
 rules-end-spec =

@@ -2,6 +2,7 @@
 use mathlib.Core.Path.{sym}
 use native.Mathlib.Omega.{arith}
 use borrow.Author.Needs.{needs}
+use Rattle.forms.proofs.Numbers.{narrow}
 use Rattle.definition.proofs.Reading.{then-goes, then-stops, then-stops-later}
 use Rattle.field.proofs.Taking.{took, took-end, stopped}
 use Rattle.definition.specs.Sheet.{counts}
@@ -22,7 +23,7 @@ counts-at-spec =
     (then-stops _ _ _ _ (stopped _ _ _ (count .count-at .ensures) (c .before .enum-told .given .1))))
     (λ c κs.
     let count = c .before .before .before in
-    omega (arith, took-end _ _ _ _ _ (count .count-at .ensures) (c .before .first .given .1)))
+    omega (arith, narrow (count .before .before .args .form) .head-narrow, took-end _ _ _ _ _ (count .count-at .ensures) (c .before .first .given .1)))
     (λ c. search needs) (λ c. search needs) (λ c κs. search needs)
     (λ c.
     let count2 = c .before .before .before in
@@ -37,6 +38,7 @@ counts-at-spec =
     let count = first .before .before in
     omega (
       arith,
+      narrow (count .before .before .args .form) .head-narrow,
       took-end _ _ _ _ _ (count .count-at .ensures) (first .first .given .1),
       took-end _ _ _ _ _ (count2 .count-at2 .ensures) (c .before .second .given .1),
     ))
@@ -59,6 +61,7 @@ counts-at-spec =
     let count = first .before .before in
     omega (
       arith,
+      narrow (count .before .before .args .form) .head-narrow,
       took-end _ _ _ _ _ (count .count-at .ensures) (first .first .given .1),
       took-end _ _ _ _ _ (count2 .count-at2 .ensures) (second .second .given .1),
       took-end _ _ _ _ _ (count3 .count-at3 .ensures) (c .before .third .given .1),
@@ -87,6 +90,7 @@ counts-at-spec =
     let count = first .before .before in
     omega (
       arith,
+      narrow (count .before .before .args .form) .head-narrow,
       took-end _ _ _ _ _ (count .count-at .ensures) (first .first .given .1),
       took-end _ _ _ _ _ (count2 .count-at2 .ensures) (second .second .given .1),
       took-end _ _ _ _ _ (count3 .count-at3 .ensures) (third .third .given .1),

@@ -34,32 +34,30 @@ title-at-spec =
     (λ c κs.
     let choice2 = c .before .before .before in
     let first = choice2 .before .before in
-    let choice = first .before .before in (
-      omega arith,
-      omega (
-        arith,
-        took-end _ _ _ _ _ (choice .choice-at .ensures) (first .first .given .1),
-        took-end _ _ _ _ _ (choice2 .choice-at2 .ensures) (c .before .second .given .1),
-      ),
+    let choice = first .before .before in
+    omega (
+      arith,
+      took-end _ _ _ _ _ (choice .choice-at .ensures) (first .first .given .1),
+      took-end _ _ _ _ _ (choice2 .choice-at2 .ensures) (c .before .second .given .1),
     ))
     (λ c. search needs) (λ c. search needs) (λ c κs. search needs)
     (λ c.
-    let take = c .before .before .before in
-    let second = take .before .before in
+    let taken = c .before .before .before in
+    let second = taken .before .before in
     let choice2 = second .before .before in
     let first = choice2 .before .before in
     let choice = first .before .before in
     title-stops _ _ _ (c .refused3 .ensures) (c .before .enum-told3 .given .1)
     (then-stops-later _ _ _ _ (via-goes _ _ _ _ _ (took _ _ _ (choice .choice-at .ensures) (first .first .given .1)))
     (then-stops-later _ _ _ _ (via-goes _ _ _ _ _ (took _ _ _ (choice2 .choice-at2 .ensures) (second .second .given .1)))
-    (stopped _ _ _ (take .take-at .ensures) (c .before .enum-told3 .given .1)))))
+    (stopped _ _ _ (taken .comment-at .ensures) (c .before .enum-told3 .given .1)))))
     (λ c.
-    let take = c .before .before .before in
-    let second = take .before .before in
+    let taken = c .before .before .before in
+    let second = taken .before .before in
     let choice2 = second .before .before in
     let first = choice2 .before .before in
     let choice = first .before .before in
     sym
     ((then-goes _ _ _ _ (via-goes _ _ _ _ _ (took _ _ _ (choice .choice-at .ensures) (first .first .given .1)))
     (then-goes _ _ _ _ (via-goes _ _ _ _ _ (took _ _ _ (choice2 .choice-at2 .ensures) (second .second .given .1)))
-    (took _ _ _ (take .take-at .ensures) (c .before .third .given .1)))))))
+    (took _ _ _ (taken .comment-at .ensures) (c .before .third .given .1)))))))

@@ -5,6 +5,7 @@ use native.Mathlib.Omega.{arith}
 use denote.Ref.{now}
 use borrow.Author.Needs.{needs}
 use Rattle.laws.specs.Lists.{All}
+use Rattle.codes.specs.Number.{closedNumber}
 use Rattle.state_at.specs.Found.{InTables, overList, numbersFrom}
 use Rattle.state_at.proofs.Walk.{numbers-all, list-on, list-unsettled, list-end}
 use Rattle.state_at.proofs.list.over_list.Statement.{statement}
@@ -12,7 +13,7 @@ use Rattle.state_at.proofs.list.over_list.Tie as tie
 
 abbrev Inv-loop : tie.InvT-loop
 Inv-loop states span-counts spans lists first many minute shown₀ next₀ shown next =
-    (overList states span-counts spans minute shown (numbersFrom lists first next many) ≡ overList states span-counts spans minute 65536 (numbersFrom lists first 0 many))
+    (overList states span-counts spans minute shown (numbersFrom lists first next many) ≡ overList states span-counts spans minute closedNumber (numbersFrom lists first 0 many))
     × All (InTables states span-counts spans) (numbersFrom lists first next many)
 
 abbrev μ-loop : tie.MeasureT-loop

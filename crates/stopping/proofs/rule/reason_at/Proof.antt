@@ -2,6 +2,7 @@
 use mathlib.Core.Path.{sym, ap, _∙_}
 use borrow.Author.Needs.{needs}
 use Rattle.definition.specs.Field.{sheetBits}
+use Rattle.forms.specs.Form.{asForm}
 use Rattle.sheet.specs.Begin.{ruleReadAt}
 use Rattle.sheet.specs.Head.{asTitle}
 use Rattle.sheet.proofs.Titles.{title-same, title-refused}
@@ -16,7 +17,7 @@ returns c =
     let entry = at-title .before .before in
     let s = sheetBits (entry .args .sheet .now) in
     let read = sym (at-title .title-at .ensures) ∙ ap asTitle (title .title .given .1) in
-    fallback-reason (ruleReadAt s (entry .args .at)) _ (title-same s _ (entry .pre .0) _ _ _ _ read .0) (sym (c .before .is-fallback .ensures) ∙ c .if1 .taken)
+    fallback-reason (ruleReadAt (asForm (entry .args .form)) s (entry .args .at)) _ (title-same _ s _ (entry .pre .0) _ _ _ _ read .0) (sym (c .before .is-fallback .ensures) ∙ c .if1 .taken)
 
 returns-2 : tie.Need-returns-2
 returns-2 c =
@@ -27,7 +28,7 @@ returns-2 c =
     let s = sheetBits (entry .args .sheet .now) in
     let read = sym (at-title .title-at .ensures) ∙ ap asTitle (title .title .given .1) in
     c .parts-reason .ensures
-    ∙ other-reason (ruleReadAt s (entry .args .at)) _ (title-same s _ (entry .pre .0) _ _ _ _ read .0) (sym (branch .before .is-fallback .ensures) ∙ branch .if1 .left)
+    ∙ other-reason (ruleReadAt (asForm (entry .args .form)) s (entry .args .at)) _ (title-same _ s _ (entry .pre .0) _ _ _ _ read .0) (sym (branch .before .is-fallback .ensures) ∙ branch .if1 .left)
 
 pub reason-at-spec : {M : Type 1} → statement M
 reason-at-spec =
@@ -36,4 +37,4 @@ reason-at-spec =
     (λ c.
     let title = c .before .before .before in
     let entry = title .before .before in
-    title-refused _ _ (entry .pre .0) _ _ (sym (title .title-at .ensures) ∙ ap asTitle (c .before .title2 .given .1))))
+    title-refused _ _ _ (entry .pre .0) _ _ (sym (title .title-at .ensures) ∙ ap asTitle (c .before .title2 .given .1))))

@@ -1,0 +1,5 @@
+pub mod Parts
+pub mod Counting
+pub mod Comments
+pub mod Moving
+pub mod Answer

@@ -1,0 +1,33 @@
+-- `hours::write_back` meets its contract: in the form that the number names, or refused.
+use mathlib.Core.Path.{sym, ap, _∙_}
+use lib.ListN.{length}
+use borrow.Author.Needs.{needs}
+use Rattle.definition.specs.Sheet.{limits1}
+use Rattle.definition.specs.Fold.{buffer, writtenNumbers, unwritten, writeBack}
+use Rattle.definition.specs.Forms.{writeBackIn}
+use Rattle.hours.proofs.Entries.{form-known, form-unknown}
+use Rattle.hours.proofs.write_back.Statement.{statement}
+use Rattle.hours.proofs.write_back.Tie as tie
+
+returns : tie.Need-returns
+unfolding writeBackIn
+returns c =
+    let called = c .before .before in
+    let named = called .before .before .before in
+    let form = named .before .before in
+    let a = form .before .before .before .args in
+    let same = form-known unwritten (λ form. writeBack form limits1 (length (a .out .now)) (a .sheet .now)) (a .form) _ (form .form-of .ensures) _ (named .named .given .1) in
+    (called .write-back .ensures .0 ∙ sym (ap writtenNumbers same), called .write-back .ensures .1 ∙ sym (ap (λ w. buffer (w .result) (a .out .now)) same))
+
+returns-2 : tie.Need-returns-2
+unfolding writeBackIn
+returns-2 c =
+    let form = c .before .before in
+    let a = form .before .before .before .args in
+    let same = form-unknown unwritten (λ form. writeBack form limits1 (length (a .out .now)) (a .sheet .now)) (a .form) _ (form .form-of .ensures) (c .enum-told .given .1) in
+    (sym (ap writtenNumbers same), sym (ap (λ w. buffer (w .result) (a .out .now)) same))
+
+pub write-back-spec : {M : Type 1} → statement M
+write-back-spec =
+    tie.close
+    (tie.spec (λ c κs. search needs) (λ c. search needs) (λ c κs. search needs) (λ c. search needs) (λ c. search needs) returns returns-2)
