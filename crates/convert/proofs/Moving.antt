@@ -5,7 +5,7 @@ use mathlib.Core.List.{List, [], _∷_, _++_, flatMap, append-assoc, append-nil}
 use Prim.Native.Nat.{ℕ, suc, _+_, _^_, _≤_, _<_}
 use native.Mathlib.Omega.{arith}
 use lib.Dec.{ltb}
-use lib.ListN.{length, drop, getD, length-append, length-drop}
+use lib.ListN.{length, drop, getD, length-append, drop-of-length-le}
 use lib.Seq.{drop-cons}
 use borrow.Author.Tests.{ltb-true, ltb-false}
 use Rattle.definition.specs.Field.{Read, Layout, got, sheetBits}
@@ -19,16 +19,9 @@ use Rattle.item_writer.specs.Written.{RoomFor, Wrote}
 use Rattle.item_writer.proofs.Chain.{wrote-none, wrote-then, wrote-as, room-first, room-rest, room-as}
 use Rattle.convert.proofs.Parts.{rule-size}
 
--- a list from a place on: its element there, and the list behind it; and past its end there is none
+-- a list from a place on: its element there, and the list behind it
 from-place : (rs : List Rule) (i : ℕ) → i < length rs → drop i rs ≡ getD rs i noRule ∷ drop (i + 1) rs
 from-place rs i l = let z : suc i ≡ i + 1 = omega arith in drop-cons rs i noRule l ∙ ap (λ k. getD rs i noRule ∷ drop k rs) z
-
-past-end : (rs : List Rule) (i : ℕ) → length rs ≤ i → drop i rs ≡ []
-past-end rs i l = go (drop i rs) (omega (arith, length-drop i rs))
-  where
-    go : (qs : List Rule) → length qs ≡ 0 → qs ≡ []
-    go [] e = refl
-    go (q ∷ qs) e = absurd (omega arith)
 
 -- ## Where rules stand
 module _ (form : Form) (sheet begins : List ℕ) (bytes : Bytes sheet) (rs : List Rule) (end : ℕ) (read : SheetRead form sheet begins rs end) where
@@ -62,7 +55,7 @@ module _ (form : Form) (sheet begins : List ℕ) (bytes : Bytes sheet) (rs : Lis
     where
       go : (t : Bool) → ltb (i + 1) (length rs) ≡ t → (q : ℕ) → end ≡ q + length (bitsFrom (i + 1)) → cond t (getD begins (i + 1) 0) end ≡ q
       go true e q total = omega (arith, begun (i + 1) (ltb-true (i + 1) (length rs) e) .stands .ends, total)
-      go false e q total = omega (arith, total, ap (λ qs. length (flatMap (rule form limits1 .write) qs)) (past-end rs (i + 1) (omega (arith, ltb-false (i + 1) (length rs) e))))
+      go false e q total = omega (arith, total, ap (λ qs. length (flatMap (rule form limits1 .write) qs)) (drop-of-length-le rs (ltb-false (i + 1) (length rs) e)))
 
 -- what is read of a sheet is read once
 pub rules-once : {form : Form} {sheet begins : List ℕ} (rs qs : List Rule) {end : ℕ} → SheetRead form sheet begins rs end → SheetRead form sheet begins qs end → rs ≡ qs
@@ -105,4 +98,4 @@ module _ (to : Form) (rs : List Rule) where
 
     pub moving-all : length rs ≤ i → Wrote old place (flatMap (rule to limits1 .write) rs) out next
     unfolding flatMap
-    moving-all l = wrote-as (m .whole ∙ ap (λ qs. m .done ++ flatMap (rule to limits1 .write) qs) (past-end rs i l) ∙ append-nil (m .done)) (m .wrote)
+    moving-all l = wrote-as (m .whole ∙ ap (λ qs. m .done ++ flatMap (rule to limits1 .write) qs) (drop-of-length-le rs l) ∙ append-nil (m .done)) (m .wrote)
