@@ -41,13 +41,13 @@ expect 'the C example of a line' "$line" "$programs/line"
 gcc -std=c11 "${strict[@]}" bindings/c/convert.c "$archive" -o "$programs/convert"
 expect 'the C example of a conversion' "$moved" "$programs/convert"
 
-gcc -std=c11 "${strict[@]}" bindings/c/test.c "$archive" -o "$programs/test"
-"$programs/test"
-echo 'the C tests: passed'
-
-g++ -std=c++11 "${strict[@]}" -x c++ bindings/c/test.c -x none "$archive" -o "$programs/test++"
-"$programs/test++"
-echo 'the C tests as C++: passed'
+for test in test large; do
+    gcc -std=c11 "${strict[@]}" "bindings/c/$test.c" "$archive" -o "$programs/$test"
+    "$programs/$test"
+    g++ -std=c++11 "${strict[@]}" -x c++ "bindings/c/$test.c" -x none "$archive" -o "$programs/$test++"
+    "$programs/$test++"
+    echo "the C tests of $test.c, as C and as C++: passed"
+done
 
 expect 'the Rust example of a fold' "$folded" cargo run --quiet --manifest-path "$manifest" --example fold
 expect 'the Rust example of a line' "$line" cargo run --quiet --manifest-path "$manifest" --example line

@@ -44,6 +44,7 @@ TITLES = {  # the chapters in their order: no file stands before one that it res
     "definition/specs/WorkedDates": "Worked dates",
     "definition/specs/WorkedReasons": "Worked reasons",
     "definition/specs/WorkedForms": "Worked forms",
+    "definition/specs/WorkedCounts": "Worked counts",
     "definition/specs/OverBoxes": "What computes: no promise speaks of it",
 }
 CRATES = ("definition", "grid")

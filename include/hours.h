@@ -17,8 +17,8 @@
  *   and `numbers`; they may share a `sheet` that nothing writes meanwhile.
  * - The stack must have HOURS_STACK bytes left.
  *
- * A call that was made before there were two forms gets HOURS_FORM_1 in front, and is answered as it was: the order of its refusals, the
- * numbers and the bytes are the same.
+ * A call that was made before there were two forms gets HOURS_FORM_1 in front. A sheet that was accepted by the limits of before, 64 rules
+ * and 1,024 boxes, is answered as it was, with the same numbers and bytes; now a sheet may have 256 rules, and its fold 4,096 boxes.
  */
 #ifndef HOURS_H
 #define HOURS_H
@@ -39,29 +39,31 @@ enum hours_form {
 };
 
 /* The code of an answer: done, or the first reason to refuse: first 2 where `form` is neither 1 nor 2, then 1, 2 and 4 as met from the
- * first bit on, then 3, 8, 11, 5, 6, 9, 10, 12, 7. The place that goes with it stands in brackets; bits and rules are counted from 0,
+ * first bit on, then 3, 8, 11, 5, 6, 9, 10, 12, 13, 7. The place that goes with it stands in brackets; bits and rules are counted from 0,
  * bits from the most significant one on. */
 enum hours_code {
-    HOURS_DONE = 0,         /* done [0] */
-    HOURS_PAST_END = 1,     /* a field runs past the end [its first bit] */
-    HOURS_UNLAWFUL = 2,     /* `form` is neither 1 nor 2 [0], or a field that isn't a count holds an unlawful value [its first bit]; form
-                               2's first four bits are such a field */
-    HOURS_BAD_END = 3,      /* a padding bit is set, or bytes follow [the first such bit, else the first bit after the padding] */
-    HOURS_OVER_LIMIT = 4,   /* a count passes its limit: 64 rules, 16 items of each sort, 16 spans [its first bit] */
-    HOURS_MANY_BOXES = 5,   /* the drained rules cut over 1,024 boxes [the number of boxes] */
-    HOURS_LONG_LIST = 6,    /* some point's list passes 32 entries after a drained rule [that rule's index] */
-    HOURS_NO_ROOM = 7,      /* `out` is shorter than the result [bytes needed] */
-    HOURS_NO_DATE = 8,      /* lookup only: no such date or minute [0] */
-    HOURS_UNSETTLED = 9,    /* lookup only: a rule is left, or the point's list holds a span that isn't simple [0] */
-    HOURS_NO_LINE = 10,     /* line only: a rule holds what no line says [the first such rule's index] */
-    HOURS_OVERLAP = 11,     /* fold and lookup only: two ranges of one day selector of a drained rule share a value, so that a day is
-                               named twice; ranges that only touch are fine [the first such rule's index] */
-    HOURS_LONG_COMMENT = 12 /* convert from form 2 only: a comment is above 65,535 [the first such rule's index] */
+    HOURS_DONE = 0,          /* done [0] */
+    HOURS_PAST_END = 1,      /* a field runs past the end [its first bit] */
+    HOURS_UNLAWFUL = 2,      /* `form` is neither 1 nor 2 [0], or a field that isn't a count holds an unlawful value [its first bit]; form
+                                2's first four bits are such a field */
+    HOURS_BAD_END = 3,       /* a padding bit is set, or bytes follow [the first such bit, else the first bit after the padding] */
+    HOURS_OVER_LIMIT = 4,    /* a count passes its limit: 256 rules, 16 items of each sort, 16 spans [its first bit] */
+    HOURS_MANY_BOXES = 5,    /* the drained rules cut over 4,096 boxes [the number of boxes] */
+    HOURS_LONG_LIST = 6,     /* some point's list passes 32 entries after a drained rule [that rule's index] */
+    HOURS_NO_ROOM = 7,       /* `out` is shorter than the result [bytes needed] */
+    HOURS_NO_DATE = 8,       /* lookup only: no such date or minute [0] */
+    HOURS_UNSETTLED = 9,     /* lookup only: a rule is left, or the point's list holds a span that isn't simple [0] */
+    HOURS_NO_LINE = 10,      /* line only: a rule holds what no line says [the first such rule's index] */
+    HOURS_OVERLAP = 11,      /* fold and lookup only: two ranges of one day selector of a drained rule share a value, so that a day is
+                                named twice; ranges that only touch are fine [the first such rule's index] */
+    HOURS_LONG_COMMENT = 12, /* convert from form 2 only: a comment is above 65,535 [the first such rule's index] */
+    HOURS_PAST_COUNTS = 13   /* fold of form 1 only: the result has more rules or items than form 1 can count, 65,535 rules, those left
+                                among them, or 1,023 items of a sort in a rule [0] */
 };
 
 /* Bytes of stack: more than twice what the deepest call of the bench took (oracle/README.md). That a stack is deep enough is not
  * proved. */
-enum { HOURS_STACK = 1000000 };
+enum { HOURS_STACK = 3000000 };
 
 /* What a moment is. */
 enum hours_kind {
@@ -85,7 +87,7 @@ enum hours_why {
 
 /* The numbers of a fold, and how many they are. */
 enum hours_fold_number {
-    HOURS_FOLD_CODE,    /* an hours_code: 0 to 7 or 11 */
+    HOURS_FOLD_CODE,    /* an hours_code: 0 to 7, 11 or 13 */
     HOURS_FOLD_DRAINED, /* rules before the first one that can't be folded exactly */
     HOURS_FOLD_EMITTED, /* rules that these were folded to */
     HOURS_FOLD_LEFT,    /* rules copied as they came, from the first one that can't be folded on */
@@ -132,7 +134,8 @@ enum hours_convert_number {
  *
  * Answers the HOURS_FOLD_NUMBERS numbers of hours_fold_number. On HOURS_DONE the folded sheet stands at the front of `out`, in as many
  * bytes as HOURS_FOLD_BYTES says, and later bytes are unchanged. On any other code `out` is unchanged, and every number but code and
- * place is 0. The result may be longer than the sheet; with an `out` of 0 bytes, HOURS_NO_ROOM tells the bytes needed. */
+ * place is 0. The result may be longer than the sheet, and have more rules and items than a sheet may; with an `out` of 0 bytes,
+ * HOURS_NO_ROOM tells the bytes needed. What HOURS_PAST_COUNTS refuses can be folded in form 2: move the sheet there by hours_convert. */
 bool hours_fold(uint64_t form, const uint8_t *sheet, size_t sheet_length, uint8_t *out, size_t out_length, uint64_t *numbers,
                 size_t numbers_length);
 

@@ -3,8 +3,8 @@
 All answers are the reference's. Folds inside the Rust's domain are held against the built oracle while the lists are
 made. A case is a line, its fields separated by a space, bytes in upper-case hex and `-` for none; lines that start with
 `#` are remarks. Sheets of form 1 come first, then those of form 2, then those that are no sheets of the form said and forms that
-are none. Rests on `reference`, on `cases`, `line_cases`, `overlap_cases`, `why_cases` and `convert_cases` for the sheets and on
-`compare` for the oracle.
+are none. Rests on `reference`, on `cases`, `line_cases`, `overlap_cases`, `why_cases`, `convert_cases` and `large_cases` for the
+sheets and on `compare` for the oracle.
 """
 
 from __future__ import annotations
@@ -18,15 +18,17 @@ from random import Random
 from typing import Callable, Iterable
 
 from cases import (
-    EVERY_SORT, FEWER, Given, damaged, each_refused_sort, generated, largest, named_dates, named_sheets, new_year_dates,
-    other_forms, refused_sort, refused_sorts, sample_date, sheets_of_lists, twice_refused,
+    EVERY_SORT, FEWER, Given, damaged, each_refused_sort, generated, is_small, largest, named_dates, named_sheets,
+    new_year_dates, other_forms, refused_sort, refused_sorts, sample_date, sheets_of_lists, twice_refused,
 )
 from compare import fold_line, oracle_lines, verdict
 from convert_cases import long_comments, moved_here, refused_before_12
+from large_cases import DATES, fold_rooms, for_other_entries, large_sheets
 from line_cases import each_reason, flipped_lines, long_line, named_lines, with_a_line, without_a_line
 from overlap_cases import each_overlap, refused_by_overlaps_too
 from reference.convert import convert
 from reference.fold import Folded, Written, fold, write_back
+from reference.large import check_large
 from reference.line import NO_LINE, line, reasons_against
 from reference.lookup import lookup
 from reference.sheet import FORMS, Rule, read_sheet, write_sheet
@@ -94,6 +96,15 @@ def some(sheets: Iterable[Given], wanted: int, form: int) -> Iterable[Given]:
     return islice(sheets, wanted // FEWER[form])
 
 
+def large_lines(entry: Entry, form: int) -> list[str]:
+    """Large sheets in a buffer that is exactly full, and in one that is a byte short."""
+    lines = []
+    for name, given in named_in_form(form, for_other_entries(form)):
+        needed = entry(*given, ROOM)[0].bytes
+        lines += [f"# {name}", *(written_case(entry, given, room) for room in dict.fromkeys((needed, max(needed - 1, 0))))]
+    return lines
+
+
 # The six lists in one form, each made of remarks and cases
 
 
@@ -117,6 +128,10 @@ def fold_lines(form: int, seed: str) -> list[str]:
     for name, sheets in (each_overlap() | each_why()).items():
         lines += [f"# {name}" + ", some of them" * (FEWER[form] > 1)]
         lines += [written_case(fold, given, ROOM) for given in in_form(form, sheets[:: FEWER[form]])]
+    for name, given in named_in_form(form, large_sheets(form)):
+        needed = fold(*given, ROOM)[0].bytes
+        rooms = dict.fromkeys((*fold_rooms(name), needed, max(needed - 1, 0)))
+        lines += [f"# {name}", *(written_case(fold, given, room) for room in rooms)]
     return lines
 
 
@@ -136,9 +151,12 @@ def lookup_lines(form: int, seed: str) -> list[str]:
     lines += [lookup_case(given, sample_date(random)) for given in each_refused_sort(form, seed, 1)]
     lines += ["# generated, answered and then anyhow"]
     answered = generated(form, f"{seed}/lookups", False, lambda given: lookup(*given, 2024, 2, 29, 600).code == 0)
-    lines += [lookup_case(given, date) for given in some(answered, 400, form) for date in telling_dates(given, random)]
+    small = some(filter(is_small, answered), 400, form)
+    lines += [lookup_case(given, date) for given in small for date in telling_dates(given, random)]
     anyhow = generated(form, f"{seed}/any lookup", False)
     lines += [lookup_case(given, sample_date(random)) for given in some(anyhow, 500, form)]
+    for name, given in named_in_form(form, for_other_entries(form)):
+        lines += [f"# {name}", *(lookup_case(given, date) for date in DATES)]
     return lines
 
 
@@ -154,7 +172,7 @@ def back_lines(form: int, seed: str) -> list[str]:
     lines += ["# generated"]
     sheets = some(generated(form, f"{seed}/backs", False), 400, form)
     lines += [written_case(write_back, given, some_room(random, len(given.sheet))) for given in sheets]
-    return lines
+    return lines + large_lines(write_back, form)
 
 
 def line_lines(form: int, seed: str) -> list[str]:
@@ -180,7 +198,7 @@ def line_lines(form: int, seed: str) -> list[str]:
     }
     for name, sheets in generated_ones.items():
         lines += [f"# {name}", *(in_some_room(line, given, random) for given in sheets)]
-    return lines
+    return lines + large_lines(line, form)
 
 
 def convert_lines(form: int, seed: str) -> list[str]:
@@ -195,7 +213,7 @@ def convert_lines(form: int, seed: str) -> list[str]:
     lines += ["# generated, moved here from the other form and then anyhow"]
     for sheets in (moved_here(form, f"{seed}/moved"), generated(form, f"{seed}/conversions", False)):
         lines += [in_some_room(convert, given, random) for given in islice(sheets, 200)]
-    return lines
+    return lines + large_lines(convert, form)
 
 
 def read_lines(form: int, seed: str) -> list[str]:
@@ -208,6 +226,8 @@ def read_lines(form: int, seed: str) -> list[str]:
         lines += [f"# every truncation and every flipped bit of {name}", *map(read_case, damaged(given))]
     lines += ["# each sort of refusal in reading", *map(read_case, each_refused_sort(form, seed, 5))]
     lines += ["# generated", *map(read_case, some(generated(form, f"{seed}/reads", False), 400, form))]
+    for name, given in named_in_form(form, for_other_entries(form)):
+        lines += [f"# {name}", read_case(given)]
     return lines
 
 
@@ -307,6 +327,7 @@ def main() -> None:
     parser.add_argument("--seed", type=int, required=True)
     seed = parser.parse_args().seed
     check_worked()
+    check_large()
     DATA.mkdir(parents=True, exist_ok=True)
     for name, (layout, lines_in, anyhow) in LISTS.items():
         lines = [line for form in FORMS for line in lines_in(form, SEEDS[form].format(seed))]

@@ -7,16 +7,17 @@ written in, or in none. Rests on `generate` and on `reference`, whose worked day
 from __future__ import annotations
 
 from itertools import count, islice
+from math import prod
 from random import Random
 from typing import Callable, Iterator, NamedTuple
 
-from generate import fields_met, flip, overwrite, sheet_number, stop_by_span
+from generate import MANY_RULES, fields_met, flip, overwrite, sheet_number, stop_by_span
 from reference.build import ITEM_OF_ENDS, ITEM_OF_SORT, boxes_rule, fixed, hours, many, plain_rule, weekdays
 from reference.fold import fold
-from reference.points import DIMENSIONS, LIST_LIMIT, Dimension
+from reference.points import DIMENSIONS, LIST_LIMIT, Dimension, cuts_of, drained_of, shape_of
 from reference.sheet import (
     ADDITIONAL, DAY_ITEMS, EVENT, EVENT_OFFSET, FIXED_MINUTES, ITEM_FIELDS, ITEM_LIMIT, KIND, NORMAL, NO_REPEATS, OPEN_END,
-    OPERATOR, PADDING, PAST_THE_END, REPEATS, REPEATS_FLAG, RULE_LIMIT, TIME_TAG, DatedRange, Field, Holiday, Months,
+    OPERATOR, PADDING, PAST_THE_END, REPEATS, REPEATS_FLAG, TIME_TAG, DatedRange, Field, Holiday, Months,
     MonthsOfYear, Refusal, Rule, Span, Time, Week, Year, layout_of, read_sheet, write_sheet,
 )
 from reference.worked import (
@@ -27,6 +28,7 @@ from stock import MINUTES, YEAR_VALUES, Stock
 SHORT = {1: 120, 2: 140}  # by form, bytes of a sheet that is stored among many
 LAST_NUMBER = 2**64 - 1
 SEARCHED = 2000
+SMALL = 1024  # boxes
 FEWER = {1: 1, 2: 4}  # form 2 has one for so many of form 1's generated sheets, dates, overlaps and reasons
 
 # One rule with every sort of item and time, short enough to store all its flips and truncations.
@@ -78,7 +80,7 @@ def refused_sorts(form: int) -> list[Sort]:
 
 
 def named_sheets(form: int) -> dict[str, bytes]:
-    """The document's own cases, and sheets at the limits and one past them."""
+    """The document's own cases, and sheets at the limits and one past them; 64 rules and 1,024 boxes once were limits."""
     named = {"the example": EXAMPLES[form], "no bytes": b"", "every sort of item": write_sheet(form, EVERY_SORT)}
     named |= {name: write_sheet(form, rules) for name, rules in (worked_rules() | at_the_limits()).items()}
     return named | (form_2_alone() if form == 2 else {})
@@ -91,7 +93,7 @@ def worked_rules() -> dict[str, list[Rule]]:
 def at_the_limits() -> dict[str, list[Rule]]:
     named = {}
     for above in (0, 1):
-        rules = [plain_rule(comment=place) for place in range(RULE_LIMIT + above)]
+        rules = [plain_rule(comment=place) for place in range(MANY_RULES + above)]
         named[f"{len(rules)} rules"] = rules
         for sort in ITEM_OF_SORT:
             items = many(sort, ITEM_LIMIT + above)
@@ -142,11 +144,11 @@ def intervals_with_bit(dimension: Dimension, bits: int, bit: int) -> Iterator[tu
 
 
 def twice_refused(form: int) -> dict[str, bytes]:
-    """Sheets for which two codes hold, so that the order of refusals shows."""
+    """Sheets for which two codes hold, so that the order of refusals shows. Those of 1,152 boxes once were too many."""
     boxes, entries = boxes_rule((1, 9, 8, 16)), [plain_rule(operator=ADDITIONAL)] * 33
     stopper, early = plain_rule(spans=(fixed(1080, 1441),)), Year(1899, 2000, 1)
     folded = {
-        "5 before 6": write_sheet(form, [boxes, *entries]), "5 before 9": write_sheet(form, [boxes, stopper]),
+        "1152 boxes, and 6": write_sheet(form, [boxes, *entries]), "1152 boxes, and 9": write_sheet(form, [boxes, stopper]),
         "6 before 9": write_sheet(form, [*entries, stopper]),
     }
     return {
@@ -230,6 +232,11 @@ def padding_sort(place: int) -> str:
 
 def is_accepted(given: Given) -> bool:
     return refused_sort(given)[0] == 0
+
+
+def is_small(given: Given) -> bool:
+    """Whether an accepted sheet has 1,024 boxes at most. Larger ones are named in `large_cases`, where none is by chance."""
+    return prod(shape_of(cuts_of(drained_of(read_sheet(*given)[0])))) <= SMALL
 
 
 def damaged(given: Given) -> Iterator[Given]:

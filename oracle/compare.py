@@ -1,11 +1,12 @@
-"""The reference held against the Rust oracle: `python3 oracle/compare.py --seed N --count N [--form N] [--any|--days|--halves]`.
+"""The reference held against the Rust oracle: `compare.py --seed N --count N [--form N] [--any|--days|--halves] [--large]`.
 
 Generated sheets go to both; counts are printed and, where the two differ, the smallest inputs. Exit status 1 on any
 difference. Why a fold stopped isn't compared: the Rust tells no reason. Nor is a sheet that code 11 refuses, for ranges that
 overlap: the Rust folds it. The sheets stay inside the Rust's domain, but with `--any`. `--days` compares days of lists in place
 of folds. `--halves` takes drained rules alone, and the Rust, whose years and weeks don't wrap, gets those that do as their two
-halves. With `--form 2` both read and write sheets of form 2: to the Rust a comment is a text, whatever its length. Rests on the
-built oracle (oracle/target/release/oracle), on `generate` and on `reference`.
+halves. With `--form 2` both read and write sheets of form 2: to the Rust a comment is a text, whatever its length. With `--large`
+the sheets have many rules and boxes; there code 13 is compared too, by the counts of the Rust's own result. Rests on the built
+oracle (oracle/target/release/oracle), on `generate` and on `reference`.
 """
 
 from __future__ import annotations
@@ -21,9 +22,10 @@ from random import Random
 from typing import Iterator, NamedTuple
 
 from generate import sheets
-from reference.check import AMPLE_ROOM, check_boxes_against_points, check_other_form
+from reference.check import check_boxes_against_points, check_other_form
+from reference.counts import MOST_ITEMS, MOST_RULES, PAST_COUNTS
 from reference.day import day_of, rules_of_day
-from reference.fold import fold
+from reference.fold import AMPLE_ROOM, fold
 from reference.points import DIMENSIONS, drained_of, ranges_of
 from reference.sheet import FORMS, PADDING, PAST_THE_END, UNLAWFUL, Refusal, Week, Year, read_sheet, write_sheet
 
@@ -91,8 +93,18 @@ def in_halves(form: int, sheet: bytes) -> bytes:
     ])
 
 
+def is_past_counts(theirs: str) -> bool:
+    """Whether the oracle's result has more rules or items than form 1 can count: then it prints its counts alone."""
+    match theirs.split():
+        case [_, emitted, left, "items", most]:
+            return int(emitted) + int(left) > MOST_RULES or int(most) > MOST_ITEMS
+    return False
+
+
 def verdict(sheet: bytes, ours: str, theirs: str) -> tuple[str, Difference | None]:
     """What the sheet counts as, and the difference, if there is one."""
+    if ours == f"refused {PAST_COUNTS} 0" and not theirs.startswith("outside"):
+        return "past the counts of form 1", None if is_past_counts(theirs) else Difference(sheet, ours, theirs)
     if ours.startswith("refused"):
         code = int(ours.split()[1])
         answered = code in (PAST_THE_END, UNLAWFUL, PADDING) and not theirs.startswith("outside")
@@ -104,9 +116,9 @@ def verdict(sheet: bytes, ours: str, theirs: str) -> tuple[str, Difference | Non
     return "compared and differing", Difference(sheet, ours, theirs)
 
 
-def lines_of_both(form: int, seed: int, mode: str, numbers: range) -> Iterator[tuple[bytes, str, str]]:
+def lines_of_both(form: int, seed: int, mode: str, large: bool, numbers: range) -> Iterator[tuple[bytes, str, str]]:
     """Each sheet, the reference's line and the oracle's."""
-    given = list(sheets(form, seed, numbers, inside=mode in ("folds", "days")))
+    given = list(sheets(form, seed, numbers, mode in ("folds", "days"), large))
     theirs = given
     if mode == "halves":
         given = [drained_alone(form, sheet) for sheet in given]
@@ -115,10 +127,10 @@ def lines_of_both(form: int, seed: int, mode: str, numbers: range) -> Iterator[t
     return zip(given, map(partial(line, form), given), oracle_lines(form, theirs, options), strict=True)
 
 
-def compare_chunk(form: int, seed: int, mode: str, numbers: range) -> tuple[Counter, list[Difference]]:
+def compare_chunk(form: int, seed: int, mode: str, large: bool, numbers: range) -> tuple[Counter, list[Difference]]:
     counts: Counter = Counter()
     differences = []
-    for number, (sheet, ours, theirs) in zip(numbers, lines_of_both(form, seed, mode, numbers)):
+    for number, (sheet, ours, theirs) in zip(numbers, lines_of_both(form, seed, mode, large, numbers)):
         name, difference = verdict(sheet, ours, theirs)
         counts[name] += 1
         if difference:
@@ -150,12 +162,13 @@ def main() -> int:
     modes.add_argument("--days", dest="mode", action="store_const", const="days", help="days of lists in place of folds")
     modes.add_argument("--halves", dest="mode", action="store_const", const="halves", help="ranges that wrap as halves")
     parser.set_defaults(mode="folds")
+    parser.add_argument("--large", action="store_true", help="sheets of many rules and boxes alone")
     arguments = parser.parse_args()
     chunks = [range(start, min(start + CHUNK, arguments.count)) for start in range(0, arguments.count, CHUNK)]
     counts: Counter = Counter()
     differences: list[Difference] = []
     with Pool(WORKERS) as pool:
-        work = partial(compare_chunk, arguments.form, arguments.seed, arguments.mode)
+        work = partial(compare_chunk, arguments.form, arguments.seed, arguments.mode, arguments.large)
         for chunk_counts, chunk_differences in pool.imap_unordered(work, chunks):
             counts += chunk_counts
             differences += chunk_differences

@@ -1,8 +1,10 @@
-"""A seeded generator of packed sheets: `python3 oracle/generate.py --seed N --count N [--form N] [--inside]` prints hex lines.
+"""A seeded generator of packed sheets: `python3 oracle/generate.py --seed N --count N [--form N] [--inside] [--large]` prints hex
+lines.
 
-Sheet number i of a seed depends on nothing but the seed, i, the form and `--inside`. Ranges of one selector share values in few
+Sheet number i of a seed depends on nothing but the seed, i, the form and the options. Ranges of one selector share values in few
 sheets, and often in rules left. `--inside` stays where the Rust's constructors take the values as they are: year and week
-ranges that rise, and steps that they keep. Rests on `stock`, `reference.sheet`, `reference.build` and `reference.overlap`.
+ranges that rise, and steps that they keep. `--large` makes sheets of many rules and boxes alone. Rests on `stock`, `large`,
+`reference.sheet`, `reference.build` and `reference.overlap`.
 """
 
 from __future__ import annotations
@@ -11,13 +13,16 @@ import argparse
 from random import Random
 from typing import Iterator
 
+from large import LARGE
 from reference.build import ITEM_OF_SORT, boxes_rule, fixed, many
 from reference.overlap import overlaps
 from reference.sheet import (
-    ADDITIONAL, ALL_NTH, FALLBACK, FORMS, ITEM_LIMIT, NO_REPEATS, RULE_LIMIT, Cursor, DatedRange, Field, Holiday, MonthsOfYear,
+    ADDITIONAL, ALL_NTH, FALLBACK, FORMS, ITEM_LIMIT, NO_REPEATS, Cursor, DatedRange, Field, Holiday, MonthsOfYear,
     Refusal, Rule, Span, Time, Week, Weekdays, Year, bits_at, layout_of, pack_rules, read_from, write_sheet,
 )
 from stock import MINUTES, YEAR_VALUES, Stock
+
+MANY_RULES = 64
 
 
 # Stoppers: each makes a draining rule into one that stops.
@@ -121,12 +126,12 @@ def lists_at_the_limit(random: Random, inside: bool, form: int) -> bytes:
 
 
 def counts_at_the_limit(random: Random, inside: bool, form: int) -> bytes:
-    """64 rules, or 16 items of one sort; without `inside` at times one more. So many months or weekdays overlap: mostly
-    their rule is left."""
+    """16 items of one sort, or 64 rules, as many as were once the most; without `inside` at times one more. So many months or
+    weekdays overlap: mostly their rule is left."""
     stock = Stock(random, inside, form)
     above = 0 if inside else random.getrandbits(1)
     if random.random() < 0.2:
-        return write_sheet(form, [stock.rule() for _ in range(RULE_LIMIT + above)])
+        return write_sheet(form, [stock.rule() for _ in range(MANY_RULES + above)])
     sort = random.choice(list(ITEM_OF_SORT))
     rules = stock.rules()
     place = random.randrange(len(rules))
@@ -202,14 +207,14 @@ DAMAGED = {truncated: 15, flipped: 20, ended_wrong: 8, unlawful: 12, noise: 5}
 ANY = {1: ACCEPTED | DAMAGED, 2: ACCEPTED | DAMAGED | {wrong_head: 5, of_another_form: 5}}
 
 
-def sheet_number(form: int, seed: int | str, number: int, inside: bool) -> bytes:
+def sheet_number(form: int, seed: int | str, number: int, inside: bool, large: bool = False) -> bytes:
     random = Random(f"{seed}/{number}")
-    recipes = ACCEPTED if inside else ANY[form]
+    recipes = LARGE if large else ACCEPTED if inside else ANY[form]
     return random.choices(tuple(recipes), tuple(recipes.values()))[0](random, inside, form)
 
 
-def sheets(form: int, seed: int | str, numbers: range, inside: bool) -> Iterator[bytes]:
-    return (sheet_number(form, seed, number, inside) for number in numbers)
+def sheets(form: int, seed: int | str, numbers: range, inside: bool, large: bool) -> Iterator[bytes]:
+    return (sheet_number(form, seed, number, inside, large) for number in numbers)
 
 
 def main() -> None:
@@ -218,8 +223,9 @@ def main() -> None:
     parser.add_argument("--count", type=int, required=True)
     parser.add_argument("--form", type=int, choices=FORMS, default=1)
     parser.add_argument("--inside", action="store_true", help="stay inside the Rust's domain")
+    parser.add_argument("--large", action="store_true", help="sheets of many rules and boxes alone")
     arguments = parser.parse_args()
-    for sheet in sheets(arguments.form, arguments.seed, range(arguments.count), arguments.inside):
+    for sheet in sheets(arguments.form, arguments.seed, range(arguments.count), arguments.inside, arguments.large):
         print(sheet.hex().upper())
 
 

@@ -11,10 +11,10 @@ from random import Random
 from typing import Callable, Iterator
 
 from cases import SHORT, Given
-from generate import flip
+from generate import MANY_RULES, flip
 from reference.build import ITEM_OF_SORT, fixed, plain_rule, weekdays
 from reference.sheet import (
-    ADDITIONAL, ALL_NTH, CLOSED, FALLBACK, ITEM_LIMIT, NO_REPEATS, NORMAL, OPEN, RULE_LIMIT, UNKNOWN,
+    ADDITIONAL, ALL_NTH, CLOSED, FALLBACK, ITEM_LIMIT, NO_REPEATS, NORMAL, OPEN, UNKNOWN,
     DatedRange, Holiday, Months, MonthsOfYear, Rule, Span, Time, Week, Weekdays, Year, write_sheet,
 )
 from reference.worked import LINES, NO_LINES, additional
@@ -92,7 +92,7 @@ def over(sort: str, items: list) -> list[Rule]:
 
 def limits() -> dict[str, list[Rule]]:
     items = {sort: (item,) * ITEM_LIMIT for sort, item in ITEM_OF_SORT.items()}
-    rules = [plain_rule(operator=place % 3, comment=place) for place in range(RULE_LIMIT)]
+    rules = [plain_rule(operator=place % 3, comment=place) for place in range(MANY_RULES)]
     return {
         "16 items of each sort": [plain_rule(**items)],
         "64 rules of each operator": rules,
@@ -101,12 +101,13 @@ def limits() -> dict[str, list[Rule]]:
 
 
 def long_line(form: int) -> Given:
-    """64 rules of 16 years, weeks and spans, as long as they can be written; with months and weekdays no record holds it."""
+    """64 rules of 16 years, weeks and spans, as long as they can be written; with months and weekdays, or more rules, no record
+    holds it."""
     rule = plain_rule(
         operator=FALLBACK, kind=UNKNOWN, comment=COMMENTS[form][-1], years=(Year(1900, 9999, 65535),) * ITEM_LIMIT,
         weeks=(Week(52, 2, 255),) * ITEM_LIMIT, spans=(fixed(2879, 2880, 1),) * ITEM_LIMIT,
     )
-    return Given(form, write_sheet(form, [rule._replace(operator=NORMAL)] + [rule] * (RULE_LIMIT - 1)))
+    return Given(form, write_sheet(form, [rule._replace(operator=NORMAL)] + [rule] * (MANY_RULES - 1)))
 
 
 # Each reason against a line

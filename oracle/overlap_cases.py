@@ -140,12 +140,13 @@ def each_overlap() -> dict[str, list[list[Rule]]]:
 
 
 def refused_by_overlaps_too(form: int) -> dict[str, bytes]:
-    """Sheets for which 11 and another code hold, so that the order of refusals shows."""
+    """Sheets for which 11 and another code hold, so that the order of refusals shows. Those of 1,152 boxes once were too many."""
     folded = {
-        "11 before 5": [BOXES, SHARING], "11 before 5, in the rule of the boxes": [BOXES._replace(weekdays=SHARING_WEEKDAYS)],
+        "11, with 1152 boxes": [BOXES, SHARING], "11, in the rule of 1152 boxes": [BOXES._replace(weekdays=SHARING_WEEKDAYS)],
         "11 before 6": [*ENTRIES, SHARING], "11 in the first rule, before 6": [SHARING, *ENTRIES],
-        "11 before 9": [SHARING, STOPPER], "11 before 5, 6 and 9": [BOXES, *ENTRIES, SHARING, STOPPER],
-        "5 where a rule left overlaps": [BOXES, STOPPER, SHARING], "6 where a rule left overlaps": [*ENTRIES, STOPPER, SHARING],
+        "11 before 9": [SHARING, STOPPER], "11 before 6 and 9, with 1152 boxes": [BOXES, *ENTRIES, SHARING, STOPPER],
+        "1152 boxes where a rule left overlaps": [BOXES, STOPPER, SHARING],
+        "6 where a rule left overlaps": [*ENTRIES, STOPPER, SHARING],
         "9 where a rule left overlaps": [plain_rule(), STOPPER, SHARING],
     }
     sheets = {name: write_sheet(form, rules) for name, rules in folded.items()}

@@ -1,36 +1,9 @@
 /* The header held against the archive: every function called with every sort of slice. Compiles as C and as C++. */
-#include <stdio.h>
 #include <stdlib.h>
 #include <string.h>
 
+#include "check.h"
 #include "hours.h"
-
-/* What stands in a lent slice before a call, so that a write shows. */
-enum { PAINT = 0xC3 };
-
-static int failures = 0;
-
-static void check(bool holds, const char *what)
-{
-    if (!holds) {
-        printf("does not hold: %s\n", what);
-        failures++;
-    }
-}
-
-#define CHECK(condition) check(condition, #condition)
-
-static bool painted(const void *memory, size_t length)
-{
-    const unsigned char *bytes = (const unsigned char *)memory;
-
-    for (size_t i = 0; i < length; i++) {
-        if (bytes[i] != PAINT) {
-            return false;
-        }
-    }
-    return true;
-}
 
 /* One Normal Open rule, 00:00-24:00. */
 static const uint8_t always[] = {0x00, 0x01, 0x00, 0x00, 0x00, 0x00, 0x00, 0x00, 0x00, 0x00, 0x04, 0x00, 0x05, 0xA0, 0x00};

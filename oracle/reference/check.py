@@ -4,7 +4,7 @@ Checked for the drained rules of an accepted fold: the list of a point's box is 
 no rule stands in it twice, since no ranges overlap (document 02, M-101); the folded rules say at the point exactly its day;
 the day of simple spans shows at a minute the last span that covers it; and cuts beyond those needed change nothing. Checked
 for an accepted sheet whose comments fit the other form (M-106): moved there and back it is the same, its fold moved there is
-the fold of what it was moved to, and its line stays. Rests on the other modules.
+the fold of what it was moved to, unless form 1 can't count it (M-107), and its line stays. Rests on the other modules.
 """
 
 from __future__ import annotations
@@ -13,8 +13,9 @@ from bisect import bisect_right
 from random import Random
 
 from .convert import COMMENT_TOO_LONG, OTHER_FORM, convert
+from .counts import PAST_COUNTS
 from .day import Day, PLAIN_CLOSED, StatedSpan, day_of, flatten, is_simple
-from .fold import days_of_lists, fold, fold_drained
+from .fold import AMPLE_ROOM, days_of_lists, fold, fold_drained
 from .groups import folded_rules, number_of
 from .line import line
 from .lookup import last_covering
@@ -22,7 +23,6 @@ from .points import DIMENSIONS, Dimension, Point, cuts_of, list_at, lists_of_box
 from .sheet import MIDNIGHT, PAST_ITS_LIMIT, Rule
 
 POINTS, MINUTES, EXTRA_CUTS = 40, 5, 2
-AMPLE_ROOM = 2**32
 
 
 def check_other_form(form: int, sheet: bytes) -> None:
@@ -33,6 +33,9 @@ def check_other_form(form: int, sheet: bytes) -> None:
     assert convert(other, moved, AMPLE_ROOM)[1] == sheet, ("back", moved)
     assert line(other, moved, AMPLE_ROOM) == line(form, sheet, AMPLE_ROOM), ("line", moved)
     (ours, folded), (theirs, folded_there) = fold(form, sheet, AMPLE_ROOM), fold(other, moved, AMPLE_ROOM)
+    if PAST_COUNTS in (ours.code, theirs.code):  # of form 1 alone, where form 2 folds
+        assert {ours.code, theirs.code} == {0, PAST_COUNTS}, ("13", moved)
+        return
     assert ours._replace(bytes=0) == theirs._replace(bytes=0), ("numbers", moved)
     answer, folded_moved = convert(form, folded, AMPLE_ROOM)
     assert answer.code == PAST_ITS_LIMIT or folded_moved == folded_there, ("fold", moved)

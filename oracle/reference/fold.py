@@ -1,7 +1,8 @@
 """The fold and the write-back: the numbers of the answer, the refusals in their order, the bytes.
 
-The last number, why the fold stopped, is document 02's (M-105), and so are the refusal of overlaps (M-101) and the form that the
-caller says and "a fold keeps" (M-106). Rests on `sheet`, `points`, `overlap`, `why`, `day` and `groups`.
+The last number, why the fold stopped, is document 02's (M-105), and so are the refusal of overlaps (M-101), the form that the
+caller says and "a fold keeps" (M-106), and what form 1 can't count (M-107). Rests on `sheet`, `points`, `overlap`, `why`, `day`,
+`groups` and `counts`.
 """
 
 from __future__ import annotations
@@ -9,6 +10,7 @@ from __future__ import annotations
 from functools import partial
 from typing import Callable, NamedTuple
 
+from .counts import check_counts
 from .day import Day, day_of
 from .groups import folded_rules
 from .overlap import check_overlaps
@@ -17,6 +19,7 @@ from .sheet import Refusal, Rule, pack_rules, read_sheet, rules_bits, unpack, wr
 from .why import NOTHING, why_stopped
 
 BUFFER_TOO_SHORT = 7
+AMPLE_ROOM = 2**32  # for any result
 
 
 class Folded(NamedTuple):
@@ -42,6 +45,7 @@ def fold(form: int, sheet: bytes, room: int) -> tuple[Folded, bytes]:
         drained = drained_of(rules)
         emitted = fold_drained(drained)
         left = rules[len(drained) :]
+        check_counts(form, emitted + left)
         copied = unpack(sheet, places[len(drained)], places[-1])
         folded = pack_rules(form, len(emitted) + len(left), rules_bits(form, emitted) + copied)
         result = checked_room(folded, room)

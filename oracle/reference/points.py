@@ -14,7 +14,7 @@ from typing import NamedTuple
 from .sheet import CLOSED, NORMAL, Refusal, Rule
 from .why import stops
 
-BOX_LIMIT, LIST_LIMIT = 1024, 32
+BOX_LIMIT, LIST_LIMIT = 4096, 32  # the first is document 02's, M-107
 TOO_MANY_BOXES, LIST_TOO_LONG = 5, 6
 
 Range = tuple[int, int]  # start, and the end excluded

@@ -14,7 +14,7 @@ from typing import NamedTuple
 
 NORMAL, ADDITIONAL, FALLBACK = 0, 1, 2
 OPEN, CLOSED, UNKNOWN = 0, 1, 2
-RULE_LIMIT, ITEM_LIMIT = 64, 16
+RULE_LIMIT, ITEM_LIMIT = 256, 16  # the first is document 02's, M-107
 NO_REPEATS = -1  # below every number of minutes, so that the order of tuples is the order of spans
 ALL_NTH = 0b11111
 MIDNIGHT = 1440  # minutes of 24:00

@@ -1,10 +1,10 @@
 """The worked days of document 01, and the cases it says to run, as rules that go in and what comes out.
 
 `FOLDS` holds those whose folded rules the document tells; `RUNS` those of which it tells only code and place, or what
-drains. `OVERLAPS` holds P9 as 02's M-101 has it and what is worked by hand from its words, `LINES` and `NO_LINES` are worked from
-those on the line (M-100), `WHYS` from those on why the fold stopped (M-105), `EMPTY`, `LONG_FOLDS`, `COMMENTS`, `MISREAD` and
-`NO_FORMS` from those on the two forms (M-106). Rests on `build`; `check_worked` holds all entries against them, in both forms
-where a case is rules of either.
+drains, by the limits of 02's M-107. `OVERLAPS` holds P9 as 02's M-101 has it and what is worked by hand from its words, `LINES`
+and `NO_LINES` are worked from those on the line (M-100), `WHYS` from those on why the fold stopped (M-105), `EMPTY`,
+`LONG_FOLDS`, `COMMENTS`, `MISREAD` and `NO_FORMS` from those on the two forms (M-106). Rests on `build`; `check_worked` holds all
+entries against them, in both forms where a case is rules of either.
 """
 
 from __future__ import annotations
@@ -149,7 +149,7 @@ RUNS: dict[str, tuple[list[Rule], tuple[int, int, int]]] = {
     "variable to 23:59": ([plain_rule(spans=(variable_to(1439),))], (0, 0, 0)),
     "18:00-18:00": ([plain_rule(spans=(hours(18, 18),))], (0, 0, 0)),
     "1024 boxes": ([boxes_rule((1, 8, 8, 16))], (0, 1, 0)),
-    "1152 boxes": ([boxes_rule((1, 9, 8, 16))], (5, 0, 1152)),
+    "1152 boxes": ([boxes_rule((1, 9, 8, 16))], (0, 1, 0)),
     "32 entries": ([additional()] * 32, (0, 32, 0)),
     "33 entries": ([additional()] * 33, (6, 0, 32)),
     "33 entries after rules that replace": ([plain_rule(spans=())] * 4 + [additional(spans=())] * 32, (6, 0, 35)),
@@ -162,7 +162,7 @@ OVERLAPS: dict[str, tuple[list[Rule], int]] = {
     "two wraps share": ([plain_rule(), plain_rule(weeks=(Week(50, 2, 1), Week(53, 1, 1)))], 1),
     "a whole dimension beside an item": ([plain_rule(monthdays=(Months(1, 12), Months(3, 3)))], 0),
     "equal years": ([plain_rule(kind=CLOSED, years=(Year(2026, 2026, 1),) * 2, spans=())], 0),
-    "before boxes": ([boxes_rule((3, 11, 11, 3), spans=()), plain_rule(monthdays=(Months(1, 1),) * 2, spans=())], 1),
+    "beside 1089 boxes": ([boxes_rule((3, 11, 11, 3), spans=()), plain_rule(monthdays=(Months(1, 1),) * 2, spans=())], 1),
     "the first of two": (
         [plain_rule(), plain_rule(monthdays=(Months(1, 3), Months(3, 3))), plain_rule(weekdays=SHARING_WEEKDAYS)], 1,
     ),
@@ -200,7 +200,8 @@ WHYS: dict[str, tuple[list[Rule], int]] = {
     "an offset and an nth bit of one item": ([plain_rule(weekdays=(LAST_OF_MONTH._replace(offset=-1),))], 7),
     "the first rule left": ([plain_rule(), plain_rule(weekdays=(LAST_OF_MONTH,)), EVERY_REASON], 8),
     "the first rule left, the last plain": ([plain_rule(weeks=(WEEKS_BY_2,)), plain_rule()], 5),
-    "refused": ([boxes_rule((1, 9, 8, 16)), EVERY_REASON], 0),
+    "1152 boxes": ([boxes_rule((1, 9, 8, 16)), EVERY_REASON], 1),
+    "refused": ([boxes_rule((4, 8, 8, 17)), EVERY_REASON], 0),
 }
 
 # A date at noon, and the code of its lookup in the example sheet, which is Open all day.
@@ -280,9 +281,12 @@ MISREAD: dict[str, tuple[int, bytes, tuple[int, int]]] = {
     "no bytes read as form 2": (2, b"", (PAST_THE_END, 0)),
     "a head alone": (2, bytes.fromhex("20"), (PAST_THE_END, 4)),
     "another head alone": (2, bytes.fromhex("30"), (UNLAWFUL, 0)),
-    "65 rules of form 2": (2, bytes.fromhex("20000410"), (PAST_ITS_LIMIT, 4)),
+    "65 rules of form 2, most of their bits missing": (2, bytes.fromhex("20000410"), (PAST_THE_END, 32)),
     "another head, then 65 rules": (2, bytes.fromhex("A0000410"), (UNLAWFUL, 0)),
     "17 years of form 2": (2, bytes.fromhex("2000001000000001100000000000000000"), (PAST_ITS_LIMIT, 56)),
+    "256 rules of form 2, most of their bits missing": (2, bytes.fromhex("20001000"), (PAST_THE_END, 32)),
+    "257 rules of form 2": (2, bytes.fromhex("20001010"), (PAST_ITS_LIMIT, 4)),
+    "257 rules": (1, bytes.fromhex("0101"), (PAST_ITS_LIMIT, 0)),
 }
 NO_FORMS = (0, 3, 2**32 + 1, 2**64 - 1)
 

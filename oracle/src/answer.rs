@@ -10,7 +10,8 @@ use crate::rules::{OpeningHoursExpression, RuleOperator, RuleSequence};
 use crate::sheet_reader::read_sheet;
 use crate::sheet_writer::write_sheet;
 
-/// `DRAINED EMITTED LEFT RESULTHEX` for a sheet in hex, or why it is outside the Rust.
+/// `DRAINED EMITTED LEFT RESULTHEX` for a sheet in hex, `DRAINED EMITTED LEFT items MOST` where the form's counts can't carry the result,
+/// of which a rule has so many items of a sort at most, or why the sheet is outside the Rust.
 pub fn fold_line(form: Form, line: &str) -> String {
     answer(form, line, |rules| fold(form, rules))
 }
@@ -44,12 +45,14 @@ fn fold(form: Form, rules: Vec<RuleSequence>) -> String {
         "the two steps and normalize() must give the same rules"
     );
 
+    let result = match folded.is_counted_in(form) {
+        true => to_hex(&write_sheet(form, &folded.result)),
+        false => format!("items {}", folded.most_items),
+    };
+
     format!(
-        "{} {} {} {}",
-        folded.drained,
-        folded.emitted,
-        folded.left,
-        to_hex(&write_sheet(form, &folded.result))
+        "{} {} {} {result}",
+        folded.drained, folded.emitted, folded.left
     )
 }
 

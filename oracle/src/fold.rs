@@ -8,25 +8,42 @@ use crate::normalize::{canonical_to_ruleseq, drain_ruleseq_into_canonical};
 use crate::outside::Outside;
 use crate::rules::{OpeningHoursExpression, RuleSequence};
 use crate::sheet_reader::read_sheet;
-use crate::sheet_writer::{write_rules, write_sheet};
+use crate::sheet_writer::{most_items, write_rules, write_sheet};
 
 /// The fold's counts and its result, the folded rules first and those left after them.
 pub struct Folded<Result> {
     pub drained: usize,
     pub emitted: usize,
     pub left: usize,
+    /// The most items of a sort, or spans, that a rule of the result has.
+    pub most_items: usize,
     pub result: Result,
 }
 
-/// A sheet's fold with its counts, the result before its last byte is filled, or why the sheet is outside the Rust.
-pub fn fold_sheet(form: Form, sheet: &[u8]) -> Result<Folded<BitWriter>, Outside> {
+impl<Result> Folded<Result> {
+    /// Whether the counts of a form can carry the result.
+    pub fn is_counted_in(&self, form: Form) -> bool {
+        let has_room = |count: usize, width| count >> width == 0;
+
+        has_room(self.emitted + self.left, form.rule_count_width())
+            && has_room(self.most_items, form.item_count_width())
+    }
+}
+
+/// A sheet's fold with its counts, the result before its last byte is filled, or why the sheet is outside the Rust. There is no result where
+/// the form's counts can't carry it.
+pub fn fold_sheet(form: Form, sheet: &[u8]) -> Result<Folded<Option<BitWriter>>, Outside> {
     let folded = fold_rules(read_sheet(form, sheet)?);
+    let result = folded
+        .is_counted_in(form)
+        .then(|| write_rules(form, &folded.result));
 
     Ok(Folded {
         drained: folded.drained,
         emitted: folded.emitted,
         left: folded.left,
-        result: write_rules(form, &folded.result),
+        most_items: folded.most_items,
+        result,
     })
 }
 
@@ -55,6 +72,7 @@ pub(crate) fn fold_rules(rules: Vec<RuleSequence>) -> Folded<Vec<RuleSequence>> 
         drained: count - left_count,
         emitted,
         left: left_count,
+        most_items: most_items(&result),
         result,
     }
 }

@@ -1,7 +1,8 @@
 //! The Rust oracle: folds packed sheets by the source under docs/src (see `lib.rs`).
 //!
 //! It reads sheets in hex from standard input, one a line, and prints one line for each:
-//! - `oracle`: `DRAINED EMITTED LEFT RESULTHEX`, the counts of rules drained, emitted and left, and the result sheet;
+//! - `oracle`: `DRAINED EMITTED LEFT RESULTHEX`, the counts of rules drained, emitted and left, and the result sheet, or in its place
+//!   `items MOST` where the form's counts can't carry it, the most items of a sort that one of its rules has;
 //! - `oracle --days`: `RESULTHEX`, the canonical day of all the sheet's rules taken as one list, as rules without day items;
 //! - in either mode `outside REASON` where the sheet stands for no value of the Rust (see `outside.rs`).
 //!

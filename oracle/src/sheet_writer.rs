@@ -35,6 +35,22 @@ pub(crate) fn write_rules(form: Form, rules: &[RuleSequence]) -> BitWriter {
     bits
 }
 
+/// The most items of a sort, or spans, that one of the rules has.
+pub(crate) fn most_items(rules: &[RuleSequence]) -> usize {
+    let counts = |rule: &RuleSequence| {
+        let days = &rule.day_selector;
+        [
+            days.year.len(),
+            days.monthday.len(),
+            days.week.len(),
+            days.weekday.len(),
+            rule.time_selector.spans.len(),
+        ]
+    };
+
+    rules.iter().flat_map(counts).max().unwrap_or(0)
+}
+
 fn write_rule(bits: &mut BitWriter, form: Form, rule: &RuleSequence) {
     let days = &rule.day_selector;
     let spans = &rule.time_selector.spans;

@@ -43,7 +43,7 @@ pub use refusal::Refusal;
 
 /// Bytes of stack for a call: more than twice what the deepest call of the bench took (oracle/README.md). That a stack is deep enough is
 /// not proved.
-pub const STACK: usize = 1_000_000;
+pub const STACK: usize = 3_000_000;
 
 /// What a fold did. The folded sheet stands in the first `bytes` bytes of the buffer.
 #[derive(Clone, Copy, Debug, PartialEq, Eq)]
@@ -105,12 +105,12 @@ pub struct State {
 
 /// Folds a sheet's rules up to the first one that can't be folded exactly, and copies the rules from there on.
 ///
-/// The result is of the sheet's form. It stands at the front of `out`, and later bytes are unchanged. It may be longer than the sheet; an
-/// empty `out` is refused with the bytes needed.
+/// The result is of the sheet's form. It stands at the front of `out`, and later bytes are unchanged. It may be longer than the sheet, and
+/// have more rules and items than a sheet may; an empty `out` is refused with the bytes needed.
 ///
 /// # Errors
 ///
-/// Any refusal by codes 1 to 7 and 11, the first reason met. `out` is then unchanged.
+/// Any refusal by codes 1 to 7, 11 and, in form 1, 13, the first reason met. `out` is then unchanged.
 pub fn fold(form: Form, sheet: &[u8], out: &mut [u8]) -> Result<Folded, Refusal> {
     let [code, drained, emitted, left, bytes, place, why] =
         numbers(|lent| archive::fold(form.number(), sheet, out, lent));

@@ -3,8 +3,8 @@
 use core::error::Error;
 use core::fmt::{Display, Formatter, Result};
 
-/// The first reason to refuse, in the order 1, 2 and 4 as met from the first bit on, then 3, 8, 11, 5, 6, 9, 10, 12, 7. Bits and rules are
-/// counted from 0, bits from the most significant one on.
+/// The first reason to refuse, in the order 1, 2 and 4 as met from the first bit on, then 3, 8, 11, 5, 6, 9, 10, 12, 13, 7. Bits and rules
+/// are counted from 0, bits from the most significant one on.
 #[derive(Clone, Copy, Debug, PartialEq, Eq)]
 pub enum Refusal {
     /// 1: a field runs past the end.
@@ -22,12 +22,12 @@ pub enum Refusal {
         /// The first such bit, else the first bit after the padding.
         bit: usize,
     },
-    /// 4: a count passes its limit: 64 rules, 16 items of each sort, 16 spans.
+    /// 4: a count passes its limit: 256 rules, 16 items of each sort, 16 spans.
     OverLimit {
         /// The count's first bit.
         bit: usize,
     },
-    /// 5: the drained rules cut over 1,024 boxes.
+    /// 5: the drained rules cut over 4,096 boxes.
     ManyBoxes {
         /// How many they cut.
         boxes: usize,
@@ -63,10 +63,13 @@ pub enum Refusal {
         /// The first such rule's index.
         rule: usize,
     },
+    /// 13: a fold of form 1 where the result has more rules or items than form 1 can count: 65,535 rules, those left among them, or 1,023
+    /// items of a sort in a rule. Moved to form 2, the sheet can be folded.
+    PastCounts,
 }
 
 impl Refusal {
-    /// The refusal of a code from 1 to 12. The archive answers no other.
+    /// The refusal of a code from 1 to 13. The archive answers no other.
     pub(crate) fn of(code: u64, place: usize) -> Self {
         match code {
             1 => Self::PastEnd { bit: place },
@@ -81,11 +84,12 @@ impl Refusal {
             10 => Self::NoLine { rule: place },
             11 => Self::Overlap { rule: place },
             12 => Self::LongComment { rule: place },
+            13 => Self::PastCounts,
             _ => unreachable!("the archive refuses by no code {code}"),
         }
     }
 
-    /// The code, 1 to 12.
+    /// The code, 1 to 13.
     #[must_use]
     pub fn code(self) -> u8 {
         match self {
@@ -101,6 +105,7 @@ impl Refusal {
             Self::NoLine { .. } => 10,
             Self::Overlap { .. } => 11,
             Self::LongComment { .. } => 12,
+            Self::PastCounts => 13,
         }
     }
 
@@ -118,7 +123,7 @@ impl Refusal {
             | Self::NoLine { rule: place }
             | Self::Overlap { rule: place }
             | Self::LongComment { rule: place } => place,
-            Self::NoDate | Self::Unsettled => 0,
+            Self::NoDate | Self::Unsettled | Self::PastCounts => 0,
         }
     }
 }
@@ -132,7 +137,7 @@ impl Display for Refusal {
                 write!(text, "the sheet does not end as it should at bit {bit}")
             }
             Self::OverLimit { bit } => write!(text, "the count at bit {bit} passes its limit"),
-            Self::ManyBoxes { boxes } => write!(text, "the rules cut {boxes} boxes, over 1024"),
+            Self::ManyBoxes { boxes } => write!(text, "the rules cut {boxes} boxes, over 4096"),
             Self::LongList { rule } => {
                 write!(text, "rule {rule} makes a point's list pass 32 entries")
             }
@@ -142,6 +147,12 @@ impl Display for Refusal {
             Self::NoLine { rule } => write!(text, "rule {rule} can't be said in a line"),
             Self::Overlap { rule } => write!(text, "rule {rule} names a day twice"),
             Self::LongComment { rule } => write!(text, "rule {rule} has a comment above 65535"),
+            Self::PastCounts => {
+                write!(
+                    text,
+                    "the result has more rules or items than form 1 can count"
+                )
+            }
         }
     }
 }

@@ -122,7 +122,8 @@ fn a_sheet_of_another_form_is_refused() {
         (Form::Two, "30000000", Refusal::Unlawful { bit: 0 }),
         (Form::Two, "", Refusal::PastEnd { bit: 0 }),
         (Form::Two, "20", Refusal::PastEnd { bit: 4 }),
-        (Form::Two, "20000410", Refusal::OverLimit { bit: 4 }),
+        (Form::Two, "20000410", Refusal::PastEnd { bit: 32 }),
+        (Form::Two, "20001010", Refusal::OverLimit { bit: 4 }),
     ] {
         let (sheet, mut out) = (bytes(sheet), [PAINT; ROOM]);
         assert_eq!(fold(form, &sheet, &mut out), Err(refusal));

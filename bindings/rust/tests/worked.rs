@@ -1,5 +1,5 @@
-//! Document 01's worked days in form 1, their lines by 02, a stopped fold for each of its reasons, and a refusal by each code but 12. The sheets of the
-//! days are those of crates/definition/specs/Worked.antt.
+//! Document 01's worked days in form 1, their lines by 02, a stopped fold for each of its reasons, and a refusal by each code but 12 and 13. The sheets of
+//! the days are those of crates/definition/specs/Worked.antt.
 
 mod common;
 
@@ -26,6 +26,9 @@ const LEAVES: &str = "0002000000000000001005180007FE25821C0000000000000800008218
 const LEAVES_FOLDED: &str = "00020000000000000000044B04380000000000001000010430212C10E0";
 /// Intervals of weekday 1, week 9, month 8, year 16.
 const BOXES_1152: &str = "000100000020040100000476C1DB0000476E1DB800047701DC000047721DC800047741DD000047761DD800047781DE0000477A1DE80004110CC551DC208044100461804820044B043800";
+/// Intervals of weekday 4, week 8, month 8, year 16, and of year 17.
+const BOXES_4096: &str = "000100000020040100200476C1DB0000476E1DB800047701DC000047721DC800047741DD000047761DD800047781DE0000477A1DE80004110CC551DC1040430C045140471C04000007FE480003FF12C10E00";
+const BOXES_4352: &str = "000100000020040100200476D1DB4000476F1DBC00047711DC400047731DCC00047751DD400047771DDC00047791DE4000477B1DEC0004110CC551DC1040430C045140471C04000007FE480003FF12C10E00";
 /// Four Normal Open rules, then four Additional ones, all without items.
 const FOUR_NORMAL: &str = "0000000000000000000000000000000000000000000000000000000000000000000000";
 const FOUR_ADDITIONAL: &str =
@@ -131,6 +134,8 @@ fn worked_days_fold() {
     folds(P2, P2_FOLDED, [2, 2, 0], None);
     folds(LEAVES, LEAVES_FOLDED, [1, 1, 1], Some(Reason::WeekStep));
     folds(TOUCHING, TOUCHING_FOLDED, [1, 1, 0], None);
+    folds(BOXES_1152, BOXES_1152, [1, 1, 0], None);
+    folds(BOXES_4096, BOXES_4096, [1, 1, 0], None);
 }
 
 #[test]
@@ -174,7 +179,7 @@ fn a_stopped_fold_tells_the_first_reason() {
 
 #[test]
 fn an_accepted_sheet_is_written_back() {
-    for sheet in ["0000", ALWAYS, P2, P9, LEAVES, BOXES_1152, &entries_33()] {
+    for sheet in ["0000", ALWAYS, P2, P9, LEAVES, BOXES_4352, &entries_33()] {
         let sheet = bytes(sheet);
         writes(write_back, &sheet, &sheet);
     }
@@ -224,14 +229,16 @@ fn unreadable_sheets_are_refused() {
         Refusal::BadEnd { bit: 119 },
     );
     unreadable("000000", Refusal::BadEnd { bit: 16 });
-    unreadable("0041", Refusal::OverLimit { bit: 0 });
+    unreadable("0041", Refusal::PastEnd { bit: 16 });
+    unreadable("0100", Refusal::PastEnd { bit: 16 });
+    unreadable("0101", Refusal::OverLimit { bit: 0 });
 }
 
 #[test]
 fn sheets_that_the_fold_does_not_take_are_refused() {
     for (sheet, refusal) in [
         (P9, Refusal::Overlap { rule: 0 }),
-        (BOXES_1152, Refusal::ManyBoxes { boxes: 1152 }),
+        (BOXES_4352, Refusal::ManyBoxes { boxes: 4352 }),
         (&entries_33(), Refusal::LongList { rule: 35 }),
     ] {
         assert_eq!(fold_refused(sheet), refusal);

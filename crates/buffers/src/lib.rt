@@ -1,4 +1,4 @@
-// Scratch arrays as large as the limits allow: for the words of a day, for folding a box's list, and for what a fold notes of each box. Each
+// Scratch arrays: for the words of a day and for folding a box's list, as large as the limits allow, and for what a fold notes of each box. Each
 // array is made in a function of its own, so that a proof knows its length from the contract and never looks at the array.
 ghost use mathlib.Core.Path.{_≡_};
 ghost use lib.ListN.{length, getD};
@@ -30,23 +30,41 @@ pub fn ends() -> [u64; 1026]
     [0u64; 1026]
 }
 
-// The number of each box's day.
-pub fn day_numbers() -> [u16; 1024]
-    ensures { λ r. ⌜ 1024 ≡ length r ⌝ }
+// The number of each box's day, for up to 64 boxes, and for as many as there may be.
+pub fn few_day_numbers() -> [u16; 64]
+    ensures { λ r. ⌜ 64 ≡ length r ⌝ }
 {
-    [0u16; 1024]
+    [0u16; 64]
+}
+
+pub fn day_numbers() -> [u16; 4096]
+    ensures { λ r. ⌜ 4096 ≡ length r ⌝ }
+{
+    [0u16; 4096]
 }
 
 // A class for each box's day and one for the empty day, which has none.
-pub fn day_classes() -> [u8; 1025]
-    ensures { λ r. ⌜ (1025 ≡ length r) × (getD r 0 0 ≡ 0) ⌝ }
+pub fn few_day_classes() -> [u8; 65]
+    ensures { λ r. ⌜ (65 ≡ length r) × (getD r 0 0 ≡ 0) ⌝ }
 {
-    [0u8; 1025]
+    [0u8; 65]
 }
 
-// A mark for each interval of four dimensions: with at most 1,024 boxes there are at most 1,027.
-pub fn marks() -> [u8; 1027]
-    ensures { λ r. ⌜ 1027 ≡ length r ⌝ }
+pub fn day_classes() -> [u8; 4097]
+    ensures { λ r. ⌜ (4097 ≡ length r) × (getD r 0 0 ≡ 0) ⌝ }
 {
-    [0u8; 1027]
+    [0u8; 4097]
+}
+
+// A mark for each interval of four dimensions: with at most 64 boxes there are at most 67, with 4,096 at most 4,099.
+pub fn few_marks() -> [u8; 67]
+    ensures { λ r. ⌜ 67 ≡ length r ⌝ }
+{
+    [0u8; 67]
+}
+
+pub fn marks() -> [u8; 4099]
+    ensures { λ r. ⌜ 4099 ≡ length r ⌝ }
+{
+    [0u8; 4099]
 }

@@ -5,7 +5,7 @@ use Prim.Native.Nat.{ℕ, zero, suc, _+_, _*_}
 use lib.ListN.{length, set}
 use lib.Seq.{sets}
 use Rattle.definition.specs.Field.{Read, got, refused, counted}
-use Rattle.definition.specs.Sheet.{Form, limits1, titleWidth, headWidth}
+use Rattle.definition.specs.Sheet.{Form, sheetLimits, titleWidth, headWidth}
 use Rattle.canonical_date.specs.declared.days.Days.{Days}
 use Rattle.canonical_date.specs.declared.days.Days.the-variants.{Spans, Stops}
 use Rattle.canonical_date.specs.Row.{flat, itemsEnd, rowRanges}
@@ -26,7 +26,7 @@ daysOf Stops = none
 module _ (form : Form) where
   -- how many items of a sort: the count at h; fifth are the spans
   abbrev pub countAt : List ℕ → ℕ → Read ℕ
-  countAt s h = (counted (form .itemCount) (limits1 .items)) .read s h
+  countAt s h = (counted (form .itemCount) (sheetLimits .items)) .read s h
 
   -- k rows from a sort on; the counts stand at h, the items at p
   unfoldable pub loadRows : ℕ → List ℕ → ℕ → ℕ → ℕ → List ℕ → List ℕ → Loaded

@@ -13,7 +13,7 @@ use Rattle.laws.proofs.Lists.{All-map}
 use Rattle.laws.proofs.Passing.{Found, first-found}
 use Rattle.definition.specs.Field.{Layout, bytesFor, sheetBits, longComment, noRoom}
 use Rattle.definition.specs.Rule.{Rule}
-use Rattle.definition.specs.Sheet.{Form, limits1, openingWidth, headWidth, rule, opening, rules, encode}
+use Rattle.definition.specs.Sheet.{Form, sheetLimits, openingWidth, headWidth, rule, opening, rules, encode}
 use Rattle.definition.specs.Fold.{Written, unwritten, writtenInto, buffer}
 use Rattle.definition.specs.Forms.{firstLongComment, convertRules}
 use Rattle.definition.proofs.Bits.{Bytes}
@@ -28,39 +28,39 @@ use Rattle.item_writer.proofs.Chain.{wrote-then, wrote-as, room-as}
 use Rattle.sheet_writer.specs.Frame.{padding}
 use Rattle.sheet_writer.proofs.Frame.{framed, packed-length, opening-length, rules-bits}
 use Rattle.tables.specs.Rules.{AllCommented}
-use Rattle.convert.proofs.Parts.{bodyBits, rule-length}
+use Rattle.sheet.proofs.RuleBits.{bodyBits, rule-length}
 
 -- ## How long rules are
-heads-and-bodies : (form : Form) (rs : List Rule) → length (flatMap (rule form limits1 .write) rs) ≡ length rs * headWidth form + length (flatMap bodyBits rs)
+heads-and-bodies : (form : Form) (rs : List Rule) → length (flatMap (rule form sheetLimits .write) rs) ≡ length rs * headWidth form + length (flatMap bodyBits rs)
 unfolding flatMap
 heads-and-bodies form [] = omega arith
 heads-and-bodies form (r ∷ rs) =
     omega (
       arith,
-      length-append (rule form limits1 .write r) (flatMap (rule form limits1 .write) rs),
+      length-append (rule form sheetLimits .write r) (flatMap (rule form sheetLimits .write) rs),
       length-append (bodyBits r) (flatMap bodyBits rs),
       rule-length form r,
       heads-and-bodies form rs,
     )
 
-pub rules-length : (form : Form) (rs : List Rule) → length (rules form limits1 .write rs) ≡ openingWidth form + length rs * headWidth form + length (flatMap bodyBits rs)
+pub rules-length : (form : Form) (rs : List Rule) → length (rules form sheetLimits .write rs) ≡ openingWidth form + length rs * headWidth form + length (flatMap bodyBits rs)
 rules-length form rs =
     ap length (rules-bits form rs)
     ∙ omega (
       arith,
-      length-append (opening form limits1 .write (length rs)) (flatMap (rule form limits1 .write) rs),
+      length-append (opening form sheetLimits .write (length rs)) (flatMap (rule form sheetLimits .write) rs),
       opening-length form (length rs),
       heads-and-bodies form rs,
     )
 
 -- ## The definition's answers
 module _ (to : Form) (room : ℕ) (rs : List Rule) where
-  pub converts-not : (k : ℕ) → firstLongComment to rs ≡ some k → convertRules to limits1 room rs ≡ unwritten longComment k
+  pub converts-not : (k : ℕ) → firstLongComment to rs ≡ some k → convertRules to sheetLimits room rs ≡ unwritten longComment k
   unfolding convertRules
   converts-not k e = rw (e, convertRules)
 
   module _ (e : firstLongComment to rs ≡ none) where
-    written : convertRules to limits1 room rs ≡ writtenInto room (encode to limits1 rs)
+    written : convertRules to sheetLimits room rs ≡ writtenInto room (encode to sheetLimits rs)
     unfolding convertRules
     written = rw (e, convertRules)
 
@@ -70,16 +70,16 @@ module _ (to : Form) (room : ℕ) (rs : List Rule) where
     all-commented = All-map (λ r f. leb-false (2 ^ to .comment) (r .state .comment) f) rs
         (subst (Found (λ r. leb (2 ^ to .comment) (r .state .comment)) rs) e (first-found (λ r. leb (2 ^ to .comment) (r .state .comment)) rs))
 
-    pub encoded-length : length (encode to limits1 rs) ≡ bytesFor (length (rules to limits1 .write rs))
+    pub encoded-length : length (encode to sheetLimits rs) ≡ bytesFor (length (rules to sheetLimits .write rs))
     unfolding encode
-    encoded-length = packed-length (rules to limits1 .write rs)
+    encoded-length = packed-length (rules to sheetLimits .write rs)
 
-    pub converts-short : (bytes : ℕ) → length (encode to limits1 rs) ≡ bytes → room < bytes → convertRules to limits1 room rs ≡ unwritten noRoom bytes
-    converts-short bytes l h = written ∙ written-not room (encode to limits1 rs) (omega (arith, l, h)) ∙ ap (unwritten noRoom) l
+    pub converts-short : (bytes : ℕ) → length (encode to sheetLimits rs) ≡ bytes → room < bytes → convertRules to sheetLimits room rs ≡ unwritten noRoom bytes
+    converts-short bytes l h = written ∙ written-not room (encode to sheetLimits rs) (omega (arith, l, h)) ∙ ap (unwritten noRoom) l
 
-    pub converts-fine : (bytes : ℕ) → length (encode to limits1 rs) ≡ bytes → bytes ≤ room
-        → convertRules to limits1 room rs ≡ record { code = 0; bytes = length (encode to limits1 rs); place = 0; result = encode to limits1 rs }
-    converts-fine bytes l h = written ∙ written-fine room (encode to limits1 rs) (omega (arith, l, h))
+    pub converts-fine : (bytes : ℕ) → length (encode to sheetLimits rs) ≡ bytes → bytes ≤ room
+        → convertRules to sheetLimits room rs ≡ record { code = 0; bytes = length (encode to sheetLimits rs); place = 0; result = encode to sheetLimits rs }
+    converts-fine bytes l h = written ∙ written-fine room (encode to sheetLimits rs) (omega (arith, l, h))
 
 -- ## A sheet that was read
 module _ (form to : Form) (sheet begins : List ℕ) (bytes : Bytes sheet) (rs : List Rule) (end count : ℕ) (read : SheetRead form sheet begins rs end) (many : count ≡ length rs) where
@@ -97,32 +97,32 @@ module _ (form to : Form) (sheet begins : List ℕ) (bytes : Bytes sheet) (rs : 
 
   -- the bits that the rules take: those of the sheet, with other heads
   whole : end ≡ openingWidth form + count * headWidth form + length (flatMap bodyBits rs)
-  whole = encode-decoded form limits1 sheet bytes rs end (read .read) .2 ∙ rules-length form rs ∙ ap (λ n. openingWidth form + n * headWidth form + length (flatMap bodyBits rs)) (sym many)
+  whole = encode-decoded form sheetLimits sheet bytes rs end (read .read) .2 ∙ rules-length form rs ∙ ap (λ n. openingWidth form + n * headWidth form + length (flatMap bodyBits rs)) (sym many)
 
   pub heads-inside : openingWidth form + count * headWidth form ≤ end
   heads-inside = omega (arith, whole)
 
-  pub moved-length : (size : ℕ) → size + openingWidth form + count * headWidth form ≡ end + openingWidth to + count * headWidth to → length (rules to limits1 .write rs) ≡ size
+  pub moved-length : (size : ℕ) → size + openingWidth form + count * headWidth form ≡ end + openingWidth to + count * headWidth to → length (rules to sheetLimits .write rs) ≡ size
   moved-length size e =
       rules-length to rs ∙ ap (λ n. openingWidth to + n * headWidth to + length (flatMap bodyBits rs)) (sym many) ∙ omega (arith, whole, e)
 
   -- the sheet's bits: the opening, then the rules
-  pub laid : rules to limits1 .write rs ≡ opening to limits1 .write count ++ flatMap (rule to limits1 .write) rs
-  laid = rules-bits to rs ∙ ap (λ n. opening to limits1 .write n ++ flatMap (rule to limits1 .write) rs) (sym many)
+  pub laid : rules to sheetLimits .write rs ≡ opening to sheetLimits .write count ++ flatMap (rule to sheetLimits .write) rs
+  laid = rules-bits to rs ∙ ap (λ n. opening to sheetLimits .write n ++ flatMap (rule to sheetLimits .write) rs) (sym many)
 
   -- where the bytes have room, the opening and the rules have
-  pub room-for-all : (size room : ℕ) → length (rules to limits1 .write rs) ≡ size → bytesFor size ≤ room → size < 2 ^ 26
-      → RoomFor room 0 (opening to limits1 .write count ++ flatMap (rule to limits1 .write) rs)
+  pub room-for-all : (size room : ℕ) → length (rules to sheetLimits .write rs) ≡ size → bytesFor size ≤ room → size < 2 ^ 26
+      → RoomFor room 0 (opening to sheetLimits .write count ++ flatMap (rule to sheetLimits .write) rs)
   room-for-all size room l enough low =
       room-as laid (record { inside = omega (arith, l, enough); low = omega (arith, l, low) })
 
   -- the opening, the rules and the padding written one behind the other are the sheet in the other form
-  pub all-written : {out mid laid new : List ℕ} {first behind next : ℕ} → Wrote out 0 (opening to limits1 .write count) mid first
-      → Wrote mid first (flatMap (rule to limits1 .write) rs) laid behind → Wrote laid behind (padding behind) new next → bytesFor (length (rules to limits1 .write rs)) ≤ length out
-      → ((j : ℕ) → getD out j 0 < 256) → ((j : ℕ) → getD new j 0 < 256) → new ≡ buffer (encode to limits1 rs) out
+  pub all-written : {out mid laid new : List ℕ} {first behind next : ℕ} → Wrote out 0 (opening to sheetLimits .write count) mid first
+      → Wrote mid first (flatMap (rule to sheetLimits .write) rs) laid behind → Wrote laid behind (padding behind) new next → bytesFor (length (rules to sheetLimits .write rs)) ≤ length out
+      → ((j : ℕ) → getD out j 0 < 256) → ((j : ℕ) → getD new j 0 < 256) → new ≡ buffer (encode to sheetLimits rs) out
   unfolding encode
   all-written {out} {new = new} {behind = behind} {next = next} opened ruled padded room known known′ =
-      let ws = rules to limits1 .write rs in
+      let ws = rules to sheetLimits .write rs in
       let all = wrote-then opened ruled in
       let long : behind ≡ length ws = omega (arith, all .behind, ap length laid) in
       framed out new ws (known-bytes out known) (known-bytes new known′) next

@@ -1,7 +1,7 @@
 -- Five counts that were read, as a row of four and a number, which is how the writer of counts takes them.
 use mathlib.Core.Path.{_≡_, sym, _∙_}
 use mathlib.Core.List.{[], _∷_}
-use Prim.Native.Nat.{ℕ, zero, suc, _<_, _^_}
+use Prim.Native.Nat.{ℕ, zero, suc, _≤_, _<_}
 use native.Mathlib.Omega.{arith}
 use lib.ListN.{getD}
 use Rattle.definition.specs.Field.{Read, got}
@@ -16,9 +16,9 @@ pub row-counts : (a b c d years monthdays weeks weekdays spans : ℕ) → a ≡ 
     → countsOf (a ∷ b ∷ c ∷ d ∷ []) spans ≡ (years, (monthdays, (weeks, (weekdays, spans))))
 row-counts a b c d years monthdays weeks weekdays spans p q r s = λ i. (p i, (q i, (r i, (s i, spans))))
 
-pub row-few : (a b c d : ℕ) → a < 2 ^ 10 → b < 2 ^ 10 → c < 2 ^ 10 → d < 2 ^ 10 → (sort : ℕ) → getD (a ∷ b ∷ c ∷ d ∷ []) sort 0 < 2 ^ 10
-row-few a b c d p q r s zero = p
-row-few a b c d p q r s (suc zero) = q
-row-few a b c d p q r s (suc (suc zero)) = r
-row-few a b c d p q r s (suc (suc (suc zero))) = s
-row-few a b c d p q r s (suc (suc (suc (suc sort)))) = omega arith
+pub row-few : (most a b c d : ℕ) → a ≤ most → b ≤ most → c ≤ most → d ≤ most → (sort : ℕ) → sort < 4 → getD (a ∷ b ∷ c ∷ d ∷ []) sort 0 ≤ most
+row-few most a b c d p q r s zero l = p
+row-few most a b c d p q r s (suc zero) l = q
+row-few most a b c d p q r s (suc (suc zero)) l = r
+row-few most a b c d p q r s (suc (suc (suc zero))) l = s
+row-few most a b c d p q r s (suc (suc (suc (suc sort)))) l = absurd (omega arith)

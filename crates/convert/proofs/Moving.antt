@@ -10,7 +10,7 @@ use lib.Seq.{drop-cons}
 use borrow.Author.Tests.{ltb-true, ltb-false}
 use Rattle.definition.specs.Field.{Read, Layout, got, sheetBits}
 use Rattle.definition.specs.Rule.{Rule, noRule}
-use Rattle.definition.specs.Sheet.{Form, limits1, rule}
+use Rattle.definition.specs.Sheet.{Form, sheetLimits, rule}
 use Rattle.definition.proofs.Bits.{Bytes}
 use Rattle.sheet.specs.Begin.{ruleReadAt, Readable}
 use Rattle.sheet.specs.Parts.{SheetRead}
@@ -26,7 +26,7 @@ from-place rs i l = let z : suc i ≡ i + 1 = omega arith in drop-cons rs i noRu
 -- ## Where rules stand
 module _ (form : Form) (sheet begins : List ℕ) (bytes : Bytes sheet) (rs : List Rule) (end : ℕ) (read : SheetRead form sheet begins rs end) where
   abbrev bitsFrom : ℕ → List ℕ
-  bitsFrom i = flatMap (rule form limits1 .write) (drop i rs)
+  bitsFrom i = flatMap (rule form sheetLimits .write) (drop i rs)
 
   begun : (i : ℕ) → i < length rs → Begins form (sheetBits sheet) end rs i (getD begins i 0)
   begun i l =
@@ -46,16 +46,16 @@ module _ (form : Form) (sheet begins : List ℕ) (bytes : Bytes sheet) (rs : Lis
       let b = begun i l in
       let p = getD begins i 0 in
       let size = rule-size form sheet bytes p (b .readable) in
-      let first : bitsFrom i ≡ rule form limits1 .write (getD rs i noRule) ++ bitsFrom (i + 1) = ap (flatMap (rule form limits1 .write)) (from-place rs i l) in
-      let long = length-append (rule form limits1 .write (getD rs i noRule)) (bitsFrom (i + 1)) in
-      let mine : length (rule form limits1 .write (ruleReadAt form (sheetBits sheet) p)) ≡ length (rule form limits1 .write (getD rs i noRule)) =
-      ap (λ r. length (rule form limits1 .write r)) (b .begun-rule) in
+      let first : bitsFrom i ≡ rule form sheetLimits .write (getD rs i noRule) ++ bitsFrom (i + 1) = ap (flatMap (rule form sheetLimits .write)) (from-place rs i l) in
+      let long = length-append (rule form sheetLimits .write (getD rs i noRule)) (bitsFrom (i + 1)) in
+      let mine : length (rule form sheetLimits .write (ruleReadAt form (sheetBits sheet) p)) ≡ length (rule form sheetLimits .write (getD rs i noRule)) =
+      ap (λ r. length (rule form sheetLimits .write r)) (b .begun-rule) in
       let total : end ≡ b .readable .end + length (bitsFrom (i + 1)) = omega (arith, b .stands .ends, ap length first, long, size, mine) in
       record { readable = b .readable; same = b .begun-rule; low = b .low; ends = go (ltb (i + 1) (length rs)) refl (b .readable .end) total }
     where
       go : (t : Bool) → ltb (i + 1) (length rs) ≡ t → (q : ℕ) → end ≡ q + length (bitsFrom (i + 1)) → cond t (getD begins (i + 1) 0) end ≡ q
       go true e q total = omega (arith, begun (i + 1) (ltb-true (i + 1) (length rs) e) .stands .ends, total)
-      go false e q total = omega (arith, total, ap (λ qs. length (flatMap (rule form limits1 .write) qs)) (drop-of-length-le rs (ltb-false (i + 1) (length rs) e)))
+      go false e q total = omega (arith, total, ap (λ qs. length (flatMap (rule form sheetLimits .write) qs)) (drop-of-length-le rs (ltb-false (i + 1) (length rs) e)))
 
 -- what is read of a sheet is read once
 pub rules-once : {form : Form} {sheet begins : List ℕ} (rs qs : List Rule) {end : ℕ} → SheetRead form sheet begins rs end → SheetRead form sheet begins qs end → rs ≡ qs
@@ -64,26 +64,26 @@ rules-once rs qs {end} a b = let g : _≡_ {A = Read (List Rule)} (got rs end) (
 -- ## What is written
 module _ (to : Form) (rs : List Rule) where
   abbrev rest : ℕ → List ℕ
-  rest i = flatMap (rule to limits1 .write) (drop i rs)
+  rest i = flatMap (rule to sheetLimits .write) (drop i rs)
 
   abbrev moved : ℕ → List ℕ
-  moved i = rule to limits1 .write (getD rs i noRule)
+  moved i = rule to sheetLimits .write (getD rs i noRule)
 
   -- the first i rules are written, and for the others there is room
   pub record Moving (old : List ℕ) (place : ℕ) (out : List ℕ) (next i : ℕ) : Type 0 where
     pub done : List ℕ
     pub wrote : Wrote old place done out next
-    pub whole : flatMap (rule to limits1 .write) rs ≡ done ++ rest i
+    pub whole : flatMap (rule to sheetLimits .write) rs ≡ done ++ rest i
     pub roomy : RoomFor (length out) next (rest i)
 
-  pub moving-none : (old : List ℕ) (place : ℕ) → RoomFor (length old) place (flatMap (rule to limits1 .write) rs) → Moving old place old place 0
+  pub moving-none : (old : List ℕ) (place : ℕ) → RoomFor (length old) place (flatMap (rule to sheetLimits .write) rs) → Moving old place old place 0
   moving-none old place room = record { done = []; wrote = wrote-none refl; whole = refl; roomy = room }
 
   module _ {old : List ℕ} {place : ℕ} {out : List ℕ} {next i : ℕ} (m : Moving old place out next i) where
     module _ (l : i < length rs) where
       more : rest i ≡ moved i ++ rest (i + 1)
       unfolding flatMap
-      more = ap (flatMap (rule to limits1 .write)) (from-place rs i l)
+      more = ap (flatMap (rule to sheetLimits .write)) (from-place rs i l)
 
       pub rule-room : RoomFor (length out) next (moved i)
       rule-room = room-first (moved i) (rest (i + 1)) (room-as more (m .roomy))
@@ -96,6 +96,6 @@ module _ (to : Form) (rs : List Rule) where
         roomy = room-rest w (rest (i + 1)) (room-as more (m .roomy));
       }
 
-    pub moving-all : length rs ≤ i → Wrote old place (flatMap (rule to limits1 .write) rs) out next
+    pub moving-all : length rs ≤ i → Wrote old place (flatMap (rule to sheetLimits .write) rs) out next
     unfolding flatMap
-    moving-all l = wrote-as (m .whole ∙ ap (λ qs. m .done ++ flatMap (rule to limits1 .write) qs) (drop-of-length-le rs l) ∙ append-nil (m .done)) (m .wrote)
+    moving-all l = wrote-as (m .whole ∙ ap (λ qs. m .done ++ flatMap (rule to sheetLimits .write) qs) (drop-of-length-le rs l) ∙ append-nil (m .done)) (m .wrote)

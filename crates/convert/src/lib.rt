@@ -16,7 +16,7 @@ ghost use lib.ListN.{length};
 ghost use Rattle.laws.specs.Lists.{onlyIf};
 ghost use Rattle.definition.specs.Field.{Layout, sheetBits};
 ghost use Rattle.definition.specs.Rule.{Rule};
-ghost use Rattle.definition.specs.Sheet.{limits1, openingWidth, headWidth, rule};
+ghost use Rattle.definition.specs.Sheet.{sheetLimits, openingWidth, headWidth, rule};
 ghost use Rattle.definition.specs.Fold.{buffer, writtenNumbers};
 ghost use Rattle.definition.specs.Forms.{firstLongComment, convertRules, other};
 ghost use Rattle.forms.specs.Form.{asForm};
@@ -43,7 +43,7 @@ fn first_long_comment(form: Form, to: Form, sheet: &[u8], begins: &[usize], coun
 
 // How many bits so many rules take in the form `to` that end at a bit in `form`.
 fn moved_bits(form: Form, to: Form, count: usize, end: usize) -> usize
-    requires { ⌜ (count ≤ 64) × (openingWidth (asForm form) + count * headWidth (asForm form) ≤ end) × (end < 2 ^ 25) ⌝ }
+    requires { ⌜ (count ≤ sheetLimits .rules) × (openingWidth (asForm form) + count * headWidth (asForm form) ≤ end) × (end < 2 ^ 25) ⌝ }
     ensures { λ r. ⌜ (r + openingWidth (asForm form) + count * headWidth (asForm form) ≡ end + openingWidth (asForm to) + count * headWidth (asForm to)) × (r < 2 ^ 26) ⌝ }
 {
     let copied = end - opening_width(form) - count * head_width(form);
@@ -62,9 +62,9 @@ fn move_rules(
     place: usize,
 ) -> usize
     requires { ⌜ ((rs : List Rule) × SheetRead (asForm form) (now sheet) (now begins) rs end × (count ≡ length rs) × AllCommented (asForm to) rs
-        × RoomFor (length (now out)) place (flatMap (rule (asForm to) limits1 .write) rs)) ⌝ }
+        × RoomFor (length (now out)) place (flatMap (rule (asForm to) sheetLimits .write) rs)) ⌝ }
     ensures { λ r. ⌜ ((rs : List Rule) → SheetRead (asForm form) (now (sheet .entry)) (now (begins .entry)) rs end → count ≡ length rs
-        → Wrote (now (out .entry)) place (flatMap (rule (asForm to) limits1 .write) rs) (now (out .exit)) r) ⌝ }
+        → Wrote (now (out .entry)) place (flatMap (rule (asForm to) sheetLimits .write) rs) (now (out .exit)) r) ⌝ }
 {
     let mut next = place;
     let mut rule: usize = 0;
@@ -87,8 +87,8 @@ pub fn convert_rules(
 ) -> Written
     requires { ⌜ Readings (asForm form) (now sheet) (now begins) count end ⌝ }
     ensures { λ r. ⌜ ((rs : List Rule) → SheetRead (asForm form) (now (sheet .entry)) (now (begins .entry)) rs end → count ≡ length rs
-        → (writeNumbers r ≡ writtenNumbers (convertRules (other (asForm form)) limits1 (length (now (out .entry))) rs))
-        × (now (out .exit) ≡ buffer ((convertRules (other (asForm form)) limits1 (length (now (out .entry))) rs) .result) (now (out .entry)))) ⌝ }
+        → (writeNumbers r ≡ writtenNumbers (convertRules (other (asForm form)) sheetLimits (length (now (out .entry))) rs))
+        × (now (out .exit) ≡ buffer ((convertRules (other (asForm form)) sheetLimits (length (now (out .entry))) rs) .result) (now (out .entry)))) ⌝ }
 {
     let to = other_form(form);
     let long = first_long_comment(form, to, sheet, begins, count);

@@ -17,7 +17,7 @@ ghost use Prim.Native.Nat.{ℕ, _+_, _≤_, _<_, _^_};
 ghost use lib.Dec.{leb, ltb};
 ghost use lib.ListN.{length, getD};
 ghost use Rattle.definition.specs.Field.{Layout, got, sheetBits};
-ghost use Rattle.definition.specs.Sheet.{limits1, Counts, headOf, title, counts, rule};
+ghost use Rattle.definition.specs.Sheet.{sheetLimits, Counts, headOf, title, counts, rule};
 ghost use Rattle.forms.specs.Form.{asForm};
 ghost use Rattle.sheet.specs.Begin.{ruleReadAt, Readable};
 ghost use Rattle.item_writer.specs.Written.{RoomFor, Wrote};
@@ -46,8 +46,8 @@ pub fn rule_end(begins: &[usize], rule: usize, count: usize, end: usize) -> usiz
 fn move_title(form: Form, to: Form, sheet: &[u8], at: usize, out: &mut [u8], place: usize) -> usize
     requires { ⌜ Readable (asForm form) (sheetBits (now sheet)) at × (at < 2 ^ 25) ⌝ }
     requires { ⌜ (ruleReadAt (asForm form) (sheetBits (now sheet)) at) .state .comment < 2 ^ asForm to .comment ⌝ }
-    requires { ⌜ RoomFor (length (now out)) place (title (asForm to) limits1 .write (headOf (ruleReadAt (asForm form) (sheetBits (now sheet)) at) .0)) ⌝ }
-    ensures { λ r. ⌜ Wrote (now (out .entry)) place (title (asForm to) limits1 .write (headOf (ruleReadAt (asForm form) (sheetBits (now (sheet .entry))) at) .0)) (now (out .exit)) r ⌝ }
+    requires { ⌜ RoomFor (length (now out)) place (title (asForm to) sheetLimits .write (headOf (ruleReadAt (asForm form) (sheetBits (now sheet)) at) .0)) ⌝ }
+    ensures { λ r. ⌜ Wrote (now (out .entry)) place (title (asForm to) sheetLimits .write (headOf (ruleReadAt (asForm form) (sheetBits (now (sheet .entry))) at) .0)) (now (out .exit)) r ⌝ }
 {
     copy_bits(sheet, at, 4, out, place);
     put(
@@ -60,11 +60,11 @@ fn move_title(form: Form, to: Form, sheet: &[u8], at: usize, out: &mut [u8], pla
 
 // The five counts that stand at a bit. They were read before, so the last arm is never taken.
 fn move_counts(form: Form, to: Form, sheet: &[u8], at: usize, out: &mut [u8], place: usize) -> usize
-    requires { ⌜ ((n : Counts) × (next : ℕ) × ((counts (asForm form) limits1) .read (sheetBits (now sheet)) at ≡ got n next)
-        × RoomFor (length (now out)) place (counts (asForm to) limits1 .write n)) ⌝ }
+    requires { ⌜ ((n : Counts) × (next : ℕ) × ((counts (asForm form) sheetLimits) .read (sheetBits (now sheet)) at ≡ got n next)
+        × RoomFor (length (now out)) place (counts (asForm to) sheetLimits .write n)) ⌝ }
     requires { ⌜ at < 2 ^ 31 ⌝ }
-    ensures { λ r. ⌜ ((n : Counts) (next : ℕ) → (counts (asForm form) limits1) .read (sheetBits (now (sheet .entry))) at ≡ got n next
-        → Wrote (now (out .entry)) place (counts (asForm to) limits1 .write n) (now (out .exit)) r) ⌝ }
+    ensures { λ r. ⌜ ((n : Counts) (next : ℕ) → (counts (asForm form) sheetLimits) .read (sheetBits (now (sheet .entry))) at ≡ got n next
+        → Wrote (now (out .entry)) place (counts (asForm to) sheetLimits .write n) (now (out .exit)) r) ⌝ }
 {
     let counts = counts_at(form, sheet, at);
     match counts {
@@ -93,8 +93,8 @@ pub fn move_rule(
 ) -> usize
     requires { ⌜ ((readable : Readable (asForm form) (sheetBits (now sheet)) at) × (end ≡ readable .end)) × (at < 2 ^ 25) ⌝ }
     requires { ⌜ (ruleReadAt (asForm form) (sheetBits (now sheet)) at) .state .comment < 2 ^ asForm to .comment ⌝ }
-    requires { ⌜ RoomFor (length (now out)) place (rule (asForm to) limits1 .write (ruleReadAt (asForm form) (sheetBits (now sheet)) at)) ⌝ }
-    ensures { λ r. ⌜ Wrote (now (out .entry)) place (rule (asForm to) limits1 .write (ruleReadAt (asForm form) (sheetBits (now (sheet .entry))) at)) (now (out .exit)) r ⌝ }
+    requires { ⌜ RoomFor (length (now out)) place (rule (asForm to) sheetLimits .write (ruleReadAt (asForm form) (sheetBits (now sheet)) at)) ⌝ }
+    ensures { λ r. ⌜ Wrote (now (out .entry)) place (rule (asForm to) sheetLimits .write (ruleReadAt (asForm form) (sheetBits (now (sheet .entry))) at)) (now (out .exit)) r ⌝ }
 {
     let counts_place = move_title(form, to, sheet, at, out, place);
     let body_place = move_counts(form, to, sheet, at + title_width(form), out, counts_place);

@@ -14,7 +14,7 @@ use Rattle.laws.proofs.Lists.{All-map, All-take}
 use Rattle.grid.specs.Cut.{cuts}
 use Rattle.grid.proofs.Count.{cuts-count}
 use Rattle.definition.specs.Rule.{Rule}
-use Rattle.definition.specs.Sheet.{form2, limits1}
+use Rattle.definition.specs.Sheet.{form2, sheetLimits}
 use Rattle.definition.specs.Range.{ranges}
 use Rattle.definition.specs.Point.{Dimension, dimensions}
 use Rattle.definition.specs.Box.{allRanges, boxCount}
@@ -85,7 +85,7 @@ module _ (counts ranges : List ℕ) (n : ℕ) (rs : List Rule) (days : RuleDays 
   roomy : Roomy (rowPlaces n) rs dimensions
   roomy =
       rules-roomy (rowPlaces n) 32 rs dimensions
-      (All-map (λ r f. All-map (λ d h. ranges-few (d .bounds) (d .items r) 16 (omega arith) h) dimensions (items-few form2 limits1 r f)) rs (days .fits)) (omega (arith, days .many))
+      (All-map (λ r f. All-map (λ d h. ranges-few (d .bounds) (d .items r) 16 (omega arith) h) dimensions (items-few form2 sheetLimits r f)) rs (days .fits)) (omega (arith, days .many))
 
   -- after the last rule all are cut at
   pub all-cut : (rows sizes table : List ℕ) (k : ℕ) → n ≤ k → CutBy rows sizes table (take k rs) dimensions → CutBy rows sizes table rs dimensions

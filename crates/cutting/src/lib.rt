@@ -5,7 +5,7 @@ use bounded::WeekNum;
 use bounded::Year;
 ghost use mathlib.Core.Path.{_≡_};
 ghost use mathlib.Core.List.{List, []};
-ghost use Prim.Native.Nat.{_*_, _≤_, _<_};
+ghost use Prim.Native.Nat.{_*_, _≤_, _<_, _^_};
 ghost use lib.ListN.{length};
 ghost use Rattle.definition.specs.Rule.{Rule};
 ghost use Rattle.definition.specs.Point.{dimensions};
@@ -17,7 +17,7 @@ ghost use Rattle.cutting.specs.Cutting.{Placed, Rows};
 
 // Places a row for each dimension, one behind the other.
 fn place_rows(row_starts: &mut [u16], places: u16)
-    requires { ⌜ (length (now «row_starts») ≡ 4) × (places < 16384) ⌝ }
+    requires { ⌜ (length (now «row_starts») ≡ 4) × (3 * places < 2 ^ 16) ⌝ }
     ensures { λ _. ⌜ Placed places (now («row_starts» .exit)) ⌝ }
 {
     row_starts[0] = 0;
@@ -29,7 +29,7 @@ fn place_rows(row_starts: &mut [u16], places: u16)
 // Starts each dimension with its bounds as its only cuts: weekdays, weeks, months, years.
 fn start_rows(cuts: &mut [u16], sizes: &mut [u16], row_starts: &mut [u16], places: u16)
     requires { ⌜ (length (now «row_starts») ≡ 4) × (length (now sizes) ≡ 4) ⌝ }
-    requires { ⌜ (2 ≤ places) × (places < 16384) × (4 * places ≤ length (now cuts)) ⌝ }
+    requires { ⌜ (2 ≤ places) × (3 * places < 2 ^ 16) × (4 * places ≤ length (now cuts)) ⌝ }
     ensures { λ _. ⌜ Placed places (now («row_starts» .exit)) × CutBy (now («row_starts» .exit)) (now (sizes .exit)) (now (cuts .exit)) [] dimensions ⌝ }
 {
     place_rows(row_starts, places);

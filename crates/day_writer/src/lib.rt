@@ -2,21 +2,32 @@
 // entry: its state, how many spans, their numbers; the items stand as counts of pairs by sorts and the pairs' ends, as in `rule_writer`.
 use casts::u64_to_usize;
 use forms::Form;
+use forms::most_items;
 use rule_size::rule_bits;
 use rule_writer::rule::put_rule;
 ghost use mathlib.Core.Path.{_≡_};
 ghost use mathlib.Core.List.{List};
 ghost use Prim.Native.Nat.{ℕ, _*_, _≤_, _<_, _^_};
 ghost use lib.ListN.{length, getD};
+ghost use Rattle.laws.specs.Lists.{anyOf};
+ghost use Rattle.definition.specs.Fold.{manyItems};
 ghost use Rattle.forms.specs.Form.{asForm};
 ghost use Rattle.item_writer.specs.Written.{RoomFor, Wrote};
 ghost use Rattle.tables.specs.Items.{rowPlace, Rows, rowsBelow};
-ghost use Rattle.day_writer.specs.Rules.{bitsPerWord, entryRules, rulesBits, dayIn, Whole};
+ghost use Rattle.day_writer.specs.Rules.{bitsPerWord, Countable, manyCounted, entryRules, rulesBits, dayIn, Whole};
 ghost use Rattle.tables.specs.Pages.{dayRules};
 
+// How many rules a day makes, how many bits these take, and whether one of them has more items of a sort than the counts of the form can carry.
 pub struct Measure {
     pub rules: usize,
     pub bits: usize,
+    pub past: bool,
+}
+
+// The first two, of some entries.
+struct Size {
+    rules: usize,
+    bits: usize,
 }
 
 // How many rules the entries in the `words_left` words from `at` on make, and how many bits these take: no operator or end changes that.
@@ -26,8 +37,8 @@ fn measure_entries(
     at: usize,
     words_left: usize,
     item_counts: &[u16],
-) -> Measure
-    requires { ⌜ (4 ≤ length (now «item_counts»)) × ((sort : ℕ) → getD (now «item_counts») sort 0 < 2 ^ 10) ⌝ }
+) -> Size
+    requires { ⌜ (4 ≤ length (now «item_counts»)) × ((sort : ℕ) → getD (now «item_counts») sort 0 < 2 ^ 12) ⌝ }
     requires { ⌜ Whole (asForm form) (now words) at «words_left» ⌝ }
     requires { ⌜ «words_left» < 2 ^ 32 ⌝ }
     ensures { λ r. ⌜ ((operator : ℕ) (ends : List ℕ) → rowPlace (now («item_counts» .entry)) 4 ≤ length ends
@@ -36,7 +47,7 @@ fn measure_entries(
         × (r .rules ≤ «words_left») × (r .bits ≤ bitsPerWord * «words_left») ⌝ }
 {
     if words_left == 0 {
-        return Measure { rules: 0, bits: 0 };
+        return Size { rules: 0, bits: 0 };
     }
     let span_count = u64_to_usize(words[at + 1]);
     let first = rule_bits(form, item_counts, words, at + 2, span_count);
@@ -47,23 +58,45 @@ fn measure_entries(
         words_left - 2 - span_count,
         item_counts,
     );
-    Measure {
+    Size {
         rules: behind.rules + 1,
         bits: first + behind.bits,
     }
 }
 
-// How many rules a day of `count` words makes, and how many bits these take, whatever the items' ends.
+// Whether some sort has more items than the counts of a form can carry.
+pub fn many_items(form: Form, item_counts: &[u16]) -> bool
+    requires { ⌜ 4 ≤ length (now «item_counts») ⌝ }
+    ensures { λ r. ⌜ r ≡ manyCounted (asForm form) (now («item_counts» .entry)) ⌝ }
+{
+    let most = most_items(form);
+    let mut sort: usize = 0;
+    while sort < 4 {
+        if item_counts[sort] > most {
+            return true;
+        }
+        sort += 1;
+    }
+    false
+}
+
+// The measure of a day of `count` words, whatever the items' ends.
 pub fn measure_day(form: Form, words: &[u64], count: usize, item_counts: &[u16]) -> Measure
-    requires { ⌜ (4 ≤ length (now «item_counts»)) × ((sort : ℕ) → getD (now «item_counts») sort 0 < 2 ^ 10) ⌝ }
+    requires { ⌜ (4 ≤ length (now «item_counts»)) × ((sort : ℕ) → getD (now «item_counts») sort 0 < 2 ^ 12) ⌝ }
     requires { ⌜ Whole (asForm form) (now words) 0 count ⌝ }
     requires { ⌜ count < 2 ^ 32 ⌝ }
     ensures { λ r. ⌜ ((ends : List ℕ) → rowPlace (now («item_counts» .entry)) 4 ≤ length ends
         → (length (dayRules (rowsBelow ends (now («item_counts» .entry)) 4) (dayIn (now (words .entry)) 0 count)) ≡ r .rules)
-        × (length (rulesBits (asForm form) (dayRules (rowsBelow ends (now («item_counts» .entry)) 4) (dayIn (now (words .entry)) 0 count))) ≡ r .bits))
+        × (length (rulesBits (asForm form) (dayRules (rowsBelow ends (now («item_counts» .entry)) 4) (dayIn (now (words .entry)) 0 count))) ≡ r .bits)
+        × (anyOf (manyItems (asForm form)) (dayRules (rowsBelow ends (now («item_counts» .entry)) 4) (dayIn (now (words .entry)) 0 count)) ≡ r .past))
         × (r .rules ≤ count) × (r .bits ≤ bitsPerWord * count) ⌝ }
 {
-    measure_entries(form, words, 0, count, item_counts)
+    let size = measure_entries(form, words, 0, count, item_counts);
+    Measure {
+        rules: size.rules,
+        bits: size.bits,
+        past: size.rules > 0 && many_items(form, item_counts),
+    }
 }
 
 // Writes the entries in the `words_left` words from `next` on as rules, the first with a given operator.
@@ -81,6 +114,7 @@ fn write_entries(
     requires { ⌜ operator < 3 ⌝ }
     requires { ⌜ Whole (asForm form) (now words) next «words_left» ⌝ }
     requires { ⌜ Rows (now ends) (now «item_counts») ⌝ }
+    requires { ⌜ Countable (asForm form) (entryRules operator (rowsBelow (now ends) (now «item_counts») 4) (dayIn (now words) next «words_left»)) ⌝ }
     requires { ⌜ RoomFor (length (now out)) at (rulesBits (asForm form) (entryRules operator (rowsBelow (now ends) (now «item_counts») 4) (dayIn (now words) next «words_left»))) ⌝ }
     ensures { λ r. ⌜ Wrote (now (out .entry)) at
         (rulesBits (asForm form) (entryRules operator (rowsBelow (now (ends .entry)) (now («item_counts» .entry)) 4) (dayIn (now (words .entry)) next «words_left»))) (now (out .exit)) r ⌝ }
@@ -126,6 +160,7 @@ pub fn write_day(
 ) -> usize
     requires { ⌜ Whole (asForm form) (now words) 0 count ⌝ }
     requires { ⌜ Rows (now ends) (now «item_counts») ⌝ }
+    requires { ⌜ Countable (asForm form) (dayRules (rowsBelow (now ends) (now «item_counts») 4) (dayIn (now words) 0 count)) ⌝ }
     requires { ⌜ RoomFor (length (now out)) at (rulesBits (asForm form) (dayRules (rowsBelow (now ends) (now «item_counts») 4) (dayIn (now words) 0 count))) ⌝ }
     ensures { λ r. ⌜ Wrote (now (out .entry)) at (rulesBits (asForm form) (dayRules (rowsBelow (now (ends .entry)) (now («item_counts» .entry)) 4) (dayIn (now (words .entry)) 0 count))) (now (out .exit)) r ⌝ }
 {

@@ -10,7 +10,7 @@ use lib.Dec.{eqb, leb}
 use lib.ListN.{length}
 use borrow.Author.Tests.{leb-true}
 use Rattle.definition.specs.Field.{got, Layout, noBits}
-use Rattle.definition.specs.Sheet.{yearRange, monthsLayout, monthsOfLayout, monthdayOf, monthdayRange, weekRange, holidayLayout, weekdayOf, weekDayRange, fixedLayout, timeOf, time, repeatsOf, repeatsLayout, span, Form, limits1, openingWidth, titleWidth, headWidth, Counts, Title, Head, title, counts, head, body, rule, opening}
+use Rattle.definition.specs.Sheet.{yearRange, monthsLayout, monthsOfLayout, monthdayOf, monthdayRange, weekRange, holidayLayout, weekdayOf, weekDayRange, fixedLayout, timeOf, time, repeatsOf, repeatsLayout, span, Form, sheetLimits, openingWidth, titleWidth, headWidth, Counts, Title, Head, title, counts, head, body, rule, opening}
 use Rattle.definition.specs.Text.{digits}
 use Rattle.definition.proofs.Reading.{then-parts, via-parts, tagged-parts, field-passed, Short, field-end, field-short, none-short, then-short, via-short, tagged-short, several-short}
 
@@ -83,19 +83,19 @@ span-short = via-short _ _ _ 52
 -- ## How far a sheet's opening and a rule go
 module _ (form : Form) where
   -- a rule count keeps its limit, and the opening takes the bits of mark and count
-  pub opening-low : (s : List ℕ) (p n q : ℕ) → (opening form limits1) .read s p ≡ got n q → (n ≤ limits1 .rules) × (q ≡ p + openingWidth form)
+  pub opening-low : (s : List ℕ) (p n q : ℕ) → (opening form sheetLimits) .read s p ≡ got n q → (n ≤ sheetLimits .rules) × (q ≡ p + openingWidth form)
   unfolding opening
   opening-low s p n q e =
       let v = via-parts _ _ _ s p n q e in
       let k = then-parts _ _ s p (v .0) q (v .1) in (
-        omega (arith, v .2, leb-true (v .0 .1) 64 (field-passed _ (λ n. leb n 64) _ s (k .0) (v .0 .1) q (k .2))),
+        omega (arith, v .2, leb-true (v .0 .1) (sheetLimits .rules) (field-passed _ (λ n. leb n (sheetLimits .rules)) _ s (k .0) (v .0 .1) q (k .2))),
         omega (arith, field-end _ _ (form .markWidth) s p (v .0 .0) (k .0) (k .1), field-end _ _ (form .ruleCount) s (k .0) (v .0 .1) q (k .2)),
       )
 
   -- counts keep their limit, and take as many bits as five of them
-  pub counts-low : (s : List ℕ) (p : ℕ) (n : Counts) (q : ℕ) → (counts form limits1) .read s p ≡ got n q
-      → (n .0 ≤ limits1 .items) × (n .1 .0 ≤ limits1 .items) × (n .1 .1 .0 ≤ limits1 .items) × (n .1 .1 .1 .0 ≤ limits1 .items) ×
-      (n .1 .1 .1 .1 ≤ limits1 .spans) × (q ≡ p + 5 * form .itemCount)
+  pub counts-low : (s : List ℕ) (p : ℕ) (n : Counts) (q : ℕ) → (counts form sheetLimits) .read s p ≡ got n q
+      → (n .0 ≤ sheetLimits .items) × (n .1 .0 ≤ sheetLimits .items) × (n .1 .1 .0 ≤ sheetLimits .items) × (n .1 .1 .1 .0 ≤ sheetLimits .items) ×
+      (n .1 .1 .1 .1 ≤ sheetLimits .spans) × (q ≡ p + 5 * form .itemCount)
   unfolding counts
   counts-low s p n q e =
       let w = form .itemCount in
@@ -118,7 +118,7 @@ module _ (form : Form) where
         ),
       )
 
-  pub title-end : (s : List ℕ) (p : ℕ) (t : Title) (q : ℕ) → (title form limits1) .read s p ≡ got t q → q ≡ p + titleWidth form
+  pub title-end : (s : List ℕ) (p : ℕ) (t : Title) (q : ℕ) → (title form sheetLimits) .read s p ≡ got t q → q ≡ p + titleWidth form
   unfolding title
   title-end s p t q e =
       let o = then-parts _ _ s p t q e in
@@ -139,13 +139,13 @@ module _ (form : Form) where
       (then-short _ _ _ _ (several-short _ 20 weeks-short (n .1 .1 .0))
       (then-short _ _ _ _ (several-short _ 33 weekdays-short (n .1 .1 .1 .0)) (several-short _ 52 span-short (n .1 .1 .1 .1)))))
 
-  pub head-parts : (s : List ℕ) (p : ℕ) (h : Head) (q : ℕ) → (head form limits1) .read s p ≡ got h q
-      → (j : ℕ) × ((title form limits1) .read s p ≡ got (h .0) j) × ((counts form limits1) .read s j ≡ got (h .1) q)
+  pub head-parts : (s : List ℕ) (p : ℕ) (h : Head) (q : ℕ) → (head form sheetLimits) .read s p ≡ got h q
+      → (j : ℕ) × ((title form sheetLimits) .read s p ≡ got (h .0) j) × ((counts form sheetLimits) .read s j ≡ got (h .1) q)
   unfolding head
   head-parts s p h q e = then-parts _ _ s p h q e
 
   -- "16 items of each sort, 16 spans": the head, then 183 bits sixteen times
-  pub rule-short : Short (rule form limits1) (headWidth form + 2928)
+  pub rule-short : Short (rule form sheetLimits) (headWidth form + 2928)
   unfolding rule
   rule-short s p r q e =
       let w = tagged-parts _ _ _ s p r q e in

@@ -30,6 +30,7 @@ pub mod Worked
 pub mod WorkedLines
 pub mod WorkedDates
 pub mod WorkedForms
+pub mod WorkedCounts
 pub mod Drained
 pub mod Why
 pub mod FoldCases

@@ -13,7 +13,7 @@ use Rattle.laws.proofs.Flags.{split-and, both-and}
 use Rattle.laws.proofs.Lists.{All-map₂, every-all, all-every}
 use Rattle.definition.specs.Field.{field, counted, _then_, via, tagged, several}
 use Rattle.definition.specs.Rule.{operatorNumber, kindNumber, Rule}
-use Rattle.definition.specs.Sheet.{Form, Limits, form1, form2, limits1, choice, headOf, title, counts, head, rule, opening, rules}
+use Rattle.definition.specs.Sheet.{Form, Limits, form1, form2, sheetLimits, choice, headOf, title, counts, head, rule, opening, rules}
 use Rattle.definition.proofs.Carried.{each-passes, head-carried, counts-carried}
 use Rattle.definition.proofs.RuleCounts.{rule-count-fits}
 use Rattle.definition.proofs.Lawful.{rules-each}
@@ -25,11 +25,11 @@ pub record Holds (form : Form) (limits : Limits) : Type 0 where
   pub items-held : limits .items < 2 ^ form .itemCount
   pub spans-held : limits .spans < 2 ^ form .itemCount
 
--- "Under 01's limits the counts always fit both forms."
-pub holds1 : Holds form1 limits1
+-- "Under 01's limits the counts always fit both forms", and under these
+pub holds1 : Holds form1 sheetLimits
 holds1 = omega arith
 
-pub holds2 : Holds form2 limits1
+pub holds2 : Holds form2 sheetLimits
 holds2 = omega arith
 
 module _ (from to : Form) (limits : Limits) (held : Holds to limits) where

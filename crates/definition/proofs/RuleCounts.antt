@@ -1,5 +1,5 @@
--- COUNTS FIT THEIR FIELDS: what the fold writes has no more rules, items and spans than the form's counts can carry. Rests on how large pages
--- are.
+-- COUNTS FIT THEIR FIELDS: what the fold writes has no more rules, items and spans than the form's counts can carry, where the test for 13 fails; and
+-- it fails wherever the limits let no more come out than these counts can carry, as in form 2. Rests on how large pages are.
 use mathlib.Core.Path.{_≡_, refl, sym, subst}
 use mathlib.Core.List.{List, [], _∷_, _++_, map, flatMap}
 use mathlib.Core.Bool.{Bool, true, false, _&&_}
@@ -8,21 +8,21 @@ use native.Mathlib.Nat.{mul-le-mul-right}
 use native.Mathlib.Omega.{arith}
 use lib.Dec.{eqb, leb, ltb}
 use lib.ListN.{length, length-append, length-map}
-use borrow.Author.Tests.{ltb-true, leb-true}
-use Rattle.laws.specs.Lists.{All}
-use Rattle.laws.proofs.Flags.{split-and}
-use Rattle.laws.proofs.Lists.{All-map, All-map₂, All-append, every-all}
+use borrow.Author.Tests.{ltb-true, ltb-false, leb-true, le-ltb}
+use Rattle.laws.specs.Lists.{All, anyOf}
+use Rattle.laws.proofs.Flags.{split-and, split-or}
+use Rattle.laws.proofs.Lists.{All-map, All-map₂, All-append, every-all, any-all, all-any}
 use Rattle.laws.proofs.Spread.{flatMap-all, flatMap-length}
 use Rattle.grid.specs.Cut.{Range}
 use Rattle.definition.specs.Field.{got, field, lawful, counted, _then_, via, tagged, several}
 use Rattle.definition.specs.Rule.{Operator, Normal, Additional, Rule}
-use Rattle.definition.specs.Sheet.{Form, Limits, form1, form2, limits1, title, counts, head, headOf, rule, opening, rules, decode}
+use Rattle.definition.specs.Sheet.{Form, Limits, form1, form2, mostRules, mostItems, sheetLimits, formerLimits, title, counts, head, headOf, rule, opening, rules, decode}
 use Rattle.definition.specs.Range.{Ends}
 use Rattle.definition.specs.Stop.{stops, drained, left}
 use Rattle.definition.specs.Point.{Dimension, weekdayDimension, weekDimension, monthDimension, yearDimension, dimensions}
 use Rattle.definition.specs.Day.{Entry, Day}
 use Rattle.definition.specs.Group.{Page, pages, itemsOf, laidOver, asRule, asRules, rulesOf, folded}
-use Rattle.definition.specs.Fold.{fine, drain}
+use Rattle.definition.specs.Fold.{fine, drain, itemCounts, manyItems, passesCounts}
 use Rattle.definition.proofs.Bits.{Bytes}
 use Rattle.definition.proofs.SheetRead.{encode-decoded}
 use Rattle.definition.proofs.Lawful.{Lawful, rules-each, rules-lawful}
@@ -128,26 +128,71 @@ pub record Roomy (form : Form) (limits : Limits) : Type 0 where
   pub items-room : suc (limits .boxes) < 2 * 2 ^ form .itemCount
   pub spans-room : suc (limits .entries * limits .spans) < 2 ^ form .itemCount
 
-pub roomy1 : Roomy form1 limits1
-roomy1 = omega arith
-
-pub roomy2 : Roomy form2 limits1
+-- "form 2 always can"; and under 01's limits form 1 could
+pub roomy2 : Roomy form2 sheetLimits
 roomy2 = omega arith
 
+pub roomy-former1 : Roomy form1 formerLimits
+roomy-former1 = omega arith
+
+pub roomy-former2 : Roomy form2 formerLimits
+roomy-former2 = omega arith
+
 pub record CountsFit (form : Form) (rs : List Rule) : Type 0 where
-  pub rule-count : length rs < 2 ^ form .ruleCount
-  pub item-counts : All (Sized (2 ^ form .itemCount - 1) (2 ^ form .itemCount - 1)) rs
+  pub rule-count : length rs ≤ mostRules form
+  pub item-counts : All (Sized (mostItems form) (mostItems form)) rs
+
+-- that is what 13 asks
+module _ (form : Form) where
+  pub few-items : (r : Rule) → manyItems form r ≡ false → Sized (mostItems form) (mostItems form) r
+  unfolding manyItems
+  few-items r h =
+      let k = any-all (ltb (mostItems form)) (itemCounts r) h in
+      record {
+        years-few = ltb-false _ _ (k .0);
+        monthdays-few = ltb-false _ _ (k .1 .0);
+        weeks-few = ltb-false _ _ (k .1 .1 .0);
+        weekdays-few = ltb-false _ _ (k .1 .1 .1 .0);
+        spans-few = ltb-false _ _ (k .1 .1 .1 .1 .0);
+      }
+
+  pub items-few : (r : Rule) → Sized (mostItems form) (mostItems form) r → manyItems form r ≡ false
+  unfolding manyItems
+  items-few r k = all-any (ltb (mostItems form)) (itemCounts r) (
+    le-ltb _ _ (k .years-few),
+    (le-ltb _ _ (k .monthdays-few), (le-ltb _ _ (k .weeks-few), (le-ltb _ _ (k .weekdays-few), (le-ltb _ _ (k .spans-few), tt)))),
+  )
+
+  pub counts-kept : (rs : List Rule) → passesCounts form rs ≡ false → CountsFit form rs
+  unfolding passesCounts
+  counts-kept rs h =
+      let k = split-or (ltb (mostRules form) (length rs)) (anyOf (manyItems form) rs) h in
+      record { rule-count = ltb-false _ _ (k .0); item-counts = All-map few-items rs (any-all (manyItems form) rs (k .1)) }
+
+  pub kept-counts : (rs : List Rule) → CountsFit form rs → passesCounts form rs ≡ false
+  unfolding passesCounts
+  kept-counts rs k = rw (le-ltb (mostRules form) (length rs) (k .rule-count)) (all-any (manyItems form) rs (All-map items-few rs (k .item-counts)))
+
+-- what holds of all rules holds of those left
+pub left-all : (P : Rule → Type 0) (rs : List Rule) → All P rs → All P (left rs) × (length (left rs) ≤ length rs)
+unfolding left
+left-all P [] h = (tt, omega arith)
+left-all P (r ∷ rs) h = go (stops r) refl (left-all P rs (h .1))
+  where
+    go : (b : Bool) → stops r ≡ b → All P (left rs) × (length (left rs) ≤ length rs) → All P (left (r ∷ rs)) × (length (left (r ∷ rs)) ≤ suc (length rs))
+    go true e ih = rw (e, left) (h, omega arith)
+    go false e ih = rw (e, left) (ih .0, omega arith)
 
 -- the counts of a rule that a sheet carries
 module _ (form : Form) (limits : Limits) where
-  count-fits : (limit v : ℕ) → (counted (form .itemCount) limit) .fits v ≡ true → (v ≤ 2 ^ form .itemCount - 1) × (v ≤ limit)
+  count-fits : (limit v : ℕ) → (counted (form .itemCount) limit) .fits v ≡ true → (v ≤ mostItems form) × (v ≤ limit)
   unfolding field
   count-fits limit v f =
       let k = split-and (ltb v (2 ^ form .itemCount)) (leb v limit) f in
       (omega (arith, ltb-true v (2 ^ form .itemCount) (k .0)), leb-true v limit (k .1))
 
   head-sized : (r : Rule) → (rule form limits) .fits r ≡ true
-      → Sized (2 ^ form .itemCount - 1) (2 ^ form .itemCount - 1) r × (length (r .spans) ≤ limits .spans)
+      → Sized (mostItems form) (mostItems form) r × (length (r .spans) ≤ limits .spans)
   unfolding rule tagged head counts _then_
   head-sized r f =
       let items = counted (form .itemCount) (limits .items) in
@@ -178,14 +223,10 @@ module _ (form : Form) (limits : Limits) where
       let n = split-and (ltb (form .mark) (2 ^ form .markWidth) && eqb (form .mark) (form .mark)) _ k .1 in
       leb-true (length rs) (limits .rules) (split-and (ltb (length rs) (2 ^ form .ruleCount)) (leb (length rs) (limits .rules)) n .1)
 
-  left-all : (P : Rule → Type 0) (rs : List Rule) → All P rs → All P (left rs) × (length (left rs) ≤ length rs)
-  unfolding left
-  left-all P [] h = (tt, omega arith)
-  left-all P (r ∷ rs) h = go (stops r) refl (left-all P rs (h .1))
-    where
-      go : (b : Bool) → stops r ≡ b → All P (left rs) × (length (left rs) ≤ length rs) → All P (left (r ∷ rs)) × (length (left (r ∷ rs)) ≤ suc (length rs))
-      go true e ih = rw (e, left) (h, omega arith)
-      go false e ih = rw (e, left) (ih .0, omega arith)
+  -- the rules left of a sheet are none with too many items
+  pub left-few-items : (rs : List Rule) → (rules form limits) .fits rs ≡ true → All (λ r. manyItems form r ≡ false) (left rs)
+  left-few-items rs fits =
+      left-all _ rs (every-all (λ r. manyItems form r ≡ false) ((rule form limits) .fits) (λ r f. items-few form r (head-sized r f .0)) rs (rules-each form limits rs fits)) .0
 
   -- THE LAW
   pub counts-fit : Roomy form limits → (s : List ℕ) → Bytes s → (rs : List Rule) (q : ℕ) → decode form limits s ≡ got rs q → drain limits (drained rs) ≡ fine
@@ -198,7 +239,7 @@ module _ (form : Form) (limits : Limits) where
       let sized = every-all _ ((rule form limits) .fits) head-sized rs (rules-each form limits rs fits) in
       let lawful = drained-all Lawful rs (rules-lawful form limits rs fits) in
       let spans = drained-all (λ r. length (r .spans) ≤ limits .spans) rs (All-map (λ r k. k .1) rs sized) in
-      let rest = left-all (Sized (2 ^ form .itemCount - 1) (2 ^ form .itemCount - 1)) rs (All-map (λ r k. k .0) rs sized) in
+      let rest = left-all (Sized (mostItems form) (mostItems form)) rs (All-map (λ r k. k .0) rs sized) in
       record {
         rule-count = omega (
           arith,
@@ -212,7 +253,7 @@ module _ (form : Form) (limits : Limits) where
         );
         item-counts = All-append _ (flatMap rulesOf (pages ds)) (left rs)
             (flatMap-all _ rulesOf (pages ds)
-            (All-map₂ (λ g k b. rules-sized (2 ^ form .itemCount - 1) (2 ^ form .itemCount - 1) g
+            (All-map₂ (λ g k b. rules-sized (mostItems form) (mostItems form) g
             (All-map (λ R l. omega (arith, l, d .1, roomy .items-room)) (g .1) k) b)
             (pages ds) (pages-few ds lawful)
             (All-map (λ g k. All-map (λ x l. omega (arith, l, roomy .spans-room)) (g .0) k) (pages ds)

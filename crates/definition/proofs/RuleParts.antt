@@ -6,17 +6,17 @@ use native.Mathlib.Omega.{arith}
 use lib.ListN.{length}
 use Rattle.definition.specs.Field.{got, readAll, Layout, counted, several}
 use Rattle.definition.specs.Rule.{Rule}
-use Rattle.definition.specs.Sheet.{Form, limits1, titleWidth, headWidth, yearRange, monthdayRange, weekRange, weekDayRange, span, Counts, headOf, ruleWith, title, counts, body, rule}
+use Rattle.definition.specs.Sheet.{Form, sheetLimits, titleWidth, headWidth, yearRange, monthdayRange, weekRange, weekDayRange, span, Counts, headOf, ruleWith, title, counts, body, rule}
 use Rattle.definition.proofs.Reading.{then-parts, via-parts, tagged-parts, field-end, all-length}
 use Rattle.definition.proofs.Lengths.{title-end, counts-low, head-parts}
 
 module _ (form : Form) where
   -- a count stands at h
   abbrev pub Counted : List ℕ → ℕ → ℕ → Type 0
-  Counted s h n = (counted (form .itemCount) (limits1 .items)) .read s h ≡ got n (h + form .itemCount)
+  Counted s h n = (counted (form .itemCount) (sheetLimits .items)) .read s h ≡ got n (h + form .itemCount)
 
   -- five counts, one behind the other
-  pub counts-parts : (s : List ℕ) (p : ℕ) (n : Counts) (q : ℕ) → (counts form limits1) .read s p ≡ got n q
+  pub counts-parts : (s : List ℕ) (p : ℕ) (n : Counts) (q : ℕ) → (counts form sheetLimits) .read s p ≡ got n q
       → let w = form .itemCount in
       Counted s p (n .0) × Counted s (p + w) (n .1 .0) × Counted s (p + w + w) (n .1 .1 .0) × Counted s (p + w + w + w) (n .1 .1 .1 .0)
       × Counted s (p + w + w + w + w) (n .1 .1 .1 .1)
@@ -39,10 +39,10 @@ module _ (form : Form) where
         at (p + w + w + w + w) (d .0) (n .1 .1 .1 .1) q (omega (arith, a, b, c, f)) g (d .2),
       )
     where
-      at : (h i v j : ℕ) → i ≡ h → j ≡ i + form .itemCount → (counted (form .itemCount) (limits1 .items)) .read s i ≡ got v j → Counted s h v
+      at : (h i v j : ℕ) → i ≡ h → j ≡ i + form .itemCount → (counted (form .itemCount) (sheetLimits .items)) .read s i ≡ got v j → Counted s h v
       at h i v j k l g =
           let z : j ≡ h + form .itemCount = omega arith in
-          ap (λ o. (counted (form .itemCount) (limits1 .items)) .read s o) (sym k) ∙ g ∙ ap (got v) z
+          ap (λ o. (counted (form .itemCount) (sheetLimits .items)) .read s o) (sym k) ∙ g ∙ ap (got v) z
 
   pub record RuleParts (s : List ℕ) (p : ℕ) (r : Rule) (q : ℕ) : Type 0 where
     -- how many items of each sort, and where the rows after the first begin
@@ -52,8 +52,8 @@ module _ (form : Form) where
     pub weekdays-at : ℕ
     pub spans-at : ℕ
     pub all-counted : many ≡ headOf r .1
-    pub titled : (title form limits1) .read s p ≡ got (headOf r .0) (p + titleWidth form)
-    pub counted : (counts form limits1) .read s (p + titleWidth form) ≡ got many (p + headWidth form)
+    pub titled : (title form sheetLimits) .read s p ≡ got (headOf r .0) (p + titleWidth form)
+    pub counted : (counts form sheetLimits) .read s (p + titleWidth form) ≡ got many (p + headWidth form)
     pub count-years : Counted s (p + titleWidth form) (many .0)
     pub count-monthdays : Counted s (p + titleWidth form + form .itemCount) (many .1 .0)
     pub count-weeks : Counted s (p + titleWidth form + form .itemCount + form .itemCount) (many .1 .1 .0)
@@ -65,7 +65,7 @@ module _ (form : Form) where
     pub weekdays-read : readAll (weekDayRange .read) (many .1 .1 .1 .0) s weekdays-at ≡ got (r .weekdays) spans-at
     pub spans-read : readAll (span .read) (length (r .spans)) s spans-at ≡ got (r .spans) q
 
-  pub rule-parts : (s : List ℕ) (p : ℕ) (r : Rule) (q : ℕ) → (rule form limits1) .read s p ≡ got r q → RuleParts s p r q
+  pub rule-parts : (s : List ℕ) (p : ℕ) (r : Rule) (q : ℕ) → (rule form sheetLimits) .read s p ≡ got r q → RuleParts s p r q
   unfolding rule body several
   rule-parts s p r q e =
       let w = tagged-parts _ _ _ s p r q e in
@@ -97,7 +97,7 @@ module _ (form : Form) where
         weekdays-at = n .0;
         spans-at = d .0;
         titled = k .1 ∙ ap (λ j. got (h .0) j) t ∙ ap (λ x. got (headOf x .0) (p + titleWidth form)) same;
-        counted = ap (λ j. (counts form limits1) .read s j) (sym t) ∙ k .2 ∙ ap (got (h .1)) z;
+        counted = ap (λ j. (counts form sheetLimits) .read s j) (sym t) ∙ k .2 ∙ ap (got (h .1)) z;
         count-years = from t (h .1 .0) (c .0);
         count-monthdays = from (ap (_+ form .itemCount) t) (h .1 .1 .0) (c .1);
         count-weeks = from (ap (λ j. j + form .itemCount + form .itemCount) t) (h .1 .1 .1 .0) (c .2);

@@ -22,8 +22,8 @@ use Rattle.definition.specs.Box.{boxCount}
 use Rattle.definition.specs.Day.{simple, flattened, runOf, afterRun, painting, joinGroup, byState, grouped, lastOver}
 use Rattle.definition.specs.Group.{itemsOf, laidOver, rulesOf}
 use Rattle.definition.specs.OverBoxes.{paintedOverIntervals, dayOverIntervals, overlapsOverEnds, firstOverlapOverEnds, firstTooLongOverBoxes, pagesOverBoxes, foldedOverBoxes, foldOverBoxes}
-use Rattle.definition.specs.Sheet.{form1, limits1}
-use Rattle.definition.specs.Fold.{numbers, judged, fitted, foldRules}
+use Rattle.definition.specs.Sheet.{form1, sheetLimits}
+use Rattle.definition.specs.Fold.{numbers, judged, manyItems, passesCounts, fitted, carried, foldRules}
 use Rattle.definition.specs.Worked.{Case, cases, room, Worked}
 use Rattle.definition.specs.WorkedOverlaps.{overlapCases}
 use Rattle.definition.proofs.Bits.{Bytes}
@@ -32,7 +32,7 @@ use Rattle.definition.proofs.FoldBox.{fold-boxes}
 -- does the fold over boxes give what the case says, and is the sheet bytes?
 agrees : Case → Bool
 agrees c =
-    let f = foldOverBoxes form1 limits1 room (c .sheet) in
+    let f = foldOverBoxes form1 sheetLimits room (c .sheet) in
     sameList eqb (numbers f) (c .answer) && (sameList eqb (f .result) (c .written) && every (λ b. ltb b 256) (c .sheet))
 
 computed : (every agrees cases ≡ true) × (every agrees overlapCases ≡ true)
@@ -40,7 +40,7 @@ unfolding agrees flatMap from firstOf every anyOf anyPair firstIndex count keep 
     cutAt cuts between intervals boxes glue joined bits number sheetBits bytes packed fieldAt readField readAll field noBits _then_ via tagged several
     notAbove insertSpan sorted sameTime yearRange monthdayOf monthdayRange weekRange weekdayOf weekDayRange timeOf time repeatsOf repeatsLayout span
     title counts head body rule opening rules firstSet ended decode encode split ranges stops firstThatApplies reason drained left why selector combinations after listFrom tooLong boxCount
-    simple flattened runOf afterRun painting joinGroup byState grouped lastOver itemsOf laidOver rulesOf judged fitted foldRules paintedOverIntervals
+    simple flattened runOf afterRun painting joinGroup byState grouped lastOver itemsOf laidOver rulesOf judged manyItems passesCounts fitted carried foldRules paintedOverIntervals
     dayOverIntervals overlapsOverEnds firstOverlapOverEnds firstTooLongOverBoxes pagesOverBoxes foldedOverBoxes foldOverBoxes
 computed = (refl, refl)
 
@@ -51,11 +51,11 @@ each : (cs : List Case) → every agrees cs ≡ true → All Worked cs
 unfolding every agrees
 each [] h = tt
 each (c ∷ cs) h =
-    let f = foldOverBoxes form1 limits1 room (c .sheet) in
+    let f = foldOverBoxes form1 sheetLimits room (c .sheet) in
     let k = split-and (agrees c) (every agrees cs) h in
     let a = split-and (sameList eqb (numbers f) (c .answer)) (sameList eqb (f .result) (c .written) && every (λ b. ltb b 256) (c .sheet)) (k .0) in
     let b = split-and (sameList eqb (f .result) (c .written)) (every (λ b. ltb b 256) (c .sheet)) (a .1) in
-    let e = fold-boxes form1 limits1 room (c .sheet) (are-bytes (c .sheet) (b .1)) in
+    let e = fold-boxes form1 sheetLimits room (c .sheet) (are-bytes (c .sheet) (b .1)) in
     ((ap numbers e ∙ (exact-list exact-eqb) .equal _ _ (a .0), ap (λ g. g .result) e ∙ (exact-list exact-eqb) .equal _ _ (b .0)), each cs (k .1))
 
 -- P

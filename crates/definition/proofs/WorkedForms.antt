@@ -14,7 +14,7 @@ use Rattle.grid.specs.Group.{size, somewhere, agree, grow, pop, clear, takeOut,
 use Rattle.grid.specs.Cut.{cutAt, cuts, between, intervals, boxes, glue, joined}
 use Rattle.definition.specs.Field.{bits, number, sheetBits, bytes, packed, unlawful, fieldAt, readField, readAll, field, noBits, _then_ as _thenBits_, via, tagged, several as severalBits}
 use Rattle.definition.specs.Rule.{sameTime}
-use Rattle.definition.specs.Sheet.{Form, limits1, weekdayOf, weekDayRange, timeOf, time, repeatsOf, repeatsLayout, span, title, counts, head, body, rule, opening, rules, firstSet, ended, decode, encode}
+use Rattle.definition.specs.Sheet.{Form, sheetLimits, weekdayOf, weekDayRange, timeOf, time, repeatsOf, repeatsLayout, span, title, counts, head, body, rule, opening, rules, firstSet, ended, decode, encode}
 use Rattle.definition.specs.Range.{split, ranges}
 use Rattle.definition.specs.Stop.{stops, drained, left, why}
 use Rattle.definition.specs.Point.{selector, combinations, after, listFrom, tooLong}
@@ -22,7 +22,7 @@ use Rattle.definition.specs.Box.{boxCount}
 use Rattle.definition.specs.Day.{simple, flattened, painting, grouped, lastOver}
 use Rattle.definition.specs.Group.{itemsOf, laidOver, rulesOf}
 use Rattle.definition.specs.OverBoxes.{paintedOverIntervals, dayOverIntervals, overlapsOverEnds, firstOverlapOverEnds, firstTooLongOverBoxes, pagesOverBoxes, foldedOverBoxes, foldOverBoxes}
-use Rattle.definition.specs.Fold.{Folded, numbers, refusal, writtenInto, judged, fitted, foldRules, fold, writeBack}
+use Rattle.definition.specs.Fold.{Folded, numbers, refusal, writtenInto, judged, manyItems, passesCounts, fitted, carried, foldRules, fold, writeBack}
 use Rattle.definition.specs.Lookup.{lookup}
 use Rattle.definition.specs.Text.{ascii, digits, decimalIn, word, padded, plain, named, _then_, of, unless, only, several}
 use Rattle.definition.specs.Line.{item, weekdayText, clock, spanText, stateText, part, ruleText, lineOf, line}
@@ -36,18 +36,18 @@ use Rattle.definition.proofs.Worked.{are-bytes}
 
 -- ## The fold over boxes, by the caller's number
 foldInBoxes : ℕ → List ℕ → Folded
-foldInBoxes n sheet = inForm refusal (λ form. foldOverBoxes form limits1 room sheet) n
+foldInBoxes n sheet = inForm refusal (λ form. foldOverBoxes form sheetLimits room sheet) n
 
-in-boxes : (n : ℕ) (sheet : List ℕ) → Bytes sheet → foldIn limits1 n room sheet ≡ foldInBoxes n sheet
+in-boxes : (n : ℕ) (sheet : List ℕ) → Bytes sheet → foldIn sheetLimits n room sheet ≡ foldInBoxes n sheet
 unfolding foldIn foldInBoxes inForm
 in-boxes n sheet whole = go (formNamed n)
   where
     named-or : (Form → Folded) → Option Form → Folded
     named-or entry o = elim o [ none ↦ refusal unlawful 0 | some form ↦ entry form ]
 
-    go : (o : Option Form) → named-or (λ form. fold form limits1 room sheet) o ≡ named-or (λ form. foldOverBoxes form limits1 room sheet) o
+    go : (o : Option Form) → named-or (λ form. fold form sheetLimits room sheet) o ≡ named-or (λ form. foldOverBoxes form sheetLimits room sheet) o
     go none = refl
-    go (some form) = fold-boxes form limits1 room sheet whole
+    go (some form) = fold-boxes form sheetLimits room sheet whole
 
 -- ## Computed
 computes : Entry → ℕ → List ℕ → List ℕ × List ℕ
@@ -66,7 +66,7 @@ unfolding agrees computes foldInBoxes flatMap from firstOf every anyOf anyPair f
     takeOut sweepFor sweep groups cutAt cuts between intervals boxes glue joined bits number sheetBits bytes packed fieldAt readField readAll field noBits
     _thenBits_ via tagged severalBits sameTime weekdayOf weekDayRange timeOf time repeatsOf repeatsLayout span title counts head body rule opening rules
     firstSet ended decode encode split ranges stops drained left why selector combinations after listFrom tooLong boxCount simple flattened painting grouped
-    lastOver itemsOf laidOver rulesOf judged fitted foldRules paintedOverIntervals dayOverIntervals overlapsOverEnds firstOverlapOverEnds
+    lastOver itemsOf laidOver rulesOf judged manyItems passesCounts fitted carried foldRules paintedOverIntervals dayOverIntervals overlapsOverEnds firstOverlapOverEnds
     firstTooLongOverBoxes pagesOverBoxes foldedOverBoxes foldOverBoxes ascii digits decimalIn word padded plain named _then_ of unless only several item
     weekdayText clock spanText stateText part ruleText lineOf line wordless firstWordless writtenInto showRules showLine writeBack lookup firstLongComment
     convertRules convert formNamed inForm writeBackIn showLineIn lookupIn convertIn

@@ -9,7 +9,7 @@ use Rattle.laws.proofs.Flags.{split-and}
 use Rattle.laws.proofs.Lists.{every-all}
 use Rattle.laws.proofs.Tests.{exact-eqb, exact-list}
 use Rattle.definition.specs.Field.{bits, number, sheetBits, bytes, fieldAt, readField, readAll, field, noBits, _then_ as _thenBits_, via, tagged, several as severalBits}
-use Rattle.definition.specs.Sheet.{form1, limits1, yearRange, monthdayOf, monthdayRange, weekRange, weekdayOf, weekDayRange, timeOf, time, repeatsOf, repeatsLayout, span, title, counts, head, body, rule, opening, rules, firstSet, ended, decode}
+use Rattle.definition.specs.Sheet.{form1, sheetLimits, yearRange, monthdayOf, monthdayRange, weekRange, weekdayOf, weekDayRange, timeOf, time, repeatsOf, repeatsLayout, span, title, counts, head, body, rule, opening, rules, firstSet, ended, decode}
 use Rattle.definition.specs.Fold.{Written, writtenNumbers, writtenInto}
 use Rattle.definition.specs.Text.{ascii, digits, decimalIn, word, padded, plain, named, _then_, of, unless, only, several}
 use Rattle.definition.specs.Line.{item, yearText, weekText, monthText, weekdayText, clock, spanText, stateText, part, ruleText, lineOf, line}
@@ -17,7 +17,7 @@ use Rattle.definition.specs.Show.{wordless, firstWordless, showRules, sh
 use Rattle.definition.specs.WorkedLines.{Case, Worked, cases}
 
 abbrev answer : Case → Written
-answer c = showLine form1 limits1 (c .room) (c .sheet)
+answer c = showLine form1 sheetLimits (c .room) (c .sheet)
 
 agrees : Case → Bool
 agrees c = sameList eqb (writtenNumbers (answer c)) (c .answer) && sameList eqb (answer c .result) (c .shown)

@@ -84,6 +84,10 @@ daysTwice = 11
 abbrev pub longComment : ℕ
 longComment = 12
 
+-- fold only (02, M-107): the result has more rules or items than the form's counts can carry
+abbrev pub pastCounts : ℕ
+pastCounts = 13
+
 -- ## Readings
 -- a value and the bit after it, or a refusal: its code and its place
 pub data Read (A : Type 0) : Type 0 where

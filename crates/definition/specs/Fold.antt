@@ -1,16 +1,18 @@
 -- 01, "Numbers of the answer": "The fold answers code, drained, emitted (folded rules only), left (rules copied), bytes written, place. On a
 -- refusal every number but code and place is 0." Order: "1, 2 and 4 as met from the first bit on; then 3, 8, 5, 6, 9, 7", and 02's 11 "after
--- 8, before 5". "On code 0 the result stands at the front of the buffer and later bytes are unchanged." "The rules left are copied bit by bit after them."
+-- 8, before 5", 13 "after 9, before 7". "On code 0 the result stands at the front of the buffer and later bytes are unchanged." "The rules left are copied bit by bit after them."
+-- 02, M-107: "A fold written as form 1 may now need more rules or ranges than its counts can carry; form 2 always can."
 -- 02, M-105: why the fold stopped "passes through the drain into the fold's answer as a seventh number, 0 on refusals".
 use mathlib.Core.List.{List, [], _∷_, _++_}
 use mathlib.Core.Option.{Option, none, some}
-use mathlib.Core.Bool.{true, false, cond}
+use mathlib.Core.Bool.{Bool, true, false, cond, _||_}
 use Prim.Native.Nat.{ℕ}
 use lib.Dec.{ltb}
 use lib.ListN.{length, drop}
-use Rattle.definition.specs.Field.{got, refused, daysTwice, manyBoxes, longList, noRoom}
+use Rattle.laws.specs.Lists.{anyOf}
+use Rattle.definition.specs.Field.{got, refused, daysTwice, manyBoxes, longList, pastCounts, noRoom}
 use Rattle.definition.specs.Rule.{Rule}
-use Rattle.definition.specs.Sheet.{Form, Limits, decode, encode}
+use Rattle.definition.specs.Sheet.{Form, Limits, mostRules, mostItems, decode, encode}
 use Rattle.definition.specs.Stop.{drained, left, why}
 use Rattle.definition.specs.Point.{dimensions, firstTooLong}
 use Rattle.definition.specs.Overlap.{firstOverlap}
@@ -86,6 +88,19 @@ judged limits rs overlap long =
 unfoldable pub drain : Limits → List Rule → Drained
 drain limits rs = judged limits rs (firstOverlap rs) (firstTooLong (limits .entries) rs)
 
+-- ## 13: what a form's counts can carry
+-- the five counts of a rule
+abbrev pub itemCounts : Rule → List ℕ
+itemCounts r = length (r .years) ∷ length (r .monthdays) ∷ length (r .weeks) ∷ length (r .weekdays) ∷ length (r .spans) ∷ []
+
+-- "a rule with more than 1,023 items of a sort", than 4,095 in form 2
+unfoldable pub manyItems : Form → Rule → Bool
+manyItems form r = anyOf (ltb (mostItems form)) (itemCounts r)
+
+-- "the result has more than 65,535 rules", than 16,777,215 in form 2, or such a rule
+unfoldable pub passesCounts : Form → List Rule → Bool
+passesCounts form rs = ltb (mostRules form) (length rs) || anyOf (manyItems form) rs
+
 -- ## The fold
 module _ (form : Form) (limits : Limits) where
   -- 7: the buffer has less room than the result
@@ -104,9 +119,16 @@ module _ (form : Form) (limits : Limits) where
     }
   ]
 
+  -- 13: the form's counts can't carry the folded rules and the rules left; then 7
+  unfoldable pub carried : ℕ → List Rule → List Rule → Folded
+  carried room rs foldedRules = elim (passesCounts form (foldedRules ++ left rs)) [
+    | true ↦ refusal pastCounts 0
+    | false ↦ fitted room rs foldedRules (encode form limits (foldedRules ++ left rs))
+  ]
+
   -- the fold of rules into a buffer of `room` bytes, once the drained ones were judged and folded
   unfoldable pub foldRules : ℕ → List Rule → Drained → List Rule → Folded
-  foldRules room rs judgement foldedRules = elim judgement [ over c p ↦ refusal c p | fine ↦ fitted room rs foldedRules (encode form limits (foldedRules ++ left rs)) ]
+  foldRules room rs judgement foldedRules = elim judgement [ over c p ↦ refusal c p | fine ↦ carried room rs foldedRules ]
 
   -- THE FOLD OF A SHEET, over points
   unfoldable pub fold : ℕ → List ℕ → Folded

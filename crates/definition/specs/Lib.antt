@@ -23,3 +23,4 @@ pub mod WorkedLines
 pub mod WorkedDates
 pub mod WorkedReasons
 pub mod WorkedForms
+pub mod WorkedCounts

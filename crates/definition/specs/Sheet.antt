@@ -5,7 +5,7 @@
 use mathlib.Core.List.{List, [], _∷_}
 use mathlib.Core.Option.{Option, none, some}
 use mathlib.Core.Bool.{Bool, true, false, cond}
-use Prim.Native.Nat.{ℕ, suc, _+_, _*_, _-_}
+use Prim.Native.Nat.{ℕ, suc, _+_, _*_, _-_, _^_}
 use lib.Dec.{eqb, leb, ltb}
 use lib.ListN.{length, take, drop}
 use Rattle.grid.specs.Cut.{holds}
@@ -49,9 +49,20 @@ titleWidth form = 4 + form .comment
 abbrev pub headWidth : Form → ℕ
 headWidth form = titleWidth form + 5 * form .itemCount
 
--- "Limits: 64 rules, 16 items of each sort, 16 spans", and of the table: 1,024 boxes, 32 entries
-abbrev pub limits1 : Limits
-limits1 = record { rules = 64; items = 16; spans = 16; boxes = 1024; entries = 32 }
+-- the most rules that its rule count can carry, and the most items of a sort that a count of a rule can
+abbrev pub mostRules : Form → ℕ
+mostRules form = 2 ^ form .ruleCount - 1
+
+abbrev pub mostItems : Form → ℕ
+mostItems form = 2 ^ form .itemCount - 1
+
+-- 02, M-107: "Limits go to 256 rules and 4,096 boxes in both forms; items, spans and list length stay."
+abbrev pub sheetLimits : Limits
+sheetLimits = record { rules = 256; items = 16; spans = 16; boxes = 4096; entries = 32 }
+
+-- the limits of 01, which all sheets stored before were held to: "64 rules, 16 items of each sort, 16 spans", and of its table 1,024 boxes, 32 entries
+abbrev pub formerLimits : Limits
+formerLimits = record { rules = 64; items = 16; spans = 16; boxes = 1024; entries = 32 }
 
 -- ## Items
 -- "Start above end is lawful everywhere."

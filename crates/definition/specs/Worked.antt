@@ -6,7 +6,7 @@ use mathlib.Core.List.{List, [], _∷_, _++_, flatMap}
 use Prim.Native.Nat.{ℕ, _*_}
 use Rattle.laws.specs.Lists.{from}
 use Rattle.definition.specs.Field.{bits, bytes}
-use Rattle.definition.specs.Sheet.{form1, limits1}
+use Rattle.definition.specs.Sheet.{form1, sheetLimits}
 use Rattle.definition.specs.Fold.{numbers, fold}
 
 -- a sheet; code, drained, emitted, left, bytes, place and why of its fold; and the bytes written
@@ -25,7 +25,7 @@ room = 65536
 
 -- THE STATEMENT, about the fold over points, from bytes to bytes
 abbrev pub Worked : Case → Type 0
-Worked c = (numbers (fold form1 limits1 room (c .sheet)) ≡ c .answer) × ((fold form1 limits1 room (c .sheet)) .result ≡ c .written)
+Worked c = (numbers (fold form1 sheetLimits room (c .sheet)) ≡ c .answer) × ((fold form1 sheetLimits room (c .sheet)) .result ≡ c .written)
 
 -- P1: bytes 00 00 give 00 00.
 abbrev pub p1 : Case
@@ -153,11 +153,11 @@ entries33 = record {
   written = [];
 }
 
--- intervals of weekday 1, week 9, month 8, year 16: 5 with 1152.
-abbrev pub boxes1152 : Case
-boxes1152 = record {
-  sheet = hex 74 0x000100000020040100000476C1DB0000476E1DB800047701DC000047721DC800047741DD000047761DD800047781DE0000477A1DE80004110CC551DC208044100461804820044B043800;
-  answer = 5 ∷ 0 ∷ 0 ∷ 0 ∷ 0 ∷ 1152 ∷ 0 ∷ [];
+-- intervals of weekday 4, week 8, month 8, year 17: 5 with 4352.
+abbrev pub boxes4352 : Case
+boxes4352 = record {
+  sheet = hex 82 0x000100000020040100200476D1DB4000476F1DBC00047711DC400047731DCC00047751DD400047771DDC00047791DE4000477B1DEC0004110CC551DC1040430C045140471C04000007FE480003FF12C10E00;
+  answer = 5 ∷ 0 ∷ 0 ∷ 0 ∷ 0 ∷ 4352 ∷ 0 ∷ [];
   written = [];
 }
 
@@ -193,10 +193,18 @@ bytesFollow = record {
   written = [];
 }
 
--- 65 rules: 4 with 0.
-abbrev pub rules65 : Case
-rules65 = record {
-  sheet = hex 2 0x0041;
+-- 256 rules: not 4, but 1 with 16, the place of the first of them.
+abbrev pub rules256 : Case
+rules256 = record {
+  sheet = hex 2 0x0100;
+  answer = 1 ∷ 0 ∷ 0 ∷ 0 ∷ 0 ∷ 16 ∷ 0 ∷ [];
+  written = [];
+}
+
+-- 257 rules: 4 with 0.
+abbrev pub rules257 : Case
+rules257 = record {
+  sheet = hex 2 0x0101;
   answer = 4 ∷ 0 ∷ 0 ∷ 0 ∷ 0 ∷ 0 ∷ 0 ∷ [];
   written = [];
 }
@@ -205,5 +213,5 @@ rules65 = record {
 abbrev pub cases : List Case
 cases =
     p1 ∷ p2 ∷ p4 ∷ p5 ∷ p6 ∷ p7 ∷ p9 ∷ p10 ∷ p11
-    ∷ growing ∷ pushes ∷ leaves ∷ staysGrouped ∷ entries32 ∷ entries33 ∷ boxes1152
-    ∷ fieldPastEnd ∷ unlawfulOperator ∷ paddingSet ∷ bytesFollow ∷ rules65 ∷ []
+    ∷ growing ∷ pushes ∷ leaves ∷ staysGrouped ∷ entries32 ∷ entries33 ∷ boxes4352
+    ∷ fieldPastEnd ∷ unlawfulOperator ∷ paddingSet ∷ bytesFollow ∷ rules256 ∷ rules257 ∷ []

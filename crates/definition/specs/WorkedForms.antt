@@ -5,7 +5,7 @@ use mathlib.Core.List.{List, [], _∷_}
 use Prim.Native.Nat.{ℕ, _+_, _^_}
 use lib.ListN.{length}
 use Rattle.definition.specs.Field.{pastEnd, unlawful, overLimit, longComment}
-use Rattle.definition.specs.Sheet.{limits1}
+use Rattle.definition.specs.Sheet.{sheetLimits}
 use Rattle.definition.specs.Fold.{numbers, Written, writtenNumbers}
 use Rattle.definition.specs.Lookup as state
 use Rattle.definition.specs.Text.{ascii}
@@ -20,11 +20,11 @@ wrote w = (writtenNumbers w, w .result)
 
 -- what an entry answers, in the form of number n: its numbers, and the bytes that it writes. The lookup is of the first minute of 1 January 2000
 abbrev pub answered : Entry → ℕ → List ℕ → List ℕ × List ℕ
-answered folding n sheet = let f = foldIn limits1 n room sheet in (numbers f, f .result)
-answered writingBack n sheet = wrote (writeBackIn limits1 n room sheet)
-answered showing n sheet = wrote (showLineIn limits1 n room sheet)
-answered lookingUp n sheet = (state.numbers (lookupIn limits1 n sheet 2000 1 1 0), [])
-answered converting n sheet = wrote (convertIn limits1 n room sheet)
+answered folding n sheet = let f = foldIn sheetLimits n room sheet in (numbers f, f .result)
+answered writingBack n sheet = wrote (writeBackIn sheetLimits n room sheet)
+answered showing n sheet = wrote (showLineIn sheetLimits n room sheet)
+answered lookingUp n sheet = (state.numbers (lookupIn sheetLimits n sheet 2000 1 1 0), [])
+answered converting n sheet = wrote (convertIn sheetLimits n room sheet)
 
 pub record Case : Type 0 where
   pub entry : Entry
@@ -102,12 +102,16 @@ markPastEnd = refuses folding 2 [] pastEnd 0
 abbrev pub countPastEnd : Case
 countPastEnd = refuses writingBack 2 (hex 3 0x200000) pastEnd 4
 
--- a mark of 0011: 2 with 0, although 65 rules are counted; behind a mark of 0010 these are 4 with 4.
+-- a mark of 0011: 2 with 0, although 257 rules are counted; behind a mark of 0010 these are 4 with 4.
 abbrev pub otherMark : Case
-otherMark = refuses folding 2 (hex 4 0x30000410) unlawful 0
+otherMark = refuses folding 2 (hex 4 0x30001010) unlawful 0
 
-abbrev pub rules65 : Case
-rules65 = refuses showing 2 (hex 4 0x20000410) overLimit 4
+abbrev pub rules257 : Case
+rules257 = refuses showing 2 (hex 4 0x20001010) overLimit 4
+
+-- 256 rules: not 4, but 1 with 32, the place of the first one's comment.
+abbrev pub rules256 : Case
+rules256 = refuses showing 2 (hex 4 0x20001000) pastEnd 32
 
 -- ## Comments above 65,535
 -- 65,536 is neither 65,535 nor 0: three rules stay three.
@@ -173,7 +177,7 @@ beyond32BitsMoved = refuses converting (2 ^ 32 + 1) nothing1 unlawful 0
 -- the table
 abbrev pub cases : List Case
 cases =
-    nothingFolded ∷ nothingBack ∷ p2Folded ∷ markPastEnd ∷ countPastEnd ∷ otherMark ∷ rules65
+    nothingFolded ∷ nothingBack ∷ p2Folded ∷ markPastEnd ∷ countPastEnd ∷ otherMark ∷ rules257 ∷ rules256
     ∷ commentsFolded ∷ commentsShown ∷ largest2Shown ∷ largest1Back ∷ commentsBack
     ∷ nothingThere ∷ largest1There ∷ p2There ∷ p2Back
     ∷ form1As2 ∷ form1LookedUpAs2 ∷ form2As1

@@ -6,7 +6,7 @@ use Prim.Native.Nat.{ℕ}
 use Prim.Native.String.{String}
 use lib.ListN.{length}
 use Rattle.definition.specs.Field.{pastEnd, unlawful, badEnd, overLimit, noRoom, noWords}
-use Rattle.definition.specs.Sheet.{form1, limits1}
+use Rattle.definition.specs.Sheet.{form1, sheetLimits}
 use Rattle.definition.specs.Fold.{writtenNumbers}
 use Rattle.definition.specs.Worked.{hex, p2}
 use Rattle.definition.specs.Text.{ascii}
@@ -28,7 +28,7 @@ refuses sheet code place = record { sheet = sheet; room = 65536; answer = code �
 
 -- THE STATEMENT
 abbrev pub Worked : Case → Type 0
-Worked c = (writtenNumbers (showLine form1 limits1 (c .room) (c .sheet)) ≡ c .answer) × ((showLine form1 limits1 (c .room) (c .sheet)) .result ≡ c .shown)
+Worked c = (writtenNumbers (showLine form1 sheetLimits (c .room) (c .sheet)) ≡ c .answer) × ((showLine form1 sheetLimits (c .room) (c .sheet)) .result ≡ c .shown)
 
 -- ## Lines
 -- no rules give an empty line.

@@ -7,7 +7,7 @@ use lib.ListN.{length, getD}
 use lib.Seq.{ext-getD}
 use Rattle.definition.specs.Field.{got, sheetBits}
 use Rattle.definition.specs.Rule.{Rule, noRule}
-use Rattle.definition.specs.Sheet.{Form, limits1, decode}
+use Rattle.definition.specs.Sheet.{Form, sheetLimits, decode}
 use Rattle.definition.proofs.Bits.{Bytes}
 use Rattle.forms.specs.Form.{Narrow}
 use Rattle.sheet.specs.Rules.{begun}
@@ -16,7 +16,7 @@ use Rattle.sheet.proofs.Begins.{rules-begin}
 use Rattle.draining.specs.Table.{rulesFrom}
 use Rattle.draining.proofs.Tabling.{rules-at, rules-length}
 
-module _ (form : Form) (narrow : Narrow form) (sheet : List ℕ) (b : Bytes sheet) (rs : List Rule) (q : ℕ) (e : decode form limits1 sheet ≡ got rs q) (begins : List ℕ) (room : 64 ≤ length begins) where
+module _ (form : Form) (narrow : Narrow form) (sheet : List ℕ) (b : Bytes sheet) (rs : List Rule) (q : ℕ) (e : decode form sheetLimits sheet ≡ got rs q) (begins : List ℕ) (room : length rs ≤ length begins) where
   -- THE RULES OF THE SHEET
   pub rules-noted : rulesFrom form (sheetBits sheet) (begun form sheet begins) 0 (length rs) ≡ rs
   rules-noted = ext-getD noRule _ rs long (λ k l.

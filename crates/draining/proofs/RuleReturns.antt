@@ -12,7 +12,7 @@ use Rattle.laws.specs.Lists.{anyOf}
 use Rattle.laws.proofs.Flags.{or-assoc}
 use Rattle.definition.specs.Field.{got, sheetBits, several}
 use Rattle.definition.specs.Rule.{Operator, operatorOf, Kind, kindOf, Rule}
-use Rattle.definition.specs.Sheet.{Form, limits1, span, title}
+use Rattle.definition.specs.Sheet.{Form, sheetLimits, span, title}
 use Rattle.definition.specs.Stop.{isFallback, monthdayStops, weekdayStops, spanStops, stops}
 use Rattle.definition.specs.Point.{isNormal, isClosed}
 use Rattle.definition.proofs.Bits.{Bytes}
@@ -90,7 +90,7 @@ module _ (form : Form) (s : List ℕ) (p : ℕ) (readable : Readable form s p) w
       let w = rule-parts form s p (ruleReadAt form s p) (readable .end) (readable .read) in
       count-few form s _ (length ((ruleReadAt form s p) .spans)) _ (w .count-spans)
 
-  module _ (o k c q i n : ℕ) (e : (title form limits1) .read s p ≡ got (operatorOf o, (kindOf k, c)) q) (states counts replacing : List ℕ) (t : Bool) (h : t ≡ isFallback (operatorOf o)) where
+  module _ (o k c q i n : ℕ) (e : (title form sheetLimits) .read s p ≡ got (operatorOf o, (kindOf k, c)) q) (states counts replacing : List ℕ) (t : Bool) (h : t ≡ isFallback (operatorOf o)) where
     stopped-same : t ≡ isFallback ((ruleReadAt form s p) .operator)
     stopped-same = h ∙ ap isFallback (title-same form s p readable (operatorOf o) (kindOf k) c q e .0)
 
@@ -116,10 +116,10 @@ module _ (form : Form) (s : List ℕ) (p : ℕ) (readable : Readable form s p) w
 
 -- a comment that was read is as low as `state_number` requires
 pub comment-low : (form : Form) → Narrow form → (sheet : List ℕ) → Bytes sheet → (p : ℕ) → Readable form (sheetBits sheet) p → (a : Operator) (b : Kind) (c q : ℕ)
-    → (title form limits1) .read (sheetBits sheet) p ≡ got (a, (b, c)) q → c < 2 ^ 24
+    → (title form sheetLimits) .read (sheetBits sheet) p ≡ got (a, (b, c)) q → c < 2 ^ 24
 comment-low form narrow sheet b p readable x y c q e =
     let r = ruleReadAt form (sheetBits sheet) p in
-    let low = comment-carried form limits1 r (carried (rule-faithful form limits1) sheet b p r (readable .end) (readable .read)) in
+    let low = comment-carried form sheetLimits r (carried (rule-faithful form sheetLimits) sheet b p r (readable .end) (readable .read)) in
     omega (arith, low, narrow .comment-narrow, title-same form (sheetBits sheet) p readable x y c q e .2)
 
 -- ## The whole rule

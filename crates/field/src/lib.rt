@@ -15,7 +15,7 @@ ghost use Prim.Native.Nat.{_+_, _*_, _-_, _%_, _≤_, _<_, _^_};
 ghost use lib.ListN.{length};
 ghost use Rattle.grid.specs.Cut.{holds};
 ghost use Rattle.definition.specs.Field.{Layout, sheetBits, fieldAt, plain, lawful, counted};
-ghost use Rattle.definition.specs.Sheet.{limits1, year, month, week, weekday, step, choice, minutes};
+ghost use Rattle.definition.specs.Sheet.{sheetLimits, year, month, week, weekday, step, choice, minutes};
 ghost use Rattle.forms.specs.Form.{asForm};
 ghost use Rattle.field.specs.Answer.{asRead};
 
@@ -96,7 +96,7 @@ pub fn comment_at(form: Form, sheet: &[u8], at: usize) -> Taken
 // How many items of a sort, or spans: no more than the limit, else refused by 4.
 pub fn count_at(form: Form, sheet: &[u8], at: usize) -> Taken
     requires { ⌜ at < 2 ^ 32 ⌝ }
-    ensures { λ r. ⌜ asRead r ≡ (counted (asForm form .itemCount) (limits1 .items)) .read (sheetBits (now (sheet .entry))) at ⌝ }
+    ensures { λ r. ⌜ asRead r ≡ (counted (asForm form .itemCount) (sheetLimits .items)) .read (sheetBits (now (sheet .entry))) at ⌝ }
 {
     let taken = take_at(sheet, at, item_count_width(form));
     let Taken::Value(value, next) = taken else {
@@ -112,7 +112,7 @@ pub fn count_at(form: Form, sheet: &[u8], at: usize) -> Taken
 // How many rules: no more than the limit, else refused by 4.
 pub fn rule_count_at(form: Form, sheet: &[u8], at: usize) -> Taken
     requires { ⌜ at < 2 ^ 32 ⌝ }
-    ensures { λ r. ⌜ asRead r ≡ (counted (asForm form .ruleCount) (limits1 .rules)) .read (sheetBits (now (sheet .entry))) at ⌝ }
+    ensures { λ r. ⌜ asRead r ≡ (counted (asForm form .ruleCount) (sheetLimits .rules)) .read (sheetBits (now (sheet .entry))) at ⌝ }
 {
     let taken = take_at(sheet, at, rule_count_width(form));
     let Taken::Value(value, next) = taken else {

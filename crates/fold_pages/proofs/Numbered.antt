@@ -2,27 +2,24 @@
 -- day's, they are no more than the boxes, and a group has at most 33 rules. Rests on the laws of numbers and of popped groups.
 use mathlib.Core.Path.{_≡_, sym, ap, _∙_, subst}
 use mathlib.Core.Logic.{inl, inr}
-use mathlib.Core.Option.{none}
 use mathlib.Core.Bool.{Bool, true, false, cond, true≢false}
 use mathlib.Core.List.{List, map, flatMap}
-use Prim.Native.Nat.{ℕ, zero, suc, _-_, _*_, _≤_, _<_}
+use Prim.Native.Nat.{ℕ, zero, suc, _-_, _≤_, _<_}
 use native.Mathlib.Omega.{arith}
 use lib.Dec.{eqb}
 use lib.ListN.{length, getD, length-map}
 use Rattle.laws.specs.Lists.{from, All, OnSome}
 use Rattle.laws.proofs.Lists.{All-map, All-each, All-image, OnSome-map, OnSome-both}
-use Rattle.laws.proofs.Spread.{flatMap-length}
 use Rattle.laws.proofs.Tests.{exact-eqb}
 use Rattle.grid.specs.Group.{Set, Map, Group, inside, clear, pop}
 use Rattle.grid.proofs.Part.{Part, groups-part, groups-each}
 use Rattle.grid.proofs.Value.{pop-agree, pop-inside, clear-value}
 use Rattle.definition.specs.Rule.{Rule}
-use Rattle.definition.specs.Sheet.{Form, limits1}
-use Rattle.definition.specs.Point.{dimensions, firstTooLong}
+use Rattle.definition.specs.Sheet.{Form, sheetLimits}
+use Rattle.definition.specs.Point.{dimensions}
 use Rattle.definition.specs.Day.{Day, day}
-use Rattle.definition.specs.Group.{pages, rulesOf, folded}
+use Rattle.definition.specs.Group.{pages, folded}
 use Rattle.definition.proofs.Lawful.{Lawful}
-use Rattle.definition.proofs.Groups.{group-rules}
 use Rattle.definition.proofs.Counts.{pages-count}
 use Rattle.paving.specs.Grid.{sizeOf, axes, grid, inClass}
 use Rattle.paving.specs.Sweep.{classesFrom, groupsFrom}
@@ -35,7 +32,6 @@ use Rattle.paving_cuts.proofs.ByRules.{boxes-counted}
 use Rattle.tables.specs.Rules.{ruleAt, AllCommented, RuleTimes}
 use Rattle.paving_points.specs.Paged.{pageOf}
 use Rattle.paving_points.proofs.Boxes.{lawful-bounded}
-use Rattle.paving_points.proofs.Lists.{listed-end}
 use Rattle.paving_points.proofs.Groups.{pages-popped}
 use Rattle.number_boxes.specs.Boxes.{DaysNumbered}
 use Rattle.tables.specs.Days.{boxWords}
@@ -79,11 +75,6 @@ pub found-parts : (cells classes sizes : List ℕ) (last k l : ℕ) → All (λ 
 unfolding groupsFrom
 found-parts cells classes sizes last k l = groups-part eqb eqb 0 (axes sizes l) (classesFrom classes last k) (grid cells sizes l 0)
 
--- a page has at most 33 rules
-pages-brief : (rs : List Rule) → firstTooLong 32 rs ≡ none → length (folded rs) ≤ length (pages rs) * 33
-unfolding folded
-pages-brief rs calm = flatMap-length rulesOf 33 (pages rs) (group-rules rs 32 calm)
-
 module _ (states counts spans rows sizes cuts lists cells classes : List ℕ) (rs : List Rule) (tables : RuleTimes states counts spans rs) (boxed : Boxed rows sizes cuts lists rs)
     (numbered : DaysNumbered (boxWords states counts spans lists) cells classes (sizeOf sizes 4)) (exact : length cells ≡ sizeOf sizes 4) where
   abbrev found : List (Group ℕ ℕ)
@@ -120,11 +111,8 @@ module _ (states counts spans rows sizes cuts lists cells classes : List ℕ) (r
   pub folded-found : folded rs ≡ flatMap (groupRules rows cuts sizes dayOf) found
   folded-found = rules-paged rows sizes cuts rs dayOf (boxed .cut .cut-by) (lawful-bounded rs lawful) cells classes pages-found
 
-  pub found-few : length found ≤ limits1 .boxes
+  pub found-few : length found ≤ sheetLimits .boxes
   found-few = omega (arith, pages-many, pages-count rs lawful, boxes-counted rows sizes cuts rs dimensions (boxed .cut .cut-by), boxed .few-boxes)
-
-  pub found-brief : length (folded rs) ≤ 33 * length found
-  found-brief = omega (arith, pages-many, pages-brief rs (listed-end sizes rows cuts lists rs (boxed .listed)))
 
   -- ## The groups
   -- a group's number is that of a box's day

@@ -25,7 +25,7 @@ use Rattle.page_count.proofs.Reading.{text-counted}
 use Rattle.page_count.proofs.Rules.{text-rules}
 use Rattle.page_count.proofs.Ready.{text-ready}
 use Rattle.tables.proofs.Days.{fits-lawful}
-use Rattle.fold_pages.proofs.Numbered.{folded-found, found-few, found-brief, found-parts, found-ready}
+use Rattle.fold_pages.proofs.Numbered.{folded-found, found-few, found-parts, found-ready}
 
 module _ (states counts spans rows sizes cuts lists cells classes : List ℕ) (rs : List Rule) (tables : RuleTimes states counts spans rs)
     (boxed : Boxed rows sizes cuts lists rs) (boxes : ℕ) (all : boxes ≡ sizeOf sizes 4)
@@ -61,7 +61,6 @@ module _ (states counts spans rows sizes cuts lists cells classes : List ℕ) (r
     ready = text-ready rows sizes cuts rs (boxed .cut) (fits-lawful rs (tables .fits)) (boxed .few-boxes)
         form states counts spans lists pages₀ pages dayRoom found laid inside parts
         (found-ready states counts spans rows sizes cuts lists cells classes rs tables boxed all-numbered exact form commented);
-    brief = found-brief states counts spans rows sizes cuts lists cells classes rs tables boxed all-numbered exact;
     rules = text-rules rows cuts sizes states counts spans lists pages₀ pages found laid inside parts
         ∙ sym (folded-found states counts spans rows sizes cuts lists cells classes rs tables boxed all-numbered exact);
   })

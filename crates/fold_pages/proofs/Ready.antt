@@ -13,7 +13,7 @@ use borrow.Author.Tests.{ltb-true, ltb-false}
 use Rattle.laws.specs.Lists.{All}
 use Rattle.laws.proofs.Lists.{All-at, every-all}
 use Rattle.definition.specs.Rule.{Rule, noRule}
-use Rattle.definition.specs.Sheet.{Form, form2, limits1, span}
+use Rattle.definition.specs.Sheet.{Form, form2, sheetLimits, span}
 use Rattle.definition.specs.Point.{dimensions}
 use Rattle.definition.specs.Day.{Entry}
 use Rattle.definition.proofs.Lawful.{items-fit}
@@ -57,7 +57,7 @@ module _ (states counts spans : List ℕ) (rs : List Rule) (tables : RuleTimes s
           let named = getD rs r noRule in
           let f = All-at _ rs noRule (tables .fits) r l in
           subst (λ (x : Entry). Commented form (x .0) × All FitsSpan (x .1)) (sym (entry-back states counts spans r named (tables .each r l) f))
-          (All-at _ rs noRule commented r l, every-all FitsSpan (span .fits) (λ s k. k) (named .spans) (items-fit form2 limits1 named f .spans-fit))
+          (All-at _ rs noRule commented r l, every-all FitsSpan (span .fits) (λ s k. k) (named .spans) (items-fit form2 sheetLimits named f .spans-fit))
       go false e =
           let l = ltb-false r (length rs) e in
           let s : getD states r 0 ≡ 0 = List·getD-eq-default states 0 (omega (arith, l, tables .all-states)) in

@@ -7,7 +7,7 @@ use native.Mathlib.Omega.{arith}
 use lib.ListN.{length, getD, length-append}
 use Rattle.definition.specs.Field.{Layout, packed}
 use Rattle.definition.specs.Rule.{Rule}
-use Rattle.definition.specs.Sheet.{Form, limits1, openingWidth, opening}
+use Rattle.definition.specs.Sheet.{Form, sheetLimits, openingWidth, opening}
 use Rattle.definition.specs.Fold.{buffer}
 use Rattle.field.proofs.Bytes.{known-bytes}
 use Rattle.item_writer.specs.Written.{RoomFor, Wrote}
@@ -23,7 +23,7 @@ unfolding resultBits
 row-length form count rs others =
     omega (
       arith,
-      length-append (opening form limits1 .write count) (rulesBits form rs ++ others),
+      length-append (opening form sheetLimits .write count) (rulesBits form rs ++ others),
       length-append (rulesBits form rs) others,
       opening-length form count,
     )
@@ -32,7 +32,7 @@ row-length form count rs others =
 module _ (form : Form) (count : ℕ) (rs : List Rule) (others out : List ℕ) (inside : length (resultBits form count rs others) ≤ 8 * length out)
     (low : length (resultBits form count rs others) < 2 ^ 60) where
   abbrev front : List ℕ
-  front = opening form limits1 .write count
+  front = opening form sheetLimits .write count
 
   room : RoomFor (length out) 0 (front ++ (rulesBits form rs ++ others))
   unfolding resultBits

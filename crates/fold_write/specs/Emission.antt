@@ -3,18 +3,18 @@ use mathlib.Core.List.{List, _++_}
 use Prim.Native.Nat.{ℕ}
 use Rattle.definition.specs.Field.{Layout}
 use Rattle.definition.specs.Rule.{Rule}
-use Rattle.definition.specs.Sheet.{Form, limits1, opening, encode}
-use Rattle.definition.specs.Stop.{drained, left}
+use Rattle.definition.specs.Sheet.{Form, sheetLimits, opening}
+use Rattle.definition.specs.Stop.{drained}
 use Rattle.definition.specs.Group.{folded}
 use Rattle.definition.specs.Fold as fold
-use Rattle.definition.specs.Fold.{fitted}
+use Rattle.definition.specs.Fold.{carried}
 use Rattle.day_writer.specs.Rules.{rulesBits}
 
 module _ (form : Form) where
   -- "Rule count 16 bits, the rules": how many behind the form's mark, some rules, and the bits of others
   unfoldable pub resultBits : ℕ → List Rule → List ℕ → List ℕ
-  resultBits count rs others = opening form limits1 .write count ++ (rulesBits form rs ++ others)
+  resultBits count rs others = opening form sheetLimits .write count ++ (rulesBits form rs ++ others)
 
   -- the answer of the definition's fold to rules, the drained ones folded, and a buffer of so many bytes
   abbrev pub emission : ℕ → List Rule → fold.Folded
-  emission room rs = fitted form limits1 room rs (folded (drained rs)) (encode form limits1 (folded (drained rs) ++ left rs))
+  emission room rs = carried form sheetLimits room rs (folded (drained rs))

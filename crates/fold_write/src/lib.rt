@@ -1,8 +1,9 @@
-// Writes the result: all is measured first, then refused where the buffer has no room (7), or written: mark and rule count, the rules of the pages,
+// Writes the result: all is measured first, then refused where the form can't count it (13) or the buffer has no room (7), or written: mark and rule count, the rules of the pages,
 // the rules left as their bits stand in the sheet, zero bits to the byte's end.
 use answers::Folded;
 use answers::fold_refused;
 use forms::Form;
+use forms::most_rules;
 use forms::opening_width;
 use limits::lacks_room;
 use page_writer::measure_pages;
@@ -17,6 +18,7 @@ ghost use Rattle.definition.specs.Field.{packed};
 ghost use Rattle.definition.specs.Rule.{Rule};
 ghost use Rattle.definition.specs.Stop.{drained};
 ghost use Rattle.definition.specs.Fold.{numbers, buffer};
+ghost use Rattle.day_writer.specs.Rules.{Countable};
 ghost use Rattle.forms.specs.Form.{asForm};
 ghost use Rattle.sheet_writer.specs.Frame.{between};
 ghost use Rattle.tables.specs.Pages.{Pages, Paged, pagedRules};
@@ -72,6 +74,7 @@ fn write_sheet(
     requires { ⌜ Pages (asForm form) (now states) (now «span_counts») (now spans) (now lists) (now pages) dayRoom count 0 ⌝ }
     requires { ⌜ (start ≤ end) × (end ≤ 8 * length (now sheet)) × (end < 2 ^ 32) ⌝ }
     requires { ⌜ rules < 2 ^ asForm form .ruleCount ⌝ }
+    requires { ⌜ Countable (asForm form) (pagedRules (now states) (now «span_counts») (now spans) (now lists) (now pages) count) ⌝ }
     requires { ⌜ (length (resultBits (asForm form) rules (pagedRules (now states) (now «span_counts») (now spans) (now lists) (now pages) count) (between (now sheet) start end)) ≤ 8 * length (now out))
         × (length (resultBits (asForm form) rules (pagedRules (now states) (now «span_counts») (now spans) (now lists) (now pages) count) (between (now sheet) start end)) < 2 ^ 60) ⌝ }
     ensures { λ _. ⌜ now (out .exit)
@@ -115,6 +118,10 @@ pub fn emit(
         → (foldNumbers r ≡ numbers (emission (asForm form) (length (now (out .entry))) rs)) × (now (out .exit) ≡ buffer (emission (asForm form) (length (now (out .entry))) rs .result) (now (out .entry)))) ⌝ }
 {
     let measured = measure_pages(form, states, span_counts, spans, lists, pages, count);
+    let rules = measured.rules + left.rules;
+    if (rules > most_rules(form)) | measured.past {
+        return fold_refused(13, 0);
+    }
     let start = left.start;
     let end = left.end;
     let bytes = (opening_width(form) + measured.bits + (end - start) + 7) / 8;
@@ -133,7 +140,7 @@ pub fn emit(
         lists,
         pages,
         count,
-        measured.rules + left.rules,
+        rules,
     );
     Folded {
         code: 0,

@@ -1,10 +1,10 @@
 -- Which form a number names, case by case; and what is known of the widths of both forms.
 use mathlib.Core.Path.{_≡_}
 use mathlib.Core.Option.{none, some}
-use Prim.Native.Nat.{ℕ, _<_, _^_}
+use Prim.Native.Nat.{ℕ, suc, _≤_, _<_, _^_}
 use native.Mathlib.Omega.{arith}
 use borrow.Author.Tests.{eq-eqb, ne-eqb}
-use Rattle.definition.specs.Sheet.{form1, form2}
+use Rattle.definition.specs.Sheet.{form1, form2, mostItems}
 use Rattle.definition.specs.Forms.{formNamed}
 use Rattle.forms.specs.Form.{asForm, Narrow}
 use Rattle.forms.specs.declared.Form.{Form}
@@ -24,13 +24,18 @@ module _ (n : ℕ) where
   names-none e f = rw (ne-eqb n 1 e, ne-eqb n 2 f)
 
 pub narrow : (form : Form) → Narrow (asForm form)
-narrow One = record { opening-narrow = omega arith; head-narrow = omega arith; comment-narrow = omega arith }
-narrow Two = record { opening-narrow = omega arith; head-narrow = omega arith; comment-narrow = omega arith }
+narrow One = record { opening-narrow = omega arith; head-narrow = omega arith; head-wide = omega arith; comment-narrow = omega arith }
+narrow Two = record { opening-narrow = omega arith; head-narrow = omega arith; head-wide = omega arith; comment-narrow = omega arith }
 
 -- what ten bits can count, the counts of either form can
 pub count-fits : (form : Form) (width count : ℕ) → width ≡ asForm form .itemCount → count < 2 ^ 10 → count < 2 ^ width
 count-fits One width count e l = rw e l
 count-fits Two width count e l = rw e (omega arith)
+
+-- ten bits are no more than the counts of either form have
+pub items-wide : (form : Form) → 2 ^ 10 ≤ suc (mostItems (asForm form))
+items-wide One = omega arith
+items-wide Two = omega arith
 
 -- what sixteen bits can count, the rule counts of either form can
 pub rules-fit : (form : Form) (count : ℕ) → count < 2 ^ 16 → count < 2 ^ asForm form .ruleCount

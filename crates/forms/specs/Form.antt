@@ -16,8 +16,9 @@ asNamed (Known form) = some (asForm form)
 asNamed Unknown = none
 
 -- all that readers need to know of a form's widths: how far a sheet's opening and a rule's head go at most, so that no place in a sheet is too large for a
--- number; and that form 2 has room for every comment
+-- number; how far a head goes at least, so that a short sheet has few rules; and that form 2 has room for every comment
 pub record Narrow (form : sheet.Form) : Type 0 where
   pub opening-narrow : sheet.openingWidth form ≤ 28
   pub head-narrow : sheet.headWidth form ≤ 88
+  pub head-wide : 70 ≤ sheet.headWidth form
   pub comment-narrow : 2 ^ form .comment ≤ 2 ^ 24

@@ -1,9 +1,9 @@
 // The two forms of the packed sheet: which one a caller's number names, what a sheet of it starts with, how wide the fields are whose width it
-// sets, and whether it has room for a comment. The widths of all other fields are constants of crate `field`.
+// sets, how much its counts can carry, and whether it has room for a comment. The widths of all other fields are constants of crate `field`.
 ghost use mathlib.Core.Path.{_≡_};
 ghost use Prim.Native.Nat.{_^_, _≤_};
 ghost use lib.Dec.{leb};
-ghost use Rattle.definition.specs.Sheet.{openingWidth, titleWidth, headWidth};
+ghost use Rattle.definition.specs.Sheet.{openingWidth, titleWidth, headWidth, mostRules, mostItems};
 ghost use Rattle.definition.specs.Forms.{formNamed, other};
 ghost use Rattle.forms.specs.Form.{asForm, asNamed};
 
@@ -112,5 +112,25 @@ pub fn comment_over(form: Form, comment: u64) -> bool
     match form {
         Form::One => comment > 65535,
         Form::Two => comment > 16777215,
+    }
+}
+
+// The most rules that a sheet's rule count can carry.
+pub fn most_rules(form: Form) -> usize
+    ensures { λ r. ⌜ r ≡ mostRules (asForm form) ⌝ }
+{
+    match form {
+        Form::One => 65535,
+        Form::Two => 16777215,
+    }
+}
+
+// The most items of a sort that a rule's counts can carry.
+pub fn most_items(form: Form) -> u16
+    ensures { λ r. ⌜ r ≡ mostItems (asForm form) ⌝ }
+{
+    match form {
+        Form::One => 1023,
+        Form::Two => 4095,
     }
 }

@@ -7,7 +7,7 @@ use limits::lacks_room;
 ghost use mathlib.Core.Path.{_≡_};
 ghost use lib.Dec.{leb};
 ghost use lib.ListN.{length};
-ghost use Rattle.definition.specs.Sheet.{limits1};
+ghost use Rattle.definition.specs.Sheet.{sheetLimits};
 ghost use Rattle.definition.specs.Fold.{numbers, writtenNumbers};
 ghost use Rattle.definition.specs.Forms.{foldIn, writeBackIn, showLineIn, lookupIn, convertIn};
 ghost use Rattle.definition.specs.Lookup as state;
@@ -17,8 +17,8 @@ ghost use Rattle.hours.specs.Export.{put};
 #[no_mangle]
 pub extern "C" fn hours_fold(form: u64, sheet: &[u8], out: &mut [u8], lent: &mut [u64]) -> bool
     ensures { λ r. ⌜ (r ≡ leb 7 (length (now (lent .entry))))
-        × (now (lent .exit) ≡ put r (numbers (foldIn limits1 form (length (now (out .entry))) (now (sheet .entry)))) (now (lent .entry)))
-        × (now (out .exit) ≡ put r ((foldIn limits1 form (length (now (out .entry))) (now (sheet .entry))) .result) (now (out .entry))) ⌝ }
+        × (now (lent .exit) ≡ put r (numbers (foldIn sheetLimits form (length (now (out .entry))) (now (sheet .entry)))) (now (lent .entry)))
+        × (now (out .exit) ≡ put r ((foldIn sheetLimits form (length (now (out .entry))) (now (sheet .entry))) .result) (now (out .entry))) ⌝ }
 {
     if lacks_room(lent.len(), 7) {
         return false;
@@ -39,7 +39,7 @@ pub extern "C" fn hours_lookup(
     lent: &mut [u64],
 ) -> bool
     ensures { λ r. ⌜ (r ≡ leb 4 (length (now (lent .entry))))
-        × (now (lent .exit) ≡ put r (state.numbers (lookupIn limits1 form (now (sheet .entry)) year month day minute)) (now (lent .entry))) ⌝ }
+        × (now (lent .exit) ≡ put r (state.numbers (lookupIn sheetLimits form (now (sheet .entry)) year month day minute)) (now (lent .entry))) ⌝ }
 {
     if lacks_room(lent.len(), 4) {
         return false;
@@ -57,8 +57,8 @@ pub extern "C" fn hours_write_back(
     lent: &mut [u64],
 ) -> bool
     ensures { λ r. ⌜ (r ≡ leb 3 (length (now (lent .entry))))
-        × (now (lent .exit) ≡ put r (writtenNumbers (writeBackIn limits1 form (length (now (out .entry))) (now (sheet .entry)))) (now (lent .entry)))
-        × (now (out .exit) ≡ put r ((writeBackIn limits1 form (length (now (out .entry))) (now (sheet .entry))) .result) (now (out .entry))) ⌝ }
+        × (now (lent .exit) ≡ put r (writtenNumbers (writeBackIn sheetLimits form (length (now (out .entry))) (now (sheet .entry)))) (now (lent .entry)))
+        × (now (out .exit) ≡ put r ((writeBackIn sheetLimits form (length (now (out .entry))) (now (sheet .entry))) .result) (now (out .entry))) ⌝ }
 {
     if lacks_room(lent.len(), 3) {
         return false;
@@ -71,8 +71,8 @@ pub extern "C" fn hours_write_back(
 #[no_mangle]
 pub extern "C" fn hours_line(form: u64, sheet: &[u8], out: &mut [u8], lent: &mut [u64]) -> bool
     ensures { λ r. ⌜ (r ≡ leb 3 (length (now (lent .entry))))
-        × (now (lent .exit) ≡ put r (writtenNumbers (showLineIn limits1 form (length (now (out .entry))) (now (sheet .entry)))) (now (lent .entry)))
-        × (now (out .exit) ≡ put r ((showLineIn limits1 form (length (now (out .entry))) (now (sheet .entry))) .result) (now (out .entry))) ⌝ }
+        × (now (lent .exit) ≡ put r (writtenNumbers (showLineIn sheetLimits form (length (now (out .entry))) (now (sheet .entry)))) (now (lent .entry)))
+        × (now (out .exit) ≡ put r ((showLineIn sheetLimits form (length (now (out .entry))) (now (sheet .entry))) .result) (now (out .entry))) ⌝ }
 {
     if lacks_room(lent.len(), 3) {
         return false;
@@ -85,8 +85,8 @@ pub extern "C" fn hours_line(form: u64, sheet: &[u8], out: &mut [u8], lent: &mut
 #[no_mangle]
 pub extern "C" fn hours_convert(form: u64, sheet: &[u8], out: &mut [u8], lent: &mut [u64]) -> bool
     ensures { λ r. ⌜ (r ≡ leb 3 (length (now (lent .entry))))
-        × (now (lent .exit) ≡ put r (writtenNumbers (convertIn limits1 form (length (now (out .entry))) (now (sheet .entry)))) (now (lent .entry)))
-        × (now (out .exit) ≡ put r ((convertIn limits1 form (length (now (out .entry))) (now (sheet .entry))) .result) (now (out .entry))) ⌝ }
+        × (now (lent .exit) ≡ put r (writtenNumbers (convertIn sheetLimits form (length (now (out .entry))) (now (sheet .entry)))) (now (lent .entry)))
+        × (now (out .exit) ≡ put r ((convertIn sheetLimits form (length (now (out .entry))) (now (sheet .entry))) .result) (now (out .entry))) ⌝ }
 {
     if lacks_room(lent.len(), 3) {
         return false;

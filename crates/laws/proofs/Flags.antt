@@ -19,6 +19,10 @@ pub and-false : (a : Bool) → a && false ≡ false
 and-false true = refl
 and-false false = refl
 
+pub or-false : (a : Bool) → a || false ≡ a
+or-false true = refl
+or-false false = refl
+
 pub split-and : (a b : Bool) → a && b ≡ true → (a ≡ true) × (b ≡ true)
 split-and true b h = (refl, h)
 split-and false b h = absurd (false≢true h)

@@ -9,7 +9,7 @@ use native.Mathlib.Omega.{arith}
 use lib.ListN.{length, getD, take}
 use Rattle.laws.specs.Lists.{firstOf, every, anyOf, keep, sum, All, Mem, OnSome, OnNone}
 use Rattle.laws.specs.Tests.{Exact}
-use Rattle.laws.proofs.Flags.{and-assoc, or-assoc, split-and, both-and}
+use Rattle.laws.proofs.Flags.{and-assoc, or-assoc, split-and, both-and, split-or}
 
 -- ## A fact of every element
 pub All-map : {A : Type 0} {P Q : A → Type 0} → ((x : A) → P x → Q x) → (D : List A) → All P D → All Q D
@@ -222,16 +222,22 @@ module _ {A : Type 0} {same : A → A → Bool} (exact : Exact same) where
       go true e ih = inl (exact .equal x y e)
       go false e ih = inr (ih (rw e at i))
 
--- where no element passes, this one does not
+-- where no element passes, each one doesn't; and back
+pub any-all : {A : Type 0} (t : A → Bool) (D : List A) → anyOf t D ≡ false → All (λ x. t x ≡ false) D
+unfolding anyOf
+any-all t [] h = tt
+any-all t (x ∷ D) h = let k = split-or (t x) (anyOf t D) h in (k .0, any-all t D (k .1))
+
+pub all-any : {A : Type 0} (t : A → Bool) (D : List A) → All (λ x. t x ≡ false) D → anyOf t D ≡ false
+unfolding anyOf
+all-any t [] h = refl
+all-any t (x ∷ D) h = rw (h .0) (all-any t D (h .1))
+
 pub any-none : {A : Type 0} (t : A → Bool) (x : A) (D : List A) → anyOf t D ≡ false → Mem x D → t x ≡ false
 unfolding anyOf Mem
 any-none t x [] h m = absurd m
-any-none t x (y ∷ D) h m = go (t y) refl m (any-none t x D)
-  where
-    go : (b : Bool) → t y ≡ b → Mem x (y ∷ D) → (anyOf t D ≡ false → Mem x D → t x ≡ false) → t x ≡ false
-    go true e k ih = absurd (true≢false (rw e at h))
-    go false e (inl q) ih = rw q e
-    go false e (inr k) ih = ih (rw e at h) k
+any-none t x (y ∷ D) h (inl q) = rw q (split-or (t y) (anyOf t D) h .0)
+any-none t x (y ∷ D) h (inr k) = any-none t x D (split-or (t y) (anyOf t D) h .1) k
 
 -- some element passes where one does; and then there is one
 pub some-any : {A : Type 0} (t : A → Bool) (x : A) (D : List A) → Mem x D → t x ≡ true → anyOf t D ≡ true

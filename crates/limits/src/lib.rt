@@ -1,20 +1,20 @@
-// The tests of 01's limits, each in one place: how many rules, items and boxes a sheet may have, how many entries a list, how wide a field is,
+// The tests of the limits, each in one place: how many rules, items and boxes a sheet may have, how many entries a list, how wide a field is,
 // which minutes a day has, and whether a buffer has room.
 ghost use mathlib.Core.Path.{_≡_};
 ghost use lib.Dec.{ltb, leb};
 ghost use Rattle.definition.specs.Rule.{midnight24};
-ghost use Rattle.definition.specs.Sheet.{limits1};
+ghost use Rattle.definition.specs.Sheet.{sheetLimits};
 
-// "Limits: 64 rules"
+// "Limits go to 256 rules"
 pub fn rules_allowed(count: u64) -> bool
-    ensures { λ r. ⌜ r ≡ leb count (limits1 .rules) ⌝ }
+    ensures { λ r. ⌜ r ≡ leb count (sheetLimits .rules) ⌝ }
 {
-    count <= 64
+    count <= 256
 }
 
 // "16 items of each sort, 16 spans"
 pub fn items_allowed(count: u64) -> bool
-    ensures { λ r. ⌜ r ≡ leb count (limits1 .items) ⌝ }
+    ensures { λ r. ⌜ r ≡ leb count (sheetLimits .items) ⌝ }
 {
     count <= 16
 }
@@ -26,16 +26,16 @@ pub fn width_over(width: usize) -> bool
     width > 32
 }
 
-// "boxes over 1,024"
+// "and 4,096 boxes"
 pub fn boxes_over(count: u64) -> bool
-    ensures { λ r. ⌜ r ≡ ltb (limits1 .boxes) count ⌝ }
+    ensures { λ r. ⌜ r ≡ ltb (sheetLimits .boxes) count ⌝ }
 {
-    count > 1024
+    count > 4096
 }
 
 // A list passes "32 entries" where one is appended to as many.
 pub fn entry_allowed(count: u16) -> bool
-    ensures { λ r. ⌜ r ≡ ltb count (limits1 .entries) ⌝ }
+    ensures { λ r. ⌜ r ≡ ltb count (sheetLimits .entries) ⌝ }
 {
     count < 32
 }

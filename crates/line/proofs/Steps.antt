@@ -11,7 +11,7 @@ use lib.ListN.{length, getD, length-append}
 use Rattle.laws.specs.Lists.{from, firstIndex}
 use Rattle.definition.specs.Field.{sheetBits}
 use Rattle.definition.specs.Rule.{Rule}
-use Rattle.definition.specs.Sheet.{Form, limits1}
+use Rattle.definition.specs.Sheet.{Form, sheetLimits}
 use Rattle.definition.specs.Text.{Text}
 use Rattle.definition.specs.Line.{ruleText, lineOf}
 use Rattle.definition.specs.Show.{firstWordless}
@@ -54,7 +54,7 @@ pub next-short : (form : Form) → Narrow form → (sheet : List ℕ) → Bytes 
     → length (shownText first (ruleReadAt form (sheetBits sheet) p)) ≤ 2048
 next-short form narrow sheet bytes p readable first = shown-short first _
     (rule-text-short form (narrow .comment-narrow) (ruleReadAt form (sheetBits sheet) p)
-    (carried (rule-faithful form limits1) sheet bytes p _ (readable .end) (readable .read)))
+    (carried (rule-faithful form sheetLimits) sheet bytes p _ (readable .end) (readable .read)))
 
 module _ {form : Form} {s begins l : List ℕ} {i to : ℕ} {m : List ℕ} (walked : Walked form s begins l i to m) where
   abbrev next : Rule

@@ -7,6 +7,7 @@ ghost use mathlib.Core.Path.{_≡_};
 ghost use Prim.Native.Nat.{_≤_};
 ghost use lib.ListN.{length};
 ghost use Rattle.definition.specs.Field.{sheetBits};
+ghost use Rattle.definition.specs.Sheet.{sheetLimits};
 ghost use Rattle.definition.specs.Fold.{buffer, writtenNumbers};
 ghost use Rattle.definition.specs.Show.{showRules};
 ghost use Rattle.forms.specs.Form.{asForm};
@@ -22,7 +23,7 @@ pub enum Lined {
 
 // Rules one behind the other, up to the first that has no words.
 fn show_rules(form: Form, sheet: &[u8], begins: &[usize], count: usize, out: &mut [u8]) -> Lined
-    requires { ⌜ AllBegin (asForm form) (sheetBits (now sheet)) (now begins) count × (count ≤ 64) × (count ≤ length (now begins)) ⌝ }
+    requires { ⌜ AllBegin (asForm form) (sheetBits (now sheet)) (now begins) count × (count ≤ sheetLimits .rules) × (count ≤ length (now begins)) ⌝ }
     ensures { λ r. ⌜ Lines (asForm form) (sheetBits (now (sheet .entry))) (now (begins .entry)) count (now (out .entry)) r (now (out .exit)) ⌝ }
 {
     let mut to: usize = 0;
@@ -40,7 +41,7 @@ fn show_rules(form: Form, sheet: &[u8], begins: &[usize], count: usize, out: &mu
 
 // How long the line is: the rules are put into a buffer that keeps none of it.
 fn measure(form: Form, sheet: &[u8], begins: &[usize], count: usize) -> Lined
-    requires { ⌜ AllBegin (asForm form) (sheetBits (now sheet)) (now begins) count × (count ≤ 64) × (count ≤ length (now begins)) ⌝ }
+    requires { ⌜ AllBegin (asForm form) (sheetBits (now sheet)) (now begins) count × (count ≤ sheetLimits .rules) × (count ≤ length (now begins)) ⌝ }
     ensures { λ r. ⌜ Measured (rulesAt (asForm form) (sheetBits (now (sheet .entry))) (now (begins .entry)) count) r ⌝ }
 {
     let mut nothing = [0u8; 1];
@@ -49,7 +50,7 @@ fn measure(form: Form, sheet: &[u8], begins: &[usize], count: usize) -> Lined
 
 // "Refusals: 10 .. after 3, before 7": code, bytes written and place; the line stands at the front of `out`.
 pub fn line_of(form: Form, sheet: &[u8], begins: &[usize], count: usize, out: &mut [u8]) -> Written
-    requires { ⌜ AllBegin (asForm form) (sheetBits (now sheet)) (now begins) count × (count ≤ 64) × (count ≤ length (now begins)) ⌝ }
+    requires { ⌜ AllBegin (asForm form) (sheetBits (now sheet)) (now begins) count × (count ≤ sheetLimits .rules) × (count ≤ length (now begins)) ⌝ }
     ensures { λ r. ⌜ (writeNumbers r ≡ writtenNumbers (showRules (length (now (out .entry))) (rulesAt (asForm form) (sheetBits (now (sheet .entry))) (now (begins .entry)) count)))
         × (now (out .exit) ≡ buffer ((showRules (length (now (out .entry))) (rulesAt (asForm form) (sheetBits (now (sheet .entry))) (now (begins .entry)) count)) .result) (now (out .entry))) ⌝ }
 {

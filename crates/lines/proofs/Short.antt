@@ -15,7 +15,7 @@ use Rattle.laws.proofs.Spread.{flatMap-length}
 use Rattle.grid.specs.Cut.{Range}
 use Rattle.grid.proofs.Cut.{holds-in}
 use Rattle.definition.specs.Rule.{Operator, Normal, Additional, Fallback, Kind, Open, Closed, Unknown, State, Span, YearRange, MonthdayRange, months, monthsOf, dated, WeekRange, WeekDayRange, fixedDays, holiday, Rule, monthBounds, weekdayBounds, yearBounds, weekBounds}
-use Rattle.definition.specs.Sheet.{Form, limits1, yearRange, weekRange, rule}
+use Rattle.definition.specs.Sheet.{Form, sheetLimits, yearRange, weekRange, rule}
 use Rattle.definition.specs.Day.{minuteOf}
 use Rattle.definition.specs.Text.{Text, ascii, decimalIn, word, padded, plain, named, _then_, of, unless, only, several}
 use Rattle.definition.specs.Line.{Item, item, monthItem, weekdayItem, monthNames, weekdayNames, yearSteps, weekSteps, yearText, weekText, monthText, weekdayText, clock, spanText, kindWord, kindText, stateText, part, ruleText, before}
@@ -150,12 +150,12 @@ unfolding part ascii
 part-short T xs h = unless-short _ xs (then-short T xs h _ (word-short " " xs)) _
 
 -- THE LAW, for a form whose comments have at most 24 bits, and so at most eight digits
-pub rule-text-short : (form : Form) → 2 ^ form .comment ≤ 2 ^ 24 → (r : Rule) → (rule form limits1) .fits r ≡ true → length (ruleText .write r) ≤ 2 ^ 10
+pub rule-text-short : (form : Form) → 2 ^ form .comment ≤ 2 ^ 24 → (r : Rule) → (rule form sheetLimits) .fits r ≡ true → length (ruleText .write r) ≤ 2 ^ 10
 unfolding ruleText of ascii
-rule-text-short form narrow r f = omega (arith, counts-carried form limits1 r f, whole)
+rule-text-short form narrow r f = omega (arith, counts-carried form sheetLimits r f, whole)
   where
-    i : ItemsFit form limits1 r
-    i = items-fit form limits1 r f
+    i : ItemsFit form sheetLimits r
+    i = items-fit form sheetLimits r f
 
     whole : AtMost (length (r .years) * 16 + 1 +
         (length (r .monthdays) * 10 + 1 + (5 + length (r .weeks) * 10 + 1 + (length (r .weekdays) * 8 + 1 + (length (r .spans) * 13 + 19))))) ruleText r
@@ -167,7 +167,7 @@ rule-text-short form narrow r f = omega (arith, counts-carried form limits1 r f,
         (several-short "," weekText 9 (r .weeks) (every-all _ (weekRange .fits) week-short (r .weeks) (i .weeks-fit))))) _
         (then-short _ r (part-short _ (r .weekdays) (several-short "," weekdayText 7 (r .weekdays) (All-each _ weekday-short (r .weekdays)))) _
         (then-short _ r (several-short "," spanText 12 (r .spans) (All-each _ span-short (r .spans))) _
-        (state-short (r .state) (omega (arith, narrow, comment-carried form limits1 r f)))))))
+        (state-short (r .state) (omega (arith, narrow, comment-carried form sheetLimits r f)))))))
 
 pub before-short : (o : Operator) → length (before o) ≤ 4
 unfolding ascii

@@ -7,7 +7,7 @@ use native.Mathlib.Omega.{arith}
 use lib.ListN.{length}
 use Rattle.definition.specs.Field.{longList, unsettled}
 use Rattle.definition.specs.Rule.{Rule}
-use Rattle.definition.specs.Sheet.{limits1}
+use Rattle.definition.specs.Sheet.{sheetLimits}
 use Rattle.definition.specs.Stop.{drained, left}
 use Rattle.definition.specs.Point.{dimensions, listAt, firstTooLong}
 use Rattle.definition.specs.Overlap.{firstOverlap}
@@ -19,18 +19,18 @@ use Rattle.lookup.specs.Looks.{lookAt}
 
 module _ (rs : List Rule) (p : List ℕ) (m : ℕ) (answer : Looked) where
   -- 11, 5 and 6
-  pub rules-refused : (c q : ℕ) → drain limits1 (drained rs) ≡ over c q → answer ≡ refusal c q → answer ≡ lookAt rs p m
+  pub rules-refused : (c q : ℕ) → drain sheetLimits (drained rs) ≡ over c q → answer ≡ refusal c q → answer ≡ lookAt rs p m
   unfolding lookAt
   rules-refused c q d h = rw (d, lookAt) h
 
-  module _ (apart : firstOverlap (drained rs) ≡ none) (few : boxCount dimensions (drained rs) ≤ limits1 .boxes) where
-    pub list-refused : (k : ℕ) → firstTooLong (limits1 .entries) (drained rs) ≡ some k → answer ≡ refusal longList k → answer ≡ lookAt rs p m
-    list-refused k f h = rules-refused longList k (drain-long limits1 (drained rs) apart few k f) h
+  module _ (apart : firstOverlap (drained rs) ≡ none) (few : boxCount dimensions (drained rs) ≤ sheetLimits .boxes) where
+    pub list-refused : (k : ℕ) → firstTooLong (sheetLimits .entries) (drained rs) ≡ some k → answer ≡ refusal longList k → answer ≡ lookAt rs p m
+    list-refused k f h = rules-refused longList k (drain-long sheetLimits (drained rs) apart few k f) h
 
-    module _ (short : firstTooLong (limits1 .entries) (drained rs) ≡ none) where
+    module _ (short : firstTooLong (sheetLimits .entries) (drained rs) ≡ none) where
       drawn : answer ≡ stateAt (left rs) (listAt (drained rs) p) m → answer ≡ lookAt rs p m
       unfolding lookAt
-      drawn h = rw (drain-fine limits1 (drained rs) apart few short, lookAt) h
+      drawn h = rw (drain-fine sheetLimits (drained rs) apart few short, lookAt) h
 
       -- 9
       pub left-refused : length (drained rs) < length rs → answer ≡ refusal unsettled 0 → answer ≡ lookAt rs p m

@@ -1,15 +1,22 @@
--- What is prepared of a sheet can be looked up, where the tables are lent up to the drained rules.
+-- What is read of a sheet keeps the limit of rules; and what is prepared of it can be looked up, where the tables are lent up to the drained rules.
 use mathlib.Core.Path.{_≡_}
 use mathlib.Core.List.{List}
-use Prim.Native.Nat.{ℕ, _*_, _-_, _≤_}
+use Prim.Native.Nat.{ℕ, _*_, _-_, _≤_, _<_}
 use native.Mathlib.Omega.{arith}
-use lib.ListN.{length, take}
+use lib.ListN.{length, take, getD}
 use lib.Seq.{length-take-le}
 use Rattle.definition.specs.Rule.{Rule}
+use Rattle.definition.specs.Sheet.{Form, sheetLimits}
 use Rattle.definition.specs.Stop.{drained}
-use Rattle.prepare.specs.Prepared.{Prepared}
+use Rattle.field.proofs.Bytes.{known-bytes}
+use Rattle.sheet.proofs.Begins.{rules-few}
+use Rattle.prepare.specs.Prepared.{RulesRead, Prepared}
 use Rattle.prepare.proofs.ToDraw.{drained-within, prepared-to-draw}
 use Rattle.lookup.specs.Looks.{Lookable}
+
+pub read-few : (form : Form) (sheet begins : List ℕ) (count : ℕ) → ((j : ℕ) → getD sheet j 0 < 256)
+    → RulesRead form sheet begins count → count ≤ sheetLimits .rules
+read-few form sheet begins count known read = omega (arith, rules-few form sheet _ _ (known-bytes sheet known) (read .1 .1 .0 .read), read .1 .1 .1)
 
 pub prepared-lookable : (states counts spans replacing rangeCounts ranges rows sizes cuts : List ℕ) (rs : List Rule) (n : ℕ)
     → Prepared states counts spans replacing rangeCounts ranges rows sizes cuts (drained rs) n → (count : ℕ) → count ≡ length rs → n ≤ length states

@@ -4,7 +4,7 @@ use mathlib.Core.List.{List}
 use Prim.Native.Nat.{ℕ, _+_}
 use lib.ListN.{length}
 use Rattle.definition.specs.Rule.{Rule}
-use Rattle.definition.specs.Sheet.{limits1}
+use Rattle.definition.specs.Sheet.{sheetLimits}
 use Rattle.definition.specs.Stop.{drained, left}
 use Rattle.definition.specs.Point.{listAt}
 use Rattle.definition.specs.Fold.{Drained, fine, over, drain}
@@ -13,7 +13,7 @@ use Rattle.prepare.specs.Prepared.{ToDraw}
 
 -- 11, 5 and 6, or the state by the list at the point
 unfoldable pub lookAt : List Rule → List ℕ → ℕ → Looked
-lookAt rs p m = elim (drain limits1 (drained rs)) [ over c q ↦ refusal c q | fine ↦ stateAt (left rs) (listAt (drained rs) p) m ]
+lookAt rs p m = elim (drain sheetLimits (drained rs)) [ over c q ↦ refusal c q | fine ↦ stateAt (left rs) (listAt (drained rs) p) m ]
 
 -- A SHEET'S RULES, the drained ones in tables and their cuts in rows, passed by 11 and 5, and so many left
 pub record Lookable (states counts spans replacing rangeCounts ranges rows sizes cuts : List ℕ) (left : ℕ) (rs : List Rule) : Type 0 where

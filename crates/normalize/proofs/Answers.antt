@@ -6,7 +6,7 @@ use Prim.Native.Nat.{ℕ, _≤_}
 use lib.ListN.{length}
 use Rattle.definition.specs.Field.{got, refused, longList}
 use Rattle.definition.specs.Rule.{Rule}
-use Rattle.definition.specs.Sheet.{Form, limits1, decode}
+use Rattle.definition.specs.Sheet.{Form, sheetLimits, decode}
 use Rattle.definition.specs.Stop.{drained}
 use Rattle.definition.specs.Point.{dimensions, firstTooLong}
 use Rattle.definition.specs.Overlap.{firstOverlap}
@@ -22,23 +22,23 @@ use Rattle.definition.proofs.FoldCases.{fold-refused, fold-over, fold-fine}
 
 module _ (form : Form) (sheet out : List ℕ) (r : Folded) where
   -- an answer that is the definition's
-  answers : (after : List ℕ) (f : definition.Folded) → fold form limits1 (length out) sheet ≡ f → foldNumbers r ≡ numbers f → after ≡ buffer (f .result) out → Folds form sheet out r after
+  answers : (after : List ℕ) (f : definition.Folded) → fold form sheetLimits (length out) sheet ≡ f → foldNumbers r ≡ numbers f → after ≡ buffer (f .result) out → Folds form sheet out r after
   answers after f e n b = subst (λ g. (foldNumbers r ≡ numbers g) × (after ≡ buffer (g .result) out)) (sym e) (n, b)
 
   -- 1 to 4
-  pub sheet-refused : (c p : ℕ) → decode form limits1 sheet ≡ refused c p → foldNumbers r ≡ numbers (refusal c p) → Folds form sheet out r out
-  sheet-refused c p e n = answers out (refusal c p) (fold-refused form limits1 (length out) sheet c p e) n refl
+  pub sheet-refused : (c p : ℕ) → decode form sheetLimits sheet ≡ refused c p → foldNumbers r ≡ numbers (refusal c p) → Folds form sheet out r out
+  sheet-refused c p e n = answers out (refusal c p) (fold-refused form sheetLimits (length out) sheet c p e) n refl
 
-  module _ (rs : List Rule) (end : ℕ) (e : decode form limits1 sheet ≡ got rs end) where
+  module _ (rs : List Rule) (end : ℕ) (e : decode form sheetLimits sheet ≡ got rs end) where
     -- 11, 5 and 6
-    pub rules-refused : (c p : ℕ) → drain limits1 (drained rs) ≡ over c p → foldNumbers r ≡ numbers (refusal c p) → Folds form sheet out r out
-    rules-refused c p d n = answers out (refusal c p) (fold-over form limits1 (length out) sheet rs end e c p d) n refl
+    pub rules-refused : (c p : ℕ) → drain sheetLimits (drained rs) ≡ over c p → foldNumbers r ≡ numbers (refusal c p) → Folds form sheet out r out
+    rules-refused c p d n = answers out (refusal c p) (fold-over form sheetLimits (length out) sheet rs end e c p d) n refl
 
-    module _ (apart : firstOverlap (drained rs) ≡ none) (few : boxCount dimensions (drained rs) ≤ limits1 .boxes) where
-      pub list-refused : (k : ℕ) → firstTooLong (limits1 .entries) (drained rs) ≡ some k → foldNumbers r ≡ numbers (refusal longList k) → Folds form sheet out r out
-      list-refused k f n = rules-refused longList k (drain-long limits1 (drained rs) apart few k f) n
+    module _ (apart : firstOverlap (drained rs) ≡ none) (few : boxCount dimensions (drained rs) ≤ sheetLimits .boxes) where
+      pub list-refused : (k : ℕ) → firstTooLong (sheetLimits .entries) (drained rs) ≡ some k → foldNumbers r ≡ numbers (refusal longList k) → Folds form sheet out r out
+      list-refused k f n = rules-refused longList k (drain-long sheetLimits (drained rs) apart few k f) n
 
       -- 7, or the result
-      pub rules-folded : (after : List ℕ) → firstTooLong (limits1 .entries) (drained rs) ≡ none
+      pub rules-folded : (after : List ℕ) → firstTooLong (sheetLimits .entries) (drained rs) ≡ none
           → (foldNumbers r ≡ numbers (emission form (length out) rs)) × (after ≡ buffer (emission form (length out) rs .result) out) → Folds form sheet out r after
-      rules-folded after f h = answers after (emission form (length out) rs) (fold-fine form limits1 (length out) sheet rs end e (drain-fine limits1 (drained rs) apart few f)) (h .0) (h .1)
+      rules-folded after f h = answers after (emission form (length out) rs) (fold-fine form sheetLimits (length out) sheet rs end e (drain-fine sheetLimits (drained rs) apart few f)) (h .0) (h .1)

@@ -10,7 +10,7 @@ use borrow.Author.Tests.{ltb-true, ltb-false}
 use Rattle.laws.proofs.Lists.{every-all}
 use Rattle.definition.specs.Field.{sheetBits}
 use Rattle.definition.specs.Rule.{Rule}
-use Rattle.definition.specs.Sheet.{Form, limits1, rule, rules}
+use Rattle.definition.specs.Sheet.{Form, sheetLimits, rule, rules}
 use Rattle.definition.specs.Stop.{drained, left, why}
 use Rattle.definition.proofs.Bits.{Bytes}
 use Rattle.definition.proofs.Faithful.{Stand, stand-taken}
@@ -18,6 +18,7 @@ use Rattle.definition.proofs.Drained.{left-behind}
 use Rattle.definition.proofs.Carried.{comment-carried}
 use Rattle.definition.proofs.FoldBox.{drained-all}
 use Rattle.definition.proofs.Lawful.{rules-each}
+use Rattle.definition.proofs.RuleCounts.{left-few-items}
 use Rattle.definition.proofs.SheetRead.{encode-decoded}
 use Rattle.sheet.proofs.Begins.{Begins, rules-begin, rules-end, rules-few}
 use Rattle.tables.specs.Rules.{AllCommented}
@@ -28,7 +29,10 @@ empty [] h = refl
 empty (q ∷ qs) h = absurd (omega arith)
 
 module _ (form : Form) (sheet : List ℕ) (bytes : Bytes sheet) (begins : List ℕ) (rs : List Rule) (end : ℕ) (r : SheetRead form sheet begins rs end) where
-  rules-limited : length rs ≤ limits1 .rules
+  carried : (rules form sheetLimits) .fits rs ≡ true
+  carried = encode-decoded form sheetLimits sheet bytes rs end (r .read) .0
+
+  rules-limited : length rs ≤ sheetLimits .rules
   rules-limited = rules-few form sheet rs end bytes (r .read)
 
   first-left : length (drained rs) < length rs → Begins form (sheetBits sheet) end rs (length (drained rs)) (getD begins (length (drained rs)) 0)
@@ -37,10 +41,10 @@ module _ (form : Form) (sheet : List ℕ) (bytes : Bytes sheet) (begins : List �
       (rules-begin form sheet rs end (r .narrow) bytes (r .read) (r .before) (r .room) (length (drained rs)) h)
 
   -- THE RULES LEFT from the first of them on; where none is left, from the end on
-  leaving-at : (start : ℕ) → Stand (flatMap ((rule form limits1) .write) (left rs)) (sheetBits sheet) start end
+  leaving-at : (start : ℕ) → Stand (flatMap ((rule form sheetLimits) .write) (left rs)) (sheetBits sheet) start end
       → Leaving form sheet rs start end (length (drained rs)) (length rs - length (drained rs)) (why rs)
   leaving-at start s =
-      let ws = flatMap ((rule form limits1) .write) (left rs) in
+      let ws = flatMap ((rule form sheetLimits) .write) (left rs) in
       let many : end - start ≡ length ws = omega (arith, s .ends) in
       let end-low = rules-end form sheet rs end (r .narrow) bytes (r .read) in
       record {
@@ -51,6 +55,7 @@ module _ (form : Form) (sheet : List ℕ) (bytes : Bytes sheet) (begins : List �
         drained-many = refl;
         left-many = omega (arith, left-behind rs .1);
         left-few = omega (arith, rules-limited);
+        left-counted = left-few-items form sheetLimits rs carried;
         told = refl;
       }
 
@@ -63,13 +68,13 @@ module _ (form : Form) (sheet : List ℕ) (bytes : Bytes sheet) (begins : List �
       go true l =
           let at : start ≡ getD begins (length (drained rs)) 0 = e ∙ ap (λ b. cond b (getD begins (length (drained rs)) 0) end) l in
           leaving-at start
-          (subst (λ p. Stand (flatMap ((rule form limits1) .write) (left rs)) (sheetBits sheet) p end) (sym at)
-          (subst (λ qs. Stand (flatMap ((rule form limits1) .write) qs) (sheetBits sheet) (getD begins (length (drained rs)) 0) end) (left-behind rs .0)
+          (subst (λ p. Stand (flatMap ((rule form sheetLimits) .write) (left rs)) (sheetBits sheet) p end) (sym at)
+          (subst (λ qs. Stand (flatMap ((rule form sheetLimits) .write) qs) (sheetBits sheet) (getD begins (length (drained rs)) 0) end) (left-behind rs .0)
           (first-left (ltb-true (length (drained rs)) (length rs) l) .stands)))
       go false l =
           let at : start ≡ end = e ∙ ap (λ b. cond b (getD begins (length (drained rs)) 0) end) l in
           let none : left rs ≡ [] = empty (left rs) (omega (arith, ltb-false (length (drained rs)) (length rs) l, left-behind rs .1)) in
-          leaving-at start (subst (λ qs. Stand (flatMap ((rule form limits1) .write) qs) (sheetBits sheet) start end) (sym none)
+          leaving-at start (subst (λ qs. Stand (flatMap ((rule form sheetLimits) .write) qs) (sheetBits sheet) start end) (sym none)
           (record { ends = omega (arith, at); stands = ap (λ p. drop p (sheetBits sheet)) at }))
 
   -- told by how many rules were drained, of how many, and why the drain ended
@@ -85,4 +90,4 @@ module _ (form : Form) (sheet : List ℕ) (bytes : Bytes sheet) (begins : List �
   -- the comments of drained rules have room in the form that they were read in
   pub rules-commented : AllCommented form (drained rs)
   rules-commented =
-      drained-all _ rs (every-all _ ((rule form limits1) .fits) (comment-carried form limits1) rs (rules-each form limits1 rs (encode-decoded form limits1 sheet bytes rs end (r .read) .0)))
+      drained-all _ rs (every-all _ ((rule form sheetLimits) .fits) (comment-carried form sheetLimits) rs (rules-each form sheetLimits rs carried))

@@ -5,7 +5,7 @@ use Prim.Native.Nat.{ℕ}
 use lib.ListN.{length}
 use Rattle.definition.specs.Field.{got}
 use Rattle.definition.specs.Rule.{Rule}
-use Rattle.definition.specs.Sheet.{Form, limits1, decode}
+use Rattle.definition.specs.Sheet.{Form, sheetLimits, decode}
 use Rattle.definition.specs.Stop.{drained}
 use Rattle.definition.specs.Fold.{numbers, buffer, fold}
 use Rattle.answers.specs.declared.Folded.{Folded}
@@ -18,11 +18,11 @@ use Rattle.fold_write.specs.declared.Left.{Left}
 -- A SHEET'S RULES, the drained ones in tables and their cuts in rows, passed by 11 and 5; and where the rules left stand
 pub record Foldable (form : Form) (sheet : List ℕ) (left : Left) (states counts spans replacing rangeCounts ranges rows sizes cuts : List ℕ) (rs : List Rule) : Type 0 where
   pub end : ℕ
-  pub read : decode form limits1 sheet ≡ got rs end
+  pub read : decode form sheetLimits sheet ≡ got rs end
   pub commented : AllCommented form (drained rs)
   pub leaving : Leaving form sheet rs (left .start) (left .end) (length states) (left .rules) (left .why)
   pub to-draw : ToDraw states counts spans replacing rangeCounts ranges rows sizes cuts (drained rs)
 
 -- the seven numbers, and the buffer `out` afterwards
 abbrev pub Folds : Form → List ℕ → List ℕ → Folded → List ℕ → Type 0
-Folds form sheet out r after = (foldNumbers r ≡ numbers (fold form limits1 (length out) sheet)) × (after ≡ buffer ((fold form limits1 (length out) sheet) .result) out)
+Folds form sheet out r after = (foldNumbers r ≡ numbers (fold form sheetLimits (length out) sheet)) × (after ≡ buffer ((fold form sheetLimits (length out) sheet) .result) out)

@@ -1,5 +1,5 @@
 // The fold of a checked sheet, stage after stage: the rules before the first stopper in tables and the dimensions cut at their ranges (11, 5), a
-// list for each box (6), pages of the folded rules, and these written before the rules that are left (7). From normalize/mod.rs.
+// list for each box (6), pages of the folded rules, and these written before the rules that are left (13, 7). From normalize/mod.rs.
 pub mod boxes;
 
 use answers::Folded;
@@ -72,14 +72,15 @@ fn fold_rules_in(
                 &row_starts,
                 &sizes,
                 cuts,
+                16,
             )
         }
         Judged::Refused(code, place) => fold_refused(code, place),
     }
 }
 
-// Folds the rules of a checked sheet. Few of them have small tables: clearing large ones would take longer than the fold of so few.
-pub fn fold_rules(
+// Up to 4 rules.
+fn fold_few_rules(
     form: Form,
     sheet: &[u8],
     begins: &[usize],
@@ -88,32 +89,46 @@ pub fn fold_rules(
     out: &mut [u8],
 ) -> Folded
     requires { ⌜ Readings (asForm form) (now sheet) (now begins) count end ⌝ }
+    requires { ⌜ count ≤ 4 ⌝ }
     ensures { λ r. ⌜ Folds (asForm form) (now (sheet .entry)) (now (out .entry)) r (now (out .exit)) ⌝ }
 {
-    if count <= 4 {
-        let mut states = [0u32; 4];
-        let mut span_counts = [0u8; 4];
-        let mut spans = [0u64; 64];
-        let mut replacing = [0u8; 4];
-        let mut range_counts = [0u16; 16];
-        let mut ranges = [0u16; 1024];
-        let mut cuts = [0u16; 1032];
-        return fold_rules_in(
-            form,
-            sheet,
-            begins,
-            count,
-            end,
-            out,
-            &mut states,
-            &mut span_counts,
-            &mut spans,
-            &mut replacing,
-            &mut range_counts,
-            &mut ranges,
-            &mut cuts,
-        );
-    }
+    let mut states = [0u32; 4];
+    let mut span_counts = [0u8; 4];
+    let mut spans = [0u64; 64];
+    let mut replacing = [0u8; 4];
+    let mut range_counts = [0u16; 16];
+    let mut ranges = [0u16; 1024];
+    let mut cuts = [0u16; 1032];
+    fold_rules_in(
+        form,
+        sheet,
+        begins,
+        count,
+        end,
+        out,
+        &mut states,
+        &mut span_counts,
+        &mut spans,
+        &mut replacing,
+        &mut range_counts,
+        &mut ranges,
+        &mut cuts,
+    )
+}
+
+// Up to 64 rules.
+fn fold_some_rules(
+    form: Form,
+    sheet: &[u8],
+    begins: &[usize],
+    count: usize,
+    end: usize,
+    out: &mut [u8],
+) -> Folded
+    requires { ⌜ Readings (asForm form) (now sheet) (now begins) count end ⌝ }
+    requires { ⌜ count ≤ 64 ⌝ }
+    ensures { λ r. ⌜ Folds (asForm form) (now (sheet .entry)) (now (out .entry)) r (now (out .exit)) ⌝ }
+{
     let mut states = [0u32; 64];
     let mut span_counts = [0u8; 64];
     let mut spans = [0u64; 1024];
@@ -136,4 +151,81 @@ pub fn fold_rules(
         &mut ranges,
         &mut cuts,
     )
+}
+
+// As many rules as a sheet may have.
+fn fold_many_rules(
+    form: Form,
+    sheet: &[u8],
+    begins: &[usize],
+    count: usize,
+    end: usize,
+    out: &mut [u8],
+) -> Folded
+    requires { ⌜ Readings (asForm form) (now sheet) (now begins) count end ⌝ }
+    ensures { λ r. ⌜ Folds (asForm form) (now (sheet .entry)) (now (out .entry)) r (now (out .exit)) ⌝ }
+{
+    let mut states = [0u32; 256];
+    let mut span_counts = [0u8; 256];
+    let mut spans = [0u64; 4096];
+    let mut replacing = [0u8; 256];
+    let mut range_counts = [0u16; 1024];
+    let mut ranges = [0u16; 65536];
+    let mut cuts = [0u16; 65544];
+    fold_rules_in(
+        form,
+        sheet,
+        begins,
+        count,
+        end,
+        out,
+        &mut states,
+        &mut span_counts,
+        &mut spans,
+        &mut replacing,
+        &mut range_counts,
+        &mut ranges,
+        &mut cuts,
+    )
+}
+
+// Folds the rules of a checked sheet, in tables for `room` of them or, where there are more, in larger ones: a ladder as for the boxes.
+fn fold_in_room(
+    form: Form,
+    sheet: &[u8],
+    begins: &[usize],
+    count: usize,
+    end: usize,
+    out: &mut [u8],
+    room: usize,
+) -> Folded
+    requires { ⌜ Readings (asForm form) (now sheet) (now begins) count end ⌝ }
+    requires { ⌜ 1 ≤ room ⌝ }
+    ensures { λ r. ⌜ Folds (asForm form) (now (sheet .entry)) (now (out .entry)) r (now (out .exit)) ⌝ }
+{
+    if room < count {
+        return fold_in_room(form, sheet, begins, count, end, out, 16 * room);
+    }
+    if count <= 4 {
+        return fold_few_rules(form, sheet, begins, count, end, out);
+    }
+    if count <= 64 {
+        return fold_some_rules(form, sheet, begins, count, end, out);
+    }
+    fold_many_rules(form, sheet, begins, count, end, out)
+}
+
+// Folds the rules of a checked sheet.
+pub fn fold_rules(
+    form: Form,
+    sheet: &[u8],
+    begins: &[usize],
+    count: usize,
+    end: usize,
+    out: &mut [u8],
+) -> Folded
+    requires { ⌜ Readings (asForm form) (now sheet) (now begins) count end ⌝ }
+    ensures { λ r. ⌜ Folds (asForm form) (now (sheet .entry)) (now (out .entry)) r (now (out .exit)) ⌝ }
+{
+    fold_in_room(form, sheet, begins, count, end, out, 4)
 }

@@ -1,12 +1,10 @@
 -- THE PROMISES IN ONE PIECE: what a caller learns of `hours::fold` and of `hours::lookup`, their contracts, says by the demands' theorems what
 -- specs/Meaning states. A slice of u8 holds bytes: that much is taken of the sheet.
 use mathlib.Core.Path.{_≡_, refl, sym, ap, ap₂, _∙_, subst}
-use mathlib.Core.Bool.{Bool, true, false, cond}
 use mathlib.Core.List.{List}
 use mathlib.Core.Option.{Option, none, some}
 use Prim.Native.Nat.{ℕ, _≤_}
 use native.Mathlib.Omega.{arith}
-use lib.Dec.{eqb}
 use lib.ListN.{length, take, drop, getD}
 use lib.Seq.{take-append-seam, drop-append-seam}
 use contract.Lifetimes.{Lfts}
@@ -15,7 +13,7 @@ use denote.Triple.Clauses.{AtExit}
 use borrow.Fn.Kinds.{Dens, endedOf}
 use Rattle.definition.specs.Field.{unlawful}
 use Rattle.definition.specs.Rule.{Rule}
-use Rattle.definition.specs.Sheet.{Form, form1, form2, limits1}
+use Rattle.definition.specs.Sheet.{Form, sheetLimits, formerLimits}
 use Rattle.definition.specs.Stop.{drained}
 use Rattle.definition.specs.Date.{pointOf}
 use Rattle.definition.specs.Group.{folded}
@@ -25,19 +23,19 @@ use Rattle.definition.specs.Fold.{buffer, numbers, refusal, fold}
 use Rattle.definition.specs.Forms.{formNamed, foldIn, lookupIn}
 use Rattle.definition.specs.Lookup as state
 use Rattle.definition.proofs.Bits.{Bytes}
-use Rattle.definition.proofs.RuleCounts.{Roomy, roomy1, roomy2}
 use Rattle.answers.specs.Numbers.{foldNumbers}
 use Rattle.answers.specs.declared.Folded.{Folded}
 use Rattle.answers.specs.declared.Answer.{Answer}
-use Rattle.promises.specs.Conditions.{Accepted}
+use Rattle.promises.specs.Conditions.{written, Accepted}
 use Rattle.promises.specs.Counts.{Nothing}
-use Rattle.promises.specs.ReadBack.{widest, written}
+use Rattle.promises.specs.ReadBack.{widest}
 use Rattle.promises.specs.Looking.{Tells}
 use Rattle.promises.proofs.Reading.{accepted-once}
 use Rattle.promises.proofs.Counts.{accepted-counts, counted-rules, refused-nothing}
 use Rattle.promises.proofs.Going.{folded-drained}
 use Rattle.promises.proofs.ReadBack.{fold-reads}
 use Rattle.promises.proofs.Looking.{lookup-says}
+use Rattle.promises.proofs.LargerSheets.{remain-lawful, raised-now}
 use Rattle.hours.proofs.Entries.{in-named, in-none}
 use Rattle.hours.proofs.fold.Kinds as fold-kinds
 use Rattle.hours.proofs.fold.Reads as fold-contract
@@ -45,28 +43,18 @@ use Rattle.hours.proofs.lookup.Kinds as lookup-kinds
 use Rattle.hours.proofs.lookup.Reads as lookup-contract
 use Rattle.one_answer.specs.Promise.{FoldPromise, LookupPromise}
 use Rattle.one_answer.proofs.Promised.{fold-promised, lookup-promised}
-use Rattle.one_answer.specs.Meaning.{FoldMeans, FoldNothing, FoldTheorem, LookupTheorem}
-
--- both forms have room in their counts for all that comes out
-named-roomy : (number : ℕ) (form : Form) → formNamed number ≡ some form → Roomy form limits1
-unfolding formNamed
-named-roomy number form = go (eqb number 1) (eqb number 2)
-  where
-    go : (one two : Bool) → cond one (some form1) (cond two (some form2) none) ≡ some form → Roomy form limits1
-    go true two e = let same : form1 ≡ form = cc in subst (λ f. Roomy f limits1) same roomy1
-    go false true e = let same : form2 ≡ form = cc in subst (λ f. Roomy f limits1) same roomy2
-    go false false e = let z : _≡_ {A = ℕ} 0 1 = cc in absurd (omega arith)
+use Rattle.one_answer.specs.Meaning.{FoldMeans, FoldNothing, FoldTheorem, StoredTheorem, LookupTheorem}
 
 -- ## The fold
 module _ (number : ℕ) (sheet out : List ℕ) (x : Folded × List ℕ) (p : FoldPromise number sheet out x) where
   -- the k-th number, and the buffer, of the answer that the number of the form leads to
-  told-of : (answer : definition.Folded) → foldIn limits1 number (length out) sheet ≡ answer → (k : ℕ) → getD (foldNumbers (x .0)) k 0 ≡ getD (numbers answer) k 0
+  told-of : (answer : definition.Folded) → foldIn sheetLimits number (length out) sheet ≡ answer → (k : ℕ) → getD (foldNumbers (x .0)) k 0 ≡ getD (numbers answer) k 0
   told-of answer same k = ap (λ l. getD l k 0) (p .0 ∙ ap numbers same)
 
-  buffer-of : (answer : definition.Folded) → foldIn limits1 number (length out) sheet ≡ answer → x .1 ≡ buffer (answer .result) out
+  buffer-of : (answer : definition.Folded) → foldIn sheetLimits number (length out) sheet ≡ answer → x .1 ≡ buffer (answer .result) out
   buffer-of answer same = p .1 ∙ ap (λ f. buffer (f .result) out) same
 
-  told-nothing : (answer : definition.Folded) → foldIn limits1 number (length out) sheet ≡ answer → Nothing answer → FoldNothing number sheet out x
+  told-nothing : (answer : definition.Folded) → foldIn sheetLimits number (length out) sheet ≡ answer → Nothing answer → FoldNothing number sheet out x
   told-nothing answer same nothing =
       let told = told-of answer same in record {
         none-drained = told 1 ∙ nothing .none-drained;
@@ -80,11 +68,11 @@ module _ (number : ℕ) (sheet out : List ℕ) (x : Folded × List ℕ) (p : Fol
   -- where the number names a form
   module _ (form : Form) (named : formNamed number ≡ some form) where
     abbrev answer : definition.Folded
-    answer = fold form limits1 (length out) sheet
+    answer = fold form sheetLimits (length out) sheet
 
-    same : foldIn limits1 number (length out) sheet ≡ answer
+    same : foldIn sheetLimits number (length out) sheet ≡ answer
     unfolding foldIn
-    same = in-named refusal (λ f. fold f limits1 (length out) sheet) number form named
+    same = in-named refusal (λ f. fold f sheetLimits (length out) sheet) number form named
 
     told : (k : ℕ) → getD (foldNumbers (x .0)) k 0 ≡ getD (numbers answer) k 0
     told = told-of answer same
@@ -92,9 +80,9 @@ module _ (number : ℕ) (sheet out : List ℕ) (x : Folded × List ℕ) (p : Fol
     accepted-in : Bytes sheet → x .0 .code ≡ 0 → (rs : List Rule) × FoldMeans number sheet out x form rs (written rs)
     accepted-in bytes e =
         let code = sym (told 0) ∙ e in
-        let reads = fold-reads form limits1 (named-roomy number form named) (length out) sheet bytes code in
+        let reads = fold-reads form sheetLimits (length out) sheet bytes code in
         let rs = reads .0 in
-        let counts = counted-rules form limits1 (length out) sheet code rs (reads .1) in
+        let counts = counted-rules form sheetLimits (length out) sheet code rs (reads .1) in
         let size = told 4 ∙ counts .bytes-counted in
         let there = buffer-of answer same in
         let later = drop (length (answer .result)) out in (
@@ -103,25 +91,25 @@ module _ (number : ℕ) (sheet out : List ℕ) (x : Folded × List ℕ) (p : Fol
             form-named = named;
             sheet-read = reads .1;
             buffer-read =
-                subst (λ b. Accepted form (widest form limits1) b (written rs)) (sym (ap₂ take size there ∙ take-append-seam (answer .result) later)) (reads .2);
+                subst (λ b. Accepted form (widest form sheetLimits) b (written rs)) (sym (ap₂ take size there ∙ take-append-seam (answer .result) later)) (reads .2);
             same-meaning = reads .3;
             drained-counted = told 1 ∙ counts .drained-counted;
             emitted-counted = told 2 ∙ counts .emitted-counted ∙ ap length (sym (folded-drained rs));
             left-counted = told 3 ∙ counts .left-counted;
             why-told = told 6 ∙ counts .why-told;
-            within-room = subst (_≤ length out) (sym (told 4)) (accepted-counts form limits1 (length out) sheet code .3);
+            within-room = subst (_≤ length out) (sym (told 4)) (accepted-counts form sheetLimits (length out) sheet code .3);
             later-bytes = ap₂ drop size there ∙ drop-append-seam (answer .result) later ∙ ap (λ n. drop n out) (sym size);
           },
         )
 
     refused-in : (x .0 .code ≡ 0 → ⊥) → FoldNothing number sheet out x
-    refused-in h = told-nothing answer same (refused-nothing form limits1 (length out) sheet (λ e. h (told 0 ∙ e)))
+    refused-in h = told-nothing answer same (refused-nothing form sheetLimits (length out) sheet (λ e. h (told 0 ∙ e)))
 
   -- where it names none
   module _ (nameless : formNamed number ≡ none) where
-    refused-so : foldIn limits1 number (length out) sheet ≡ refusal unlawful 0
+    refused-so : foldIn sheetLimits number (length out) sheet ≡ refusal unlawful 0
     unfolding foldIn
-    refused-so = in-none refusal (λ f. fold f limits1 (length out) sheet) number nameless
+    refused-so = in-none refusal (λ f. fold f sheetLimits (length out) sheet) number nameless
 
     not-accepted : x .0 .code ≡ 0 → ⊥
     not-accepted e = let z : _≡_ {A = ℕ} 2 0 = sym (told-of (refusal unlawful 0) refused-so 0) ∙ e in omega arith
@@ -137,23 +125,33 @@ module _ (number : ℕ) (sheet out : List ℕ) (x : Folded × List ℕ) (p : Fol
       go (some form) e = (λ code. let means = accepted-in form e bytes code in (form, means .0, written (means .0), means .1), refused-in form e)
       go none e = (λ code. absurd (not-accepted e code), λ h. nothing-told e)
 
+  stored-folds : StoredTheorem number sheet out x
+  stored-folds form named rs a h =
+      let as-before = same form named ∙ remain-lawful form formerLimits sheetLimits raised-now sheet rs a .1 .same-fold (length out) h in
+      (p .0 ∙ ap numbers as-before, buffer-of _ as-before)
+
   -- ## The lookup
   told-there : (y mo d m : ℕ) (a : Answer) → LookupPromise number sheet y mo d m a → Bytes sheet → LookupTheorem number sheet out x y mo d m a
   unfolding lookupIn
   told-there y mo d m a q bytes e f form named ws holds choice =
       let means = accepted-in form named bytes e in
       let rs = means .0 in
-      let looks = q ∙ in-named state.refusal (λ k. state.lookup k limits1 sheet y mo d m) number form named in
-      let looked = lookup-says form limits1 sheet y mo d m (sym (ap (λ k. k .code) looks) ∙ f) in
-      let same = ap (λ ds. folded (drained ds)) (accepted-once form limits1 sheet (looked .0) rs (looked .1) (means .1 .sheet-read)) ∙ sym (folded-drained rs)
-      ∙ ap drained (accepted-once form (widest form limits1) _ (written rs) ws (means .1 .buffer-read) holds) in
+      let looks = q ∙ in-named state.refusal (λ k. state.lookup k sheetLimits sheet y mo d m) number form named in
+      let looked = lookup-says form sheetLimits sheet y mo d m (sym (ap (λ k. k .code) looks) ∙ f) in
+      let same = ap (λ ds. folded (drained ds)) (accepted-once form sheetLimits sheet (looked .0) rs (looked .1) (means .1 .sheet-read)) ∙ sym (folded-drained rs)
+      ∙ ap drained (accepted-once form (widest form sheetLimits) _ (written rs) ws (means .1 .buffer-read) holds) in
       subst (λ k. Tells k (says choice (drained ws) (pointOf y mo d) m)) (sym looks)
-      (subst (λ ds. Tells (state.lookup form limits1 sheet y mo d m) (says choice ds (pointOf y mo d) m)) same (looked .2 choice .1))
+      (subst (λ ds. Tells (state.lookup form sheetLimits sheet y mo d m) (says choice ds (pointOf y mo d) m)) same (looked .2 choice .1))
 
 -- THE THEOREM OF `hours::fold`
 pub fold-theorem : (κs : Lfts 2) (a : Dens κs fold-kinds.ps) (r : Folded) (e : AtExit (endedOf 2 fold-kinds.ps fold-kinds.r) κs)
     → fold-contract.Learnt κs a r e → Bytes (now (a .1 .0)) → FoldTheorem (a .0) (now (a .1 .0)) (now (a .1 .1 .0)) (r, now (e .1 .1 .0))
 fold-theorem κs a r e h = fold-means (a .0) (now (a .1 .0)) (now (a .1 .1 .0)) (r, now (e .1 .1 .0)) (fold-promised κs a r e h)
+
+-- AND OF A STORED SHEET
+pub stored-theorem : (κs : Lfts 2) (a : Dens κs fold-kinds.ps) (r : Folded) (e : AtExit (endedOf 2 fold-kinds.ps fold-kinds.r) κs)
+    → fold-contract.Learnt κs a r e → StoredTheorem (a .0) (now (a .1 .0)) (now (a .1 .1 .0)) (r, now (e .1 .1 .0))
+stored-theorem κs a r e h = stored-folds (a .0) (now (a .1 .0)) (now (a .1 .1 .0)) (r, now (e .1 .1 .0)) (fold-promised κs a r e h)
 
 -- THE THEOREM OF `hours::lookup`, beside a fold of the same sheet in the same form
 pub lookup-theorem : (κs : Lfts 2) (a : Dens κs fold-kinds.ps) (r : Folded) (e : AtExit (endedOf 2 fold-kinds.ps fold-kinds.r) κs)
@@ -163,4 +161,4 @@ pub lookup-theorem : (κs : Lfts 2) (a : Dens κs fold-kinds.ps) (r : Folded) (e
     → LookupTheorem (a .0) (now (a .1 .0)) (now (a .1 .1 .0)) (r, now (e .1 .1 .0)) (b .1 .1 .0) (b .1 .1 .1 .0) (b .1 .1 .1 .1 .0) (b .1 .1 .1 .1 .1 .0) s
 lookup-theorem κs a r e h λs b s f g same-form same-sheet bytes =
     told-there (a .0) (now (a .1 .0)) (now (a .1 .1 .0)) (r, now (e .1 .1 .0)) (fold-promised κs a r e h) _ _ _ _ s
-    (lookup-promised λs b s f g ∙ ap₂ (λ n t. lookupIn limits1 n t (b .1 .1 .0) (b .1 .1 .1 .0) (b .1 .1 .1 .1 .0) (b .1 .1 .1 .1 .1 .0)) same-form same-sheet) bytes
+    (lookup-promised λs b s f g ∙ ap₂ (λ n t. lookupIn sheetLimits n t (b .1 .1 .0) (b .1 .1 .1 .0) (b .1 .1 .1 .1 .0) (b .1 .1 .1 .1 .1 .0)) same-form same-sheet) bytes

@@ -7,7 +7,7 @@ use native.Mathlib.Omega.{arith}
 use lib.Dec.{leb}
 use lib.ListN.{length, getD}
 use Rattle.definition.specs.Field.{sheetBits, bytes}
-use Rattle.definition.specs.Sheet.{limits1}
+use Rattle.definition.specs.Sheet.{sheetLimits}
 use Rattle.definition.specs.Fold.{Written, numbers, writtenNumbers}
 use Rattle.definition.specs.Forms.{foldIn, writeBackIn, showLineIn, lookupIn, convertIn}
 use Rattle.definition.specs.Lookup as state
@@ -53,17 +53,17 @@ one-writing : (w : Written) (out : List ℕ) → OneAnswer (WritesAs w out)
 one-writing w out x y p q = pair (one-written _ (x .0) (y .0) (p .0) (q .0)) (p .1 ∙ sym (q .1))
 
 pub one-write-back : (form : ℕ) (sheet out : List ℕ) → OneAnswer (WriteBackPromise form sheet out)
-one-write-back form sheet out = one-writing (writeBackIn limits1 form (length out) sheet) out
+one-write-back form sheet out = one-writing (writeBackIn sheetLimits form (length out) sheet) out
 
 pub one-line : (form : ℕ) (sheet out : List ℕ) → OneAnswer (LinePromise form sheet out)
-one-line form sheet out = one-writing (showLineIn limits1 form (length out) sheet) out
+one-line form sheet out = one-writing (showLineIn sheetLimits form (length out) sheet) out
 
 pub one-convert : (form : ℕ) (sheet out : List ℕ) → OneAnswer (ConvertPromise form sheet out)
-one-convert form sheet out = one-writing (convertIn limits1 form (length out) sheet) out
+one-convert form sheet out = one-writing (convertIn sheetLimits form (length out) sheet) out
 
 pub one-lookup : (form : ℕ) (sheet : List ℕ) (year month day minute : ℕ) → OneAnswer (LookupPromise form sheet year month day minute)
 unfolding answerFrom
-one-lookup form sheet year month day minute = one-solution lookedUp answerFrom (λ a. refl) (lookupIn limits1 form sheet year month day minute)
+one-lookup form sheet year month day minute = one-solution lookedUp answerFrom (λ a. refl) (lookupIn sheetLimits form sheet year month day minute)
 
 -- ## The exports: what the slices hold hangs on whether there is an answer
 one-told : {A : Type 0} (told : Bool) (slices : Bool → A) → OneAnswer {A = Bool × A} (λ x. (x .0 ≡ told) × (x .1 ≡ slices (x .0)))
@@ -74,7 +74,7 @@ one-told {A} told slices x y p q = settled x p ∙ sym (settled y q)
 
 pub one-exported-fold : (form : ℕ) (sheet out lent : List ℕ) → OneAnswer (ExportedFoldPromise form sheet out lent)
 one-exported-fold form sheet out lent x y p q =
-    let f = foldIn limits1 form (length out) sheet in
+    let f = foldIn sheetLimits form (length out) sheet in
     one-told (leb 7 (length lent)) (λ b. (put b (numbers f) lent, put b (f .result) out)) x y (p .0, pair (p .1) (p .2)) (q .0, pair (q .1) (q .2))
 
 one-exported : (w : Written) (out lent : List ℕ) → OneAnswer (ExportedWritesAs w out lent)
@@ -82,18 +82,18 @@ one-exported w out lent x y p q =
     one-told (leb 3 (length lent)) (λ b. (put b (writtenNumbers w) lent, put b (w .result) out)) x y (p .0, pair (p .1) (p .2)) (q .0, pair (q .1) (q .2))
 
 pub one-exported-write-back : (form : ℕ) (sheet out lent : List ℕ) → OneAnswer (ExportedWriteBackPromise form sheet out lent)
-one-exported-write-back form sheet out lent = one-exported (writeBackIn limits1 form (length out) sheet) out lent
+one-exported-write-back form sheet out lent = one-exported (writeBackIn sheetLimits form (length out) sheet) out lent
 
 pub one-exported-line : (form : ℕ) (sheet out lent : List ℕ) → OneAnswer (ExportedLinePromise form sheet out lent)
-one-exported-line form sheet out lent = one-exported (showLineIn limits1 form (length out) sheet) out lent
+one-exported-line form sheet out lent = one-exported (showLineIn sheetLimits form (length out) sheet) out lent
 
 pub one-exported-convert : (form : ℕ) (sheet out lent : List ℕ) → OneAnswer (ExportedConvertPromise form sheet out lent)
-one-exported-convert form sheet out lent = one-exported (convertIn limits1 form (length out) sheet) out lent
+one-exported-convert form sheet out lent = one-exported (convertIn sheetLimits form (length out) sheet) out lent
 
 pub one-exported-lookup : (form : ℕ) (sheet : List ℕ) (year month day minute : ℕ) (lent : List ℕ)
     → OneAnswer (ExportedLookupPromise form sheet year month day minute lent)
 one-exported-lookup form sheet year month day minute lent =
-    one-told (leb 4 (length lent)) (λ b. put b (state.numbers (lookupIn limits1 form sheet year month day minute)) lent)
+    one-told (leb 4 (length lent)) (λ b. put b (state.numbers (lookupIn sheetLimits form sheet year month day minute)) lent)
 
 -- ## A buffer of bytes is known by its bits, so the writers' promises, which are about bits, leave one buffer
 pub one-stored : (stored one other : List ℕ) → Bytes one → Bytes other → sheetBits one ≡ stored → sheetBits other ≡ stored → one ≡ other

@@ -3,14 +3,14 @@
 use mathlib.Core.Path.{_≡_, refl, sym, ap, ap₂, _∙_, subst}
 use mathlib.Core.List.{List}
 use mathlib.Core.Option.{some}
-use Prim.Native.Nat.{ℕ, _≤_}
+use Prim.Native.Nat.{ℕ}
 use lib.ListN.{length, take, drop, getD}
 use lib.Seq.{take-append-seam}
 use contract.Lifetimes.{Lfts}
 use denote.Ref.{now}
 use denote.Triple.Clauses.{AtExit}
 use borrow.Fn.Kinds.{Dens, endedOf}
-use Rattle.definition.specs.Sheet.{Form, form1, form2, limits1}
+use Rattle.definition.specs.Sheet.{Form, form1, form2, sheetLimits}
 use Rattle.definition.specs.Fold as definition
 use Rattle.definition.specs.Fold.{unwritten}
 use Rattle.definition.specs.Forms.{formNamed, convert, other, convertIn}
@@ -32,23 +32,23 @@ front w out x p sized = ap₂ take (ap (λ l. getD l 1 0) (p .0) ∙ sized) (p .
 
 -- a number that names a form, and one by which all comes back
 module _ (number : ℕ) (form : Form) (named : formNamed number ≡ some form) (numberBack : ℕ)
-    (returns : GivesBack (convertIn limits1 number) (convertIn limits1 numberBack)) where
-  all-counted : (room : ℕ) (sheet : List ℕ) → (convertIn limits1 number room sheet) .code ≡ 0
-      → (convertIn limits1 number room sheet) .bytes ≡ length ((convertIn limits1 number room sheet) .result)
+    (returns : GivesBack (convertIn sheetLimits number) (convertIn sheetLimits numberBack)) where
+  all-counted : (room : ℕ) (sheet : List ℕ) → (convertIn sheetLimits number room sheet) .code ≡ 0
+      → (convertIn sheetLimits number room sheet) .bytes ≡ length ((convertIn sheetLimits number room sheet) .result)
   unfolding convertIn
   all-counted room sheet e =
-      let same = in-named unwritten (λ f. convert f (other f) limits1 room sheet) number form named in
-      let wrote = convert-writes form (other form) limits1 room sheet (sym (ap (λ w. w .code) same) ∙ e) in
+      let same = in-named unwritten (λ f. convert f (other f) sheetLimits room sheet) number form named in
+      let wrote = convert-writes form (other form) sheetLimits room sheet (sym (ap (λ w. w .code) same) ∙ e) in
       ap (λ w. w .bytes) same ∙ wrote .3 ∙ sym (ap length (ap (λ w. w .result) same ∙ wrote .2))
 
   module _ (sheet out : List ℕ) (there : Written × List ℕ) (p : ConvertPromise number sheet out there) (lent outBack : List ℕ) (back : Written × List ℕ)
       (q : ConvertPromise numberBack lent outBack back) where
     returned : lent ≡ converted there → Bytes sheet → ReturnTheorem sheet (length outBack) there back
     returned same bytes e l =
-        let first = convertIn limits1 number (length out) sheet in
+        let first = convertIn sheetLimits number (length out) sheet in
         let code = sym (ap (λ n. getD n 0 0) (p .0)) ∙ e in
         let moved = same ∙ front first out there p (all-counted (length out) sheet code) in
-        let answer = ap (convertIn limits1 numberBack (length outBack)) moved ∙ returns (length out) (length outBack) sheet bytes code l in
+        let answer = ap (convertIn sheetLimits numberBack (length outBack)) moved ∙ returns (length out) (length outBack) sheet bytes code l in
         let second = subst (λ w. WritesAs w outBack back) answer q in
         (ap (λ n. getD n 0 0) (second .0), front _ outBack back second refl)
 
@@ -60,7 +60,7 @@ module _ (κs : Lfts 2) (a : Dens κs convert-kinds.ps) (r : Written) (e : AtExi
   abbrev Returned : Type 0
   Returned = ReturnTheorem (now (a .1 .0)) (length (now (b .1 .1 .0))) (r, now (e .1 .1 .0)) (s, now (f .1 .1 .0))
 
-  by-numbers : (number : ℕ) (form : Form) → formNamed number ≡ some form → (numberBack : ℕ) → GivesBack (convertIn limits1 number) (convertIn limits1 numberBack)
+  by-numbers : (number : ℕ) (form : Form) → formNamed number ≡ some form → (numberBack : ℕ) → GivesBack (convertIn sheetLimits number) (convertIn sheetLimits numberBack)
       → a .0 ≡ number → b .0 ≡ numberBack → Returned
   by-numbers number form named numberBack returns one other =
       returned number form named numberBack returns (now (a .1 .0)) (now (a .1 .1 .0)) (r, now (e .1 .1 .0))

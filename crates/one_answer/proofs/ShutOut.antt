@@ -5,7 +5,7 @@ use Prim.Native.Nat.{ℕ}
 use native.Mathlib.Omega.{arith}
 use lib.ListN.{length, getD}
 use Rattle.definition.specs.Field.{bits, number, bytes}
-use Rattle.definition.specs.Sheet.{form1, limits1}
+use Rattle.definition.specs.Sheet.{form1, sheetLimits}
 use Rattle.definition.specs.Fold.{buffer, numbers, fold}
 use Rattle.definition.specs.Forms.{foldIn}
 use Rattle.definition.specs.Worked.{Case, Worked, room, p1, p2}
@@ -16,8 +16,8 @@ use Rattle.one_answer.specs.Promise.{FoldPromise}
 use Rattle.one_answer.specs.ShutOut.{Program, KeepsPromise, RefusesAll, OneFixedAnswer, CopiesSheet, DrainsNothing, FirstRuleOnly}
 
 module _ (program : Program) (out : List ℕ) (roomy : length out ≡ room) (kept : KeepsPromise program out) where
-  fold-meant : (sheet : List ℕ) → foldIn limits1 1 (length out) sheet ≡ fold form1 limits1 room sheet
-  fold-meant sheet = ap (λ n. foldIn limits1 1 n sheet) roomy ∙ (entries-by-number limits1 sheet .folds room) .one
+  fold-meant : (sheet : List ℕ) → foldIn sheetLimits 1 (length out) sheet ≡ fold form1 sheetLimits room sheet
+  fold-meant sheet = ap (λ n. foldIn sheetLimits 1 n sheet) roomy ∙ (entries-by-number sheetLimits sheet .folds room) .one
 
   -- a program that keeps the promise answers and writes at a worked day what the table says
   table-answered : (c : Case) → Worked c → FoldPromise 1 (c .sheet) out (program (c .sheet)) → foldNumbers ((program (c .sheet)) .0) ≡ c .answer

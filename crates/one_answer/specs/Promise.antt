@@ -6,7 +6,7 @@ use mathlib.Core.List.{List}
 use Prim.Native.Nat.{ℕ}
 use lib.Dec.{leb}
 use lib.ListN.{length}
-use Rattle.definition.specs.Sheet.{limits1}
+use Rattle.definition.specs.Sheet.{sheetLimits}
 use Rattle.definition.specs.Fold as definition
 use Rattle.definition.specs.Fold.{buffer, numbers, writtenNumbers}
 use Rattle.definition.specs.Forms.{foldIn, writeBackIn, showLineIn, lookupIn, convertIn}
@@ -33,39 +33,39 @@ ExportedWritesAs w out lent x =
 -- ## The entries that write, for a form's number, a sheet and a buffer
 module _ (form : ℕ) (sheet out : List ℕ) where
   abbrev pub FoldPromise : Folded × List ℕ → Type 0
-  FoldPromise x = (foldNumbers (x .0) ≡ numbers (foldIn limits1 form (length out) sheet))
-      × (x .1 ≡ buffer ((foldIn limits1 form (length out) sheet) .result) out)
+  FoldPromise x = (foldNumbers (x .0) ≡ numbers (foldIn sheetLimits form (length out) sheet))
+      × (x .1 ≡ buffer ((foldIn sheetLimits form (length out) sheet) .result) out)
 
   abbrev pub WriteBackPromise : Written × List ℕ → Type 0
-  WriteBackPromise = WritesAs (writeBackIn limits1 form (length out) sheet) out
+  WriteBackPromise = WritesAs (writeBackIn sheetLimits form (length out) sheet) out
 
   abbrev pub LinePromise : Written × List ℕ → Type 0
-  LinePromise = WritesAs (showLineIn limits1 form (length out) sheet) out
+  LinePromise = WritesAs (showLineIn sheetLimits form (length out) sheet) out
 
   abbrev pub ConvertPromise : Written × List ℕ → Type 0
-  ConvertPromise = WritesAs (convertIn limits1 form (length out) sheet) out
+  ConvertPromise = WritesAs (convertIn sheetLimits form (length out) sheet) out
 
   module _ (lent : List ℕ) where
     abbrev pub ExportedFoldPromise : Bool × (List ℕ × List ℕ) → Type 0
     ExportedFoldPromise x = (x .0 ≡ leb 7 (length lent))
-        × (x .1 .0 ≡ put (x .0) (numbers (foldIn limits1 form (length out) sheet)) lent)
-        × (x .1 .1 ≡ put (x .0) ((foldIn limits1 form (length out) sheet) .result) out)
+        × (x .1 .0 ≡ put (x .0) (numbers (foldIn sheetLimits form (length out) sheet)) lent)
+        × (x .1 .1 ≡ put (x .0) ((foldIn sheetLimits form (length out) sheet) .result) out)
 
     abbrev pub ExportedWriteBackPromise : Bool × (List ℕ × List ℕ) → Type 0
-    ExportedWriteBackPromise = ExportedWritesAs (writeBackIn limits1 form (length out) sheet) out lent
+    ExportedWriteBackPromise = ExportedWritesAs (writeBackIn sheetLimits form (length out) sheet) out lent
 
     abbrev pub ExportedLinePromise : Bool × (List ℕ × List ℕ) → Type 0
-    ExportedLinePromise = ExportedWritesAs (showLineIn limits1 form (length out) sheet) out lent
+    ExportedLinePromise = ExportedWritesAs (showLineIn sheetLimits form (length out) sheet) out lent
 
     abbrev pub ExportedConvertPromise : Bool × (List ℕ × List ℕ) → Type 0
-    ExportedConvertPromise = ExportedWritesAs (convertIn limits1 form (length out) sheet) out lent
+    ExportedConvertPromise = ExportedWritesAs (convertIn sheetLimits form (length out) sheet) out lent
 
 -- ## The lookup, for a form's number, a sheet, a date and a minute
 module _ (form : ℕ) (sheet : List ℕ) (year month day minute : ℕ) where
   abbrev pub LookupPromise : Answer → Type 0
-  LookupPromise x = lookedUp x ≡ lookupIn limits1 form sheet year month day minute
+  LookupPromise x = lookedUp x ≡ lookupIn sheetLimits form sheet year month day minute
 
   -- exported: whether there is an answer; the lent numbers after the call
   abbrev pub ExportedLookupPromise : List ℕ → Bool × List ℕ → Type 0
   ExportedLookupPromise lent x = (x .0 ≡ leb 4 (length lent))
-      × (x .1 ≡ put (x .0) (state.numbers (lookupIn limits1 form sheet year month day minute)) lent)
+      × (x .1 ≡ put (x .0) (state.numbers (lookupIn sheetLimits form sheet year month day minute)) lent)

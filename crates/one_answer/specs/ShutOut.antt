@@ -7,7 +7,7 @@ use Prim.Native.Nat.{ℕ, _≤_}
 use lib.ListN.{length, take}
 use Rattle.laws.specs.Lists.{All}
 use Rattle.definition.specs.Rule.{Rule}
-use Rattle.definition.specs.Sheet.{form1, limits1}
+use Rattle.definition.specs.Sheet.{form1, sheetLimits}
 use Rattle.definition.specs.Stop.{drained}
 use Rattle.definition.specs.Group.{pages, rulesOf}
 use Rattle.definition.specs.Fold.{buffer}
@@ -47,5 +47,5 @@ module _ (program : Program) where
   FirstRuleOnly = (sheet : List ℕ) → (program sheet) .0 .drained ≤ 1
 
   abbrev pub FirstGroupOnly : Type 0
-  FirstGroupOnly = (sheet : List ℕ) (rs : List Rule) → Accepted form1 limits1 sheet rs
+  FirstGroupOnly = (sheet : List ℕ) (rs : List Rule) → Accepted form1 sheetLimits sheet rs
       → (program sheet) .0 .emitted ≤ length (flatMap rulesOf (take 1 (pages (drained rs))))

@@ -9,7 +9,7 @@ use lib.Seq.{sets}
 use Rattle.laws.specs.Lists.{All}
 use Rattle.grid.specs.Group.{Set, Group}
 use Rattle.grid.proofs.Part.{Part}
-use Rattle.definition.specs.Sheet.{Form}
+use Rattle.definition.specs.Sheet.{Form, sheetLimits}
 use Rattle.definition.specs.Rule.{Rule}
 use Rattle.definition.specs.Range.{Ends}
 use Rattle.definition.specs.Point.{yearDimension, monthDimension, weekDimension, weekdayDimension, dimensions}
@@ -28,7 +28,7 @@ use Rattle.page_count.proofs.Sorts.{sizes-few, Writable, sort-writable}
 
 -- ## Rows of items that can be written
 module _ (Y M K D : List Ends) (years : Writable (upperOf 0) Y) (months : Writable (upperOf 1) M) (weeks : Writable (upperOf 2) K) (weekdays : Writable (upperOf 3) D) where
-  few-counts : (sort : ℕ) → getD (sorts Y M K D) sort 0 < 2 ^ 10
+  few-counts : (sort : ℕ) → getD (sorts Y M K D) sort 0 < 2 ^ 12
   few-counts zero = years .0
   few-counts (suc zero) = months .0
   few-counts (suc (suc zero)) = weeks .0
@@ -50,11 +50,11 @@ module _ (Y M K D : List Ends) (years : Writable (upperOf 0) Y) (months : Writab
       (record { four = omega arith; inside = omega (arith, ends-length Y M K D); few = few-counts; lawful = lawful-rows }))
 
 -- ## A group's page, and those behind it
-module _ (rows sizes cuts : List ℕ) (rs : List Rule) (cut : Cut rows sizes cuts rs) (bounded : Bounded rs dimensions) (few : sizeOf sizes 4 ≤ 1024) where
+module _ (rows sizes cuts : List ℕ) (rs : List Rule) (cut : Cut rows sizes cuts rs) (bounded : Bounded rs dimensions) (few : sizeOf sizes 4 ≤ sheetLimits .boxes) where
   cut-row : CutRows rows cuts sizes 4
   cut-row = cut-rows rows sizes cuts rs dimensions (cut .cut-by) bounded (cut .all-rows) (omega (arith, cut .four)) (cut .inside)
 
-  size-few : (i : ℕ) → i < 4 → getD sizes i 0 ≤ 1024
+  size-few : (i : ℕ) → i < 4 → getD sizes i 0 ≤ sheetLimits .boxes
   size-few i l = omega (arith, sizes-few sizes 4 (cut .filled) .1 i l)
 
   group-rows : (pages : List ℕ) (at v : ℕ) (rest : List ℕ) (S : Set ℕ) → Part (axes sizes 4) S → drop at pages ≡ groupNumbers rows cuts sizes 4 (v, S) ++ rest
@@ -92,7 +92,7 @@ module _ (rows sizes cuts : List ℕ) (rs : List Rule) (cut : Cut rows sizes cut
         (group-ready g at (groupsNumbers rows cuts sizes 4 gs ++ rest) (p .0) (d .0) first, pages-ready gs (at + pageSize pages at) rest (p .1) (d .1) (first .behind))
 
 -- THE PAGES FROM THE BUFFER'S FRONT ON
-pub text-ready : (rows sizes cuts : List ℕ) (rs : List Rule) → Cut rows sizes cuts rs → All Lawful rs → sizeOf sizes 4 ≤ 1024 → (form : Form) (states counts spans lists pages₀ pages : List ℕ) (room : ℕ)
+pub text-ready : (rows sizes cuts : List ℕ) (rs : List Rule) → Cut rows sizes cuts rs → All Lawful rs → sizeOf sizes 4 ≤ sheetLimits .boxes → (form : Form) (states counts spans lists pages₀ pages : List ℕ) (room : ℕ)
     (gs : List (Group ℕ ℕ)) → pages ≡ sets pages₀ 0 (groupsNumbers rows cuts sizes 4 gs) → length (groupsNumbers rows cuts sizes 4 gs) ≤ length pages₀
     → All (λ g. Part (axes sizes 4) (g .1)) gs → All (λ g. DayReady form states counts spans lists room (g .0)) gs → Pages form states counts spans lists pages room (length gs) 0
 text-ready rows sizes cuts rs cut lawful few form states counts spans lists pages₀ pages room gs laid inside parts days =

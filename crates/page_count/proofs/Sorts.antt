@@ -12,6 +12,7 @@ use borrow.Author.Tests.{eqb-true, eqb-false}
 use Rattle.laws.specs.Lists.{from, keep, All}
 use Rattle.definition.specs.Rule.{Rule}
 use Rattle.definition.specs.Range.{Ends}
+use Rattle.definition.specs.Sheet.{sheetLimits}
 use Rattle.definition.specs.Point.{Dimension}
 use Rattle.paving.specs.Grid.{sizeOf}
 use Rattle.tables.specs.Cuts as tables
@@ -40,11 +41,11 @@ sizes-few sizes (suc l) filled =
 
 -- items that a head can count and fields can carry
 abbrev pub Writable : ℕ → List Ends → Type 0
-Writable upper es = (length es < 2 ^ 10) × All (Below upper) es
+Writable upper es = (length es < 2 ^ 12) × All (Below upper) es
 
 module _ (rows sizes cuts : List ℕ) (rs : List Rule) where
   pub sort-writable : (d : Dimension) (ds : List Dimension) → CutBy rows sizes cuts rs (d ∷ ds) → Bounded rs (d ∷ ds) → Cuts cuts (getD rows (length ds) 0) (getD sizes (length ds) 0)
-      → getD sizes (length ds) 0 ≤ 1024 → (E : List ℕ) → (t : ℕ → Bool) × (E ≡ keep t (from 0 (getD sizes (length ds) 0))) → Writable (d .bounds .1) (sortItems rows cuts sizes (length ds) E)
+      → getD sizes (length ds) 0 ≤ sheetLimits .boxes → (E : List ℕ) → (t : ℕ → Bool) × (E ≡ keep t (from 0 (getD sizes (length ds) 0))) → Writable (d .bounds .1) (sortItems rows cuts sizes (length ds) E)
   unfolding sortItems runsOf tables.cutOf
   sort-writable d ds c b lawful size E (t, kept) =
       let i : ℕ = length ds in

@@ -1,14 +1,17 @@
 -- Pages read from the buffer: a page cut out of it, and pages one after the other, with the rules that they stand for.
 use mathlib.Core.Path.{_≡_, sym, ap, ap₂, _∙_, subst}
 use mathlib.Core.List.{List, [], _++_, flatMap}
+use mathlib.Core.Bool.{false, _||_}
 use Prim.Native.Nat.{ℕ, zero, suc, _+_, _-_, _≤_, _<_}
 use native.Mathlib.Omega.{arith}
 use lib.ListN.{length, getD, take, drop, length-append, length-drop}
 use lib.Seq.{length-take-le, take-add, take-take, drop-at, drop-drop, getD-take, getD-drop}
-use Rattle.laws.specs.Lists.{All}
+use Rattle.laws.specs.Lists.{All, anyOf}
+use Rattle.laws.proofs.Lists.{anyOf-append}
 use Rattle.laws.proofs.Spread.{flatMap-append}
 use Rattle.definition.specs.Rule.{Rule}
-use Rattle.definition.specs.Sheet.{Form, limits1, rule}
+use Rattle.definition.specs.Sheet.{Form, sheetLimits, rule}
+use Rattle.definition.specs.Fold.{manyItems}
 use Rattle.day_flat.specs.Day.{unflat}
 use Rattle.day_writer.specs.Rules.{rulesBits}
 use Rattle.tables.specs.Days.{Carried, boxWords, Ready}
@@ -83,6 +86,10 @@ module _ (form : Form) (W : ℕ → List ℕ) (pages : List ℕ) (at n : ℕ) wh
   unfolding flatMap
   none-bits e = ap (rulesBits form) (none e)
 
+  pub none-counted : n ≡ 0 → anyOf (manyItems form) all ≡ false
+  unfolding anyOf
+  none-counted e = ap (anyOf (manyItems form)) (none e)
+
   pub none-size : n ≡ 0 → (length all ≡ 0) × (length (rulesBits form all) ≡ 0)
   none-size e = (ap length (none e), ap length (none-bits e))
 
@@ -100,7 +107,10 @@ module _ (form : Form) (W : ℕ → List ℕ) (pages : List ℕ) (at n : ℕ) wh
         ap (λ k. pagesRules W (pagesAt k pages at)) e ∙ ap₂ (λ g s. pageRules W g ++ pagesRules W (pagesAt (n - 1) pages (at + s))) (sym read) (sym sized)
 
     pub more-bits : rulesBits form all ≡ rulesBits form first ++ rulesBits form later
-    more-bits = ap (rulesBits form) more ∙ flatMap-append (rule form limits1 .write) first later
+    more-bits = ap (rulesBits form) more ∙ flatMap-append (rule form sheetLimits .write) first later
+
+    pub more-counted : anyOf (manyItems form) all ≡ anyOf (manyItems form) first || anyOf (manyItems form) later
+    more-counted = ap (anyOf (manyItems form)) more ∙ anyOf-append (manyItems form) first later
 
     pub more-size : (r s a b : ℕ) → length first ≡ r → length later ≡ s → length (rulesBits form first) ≡ a → length (rulesBits form later) ≡ b
         → (length all ≡ r + s) × (length (rulesBits form all) ≡ a + b)

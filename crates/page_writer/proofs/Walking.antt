@@ -2,19 +2,31 @@
 -- lengths. Rests on the laws of one page more.
 use mathlib.Core.Path.{_≡_, refl, sym, ap, _∙_}
 use mathlib.Core.List.{List, [], _++_, append-nil, append-assoc}
+use mathlib.Core.Bool.{Bool, true, false, _||_}
 use Prim.Native.Nat.{ℕ, _+_, _-_, _*_, _≤_, _<_, _^_}
 use native.Mathlib.Omega.{arith}
 use lib.ListN.{length}
+use Rattle.laws.specs.Lists.{anyOf}
+use Rattle.laws.proofs.Flags.{or-false, split-or}
 use Rattle.definition.specs.Rule.{Rule}
 use Rattle.item_writer.specs.Written.{RoomFor, Wrote}
 use Rattle.item_writer.proofs.Chain.{wrote-then, room-first, room-rest, room-as, wrote-as, wrote-none}
 use Rattle.definition.specs.Sheet.{Form}
-use Rattle.day_writer.specs.Rules.{rulesBits}
+use Rattle.definition.specs.Fold.{manyItems}
+use Rattle.day_writer.specs.Rules.{Countable, rulesBits}
 use Rattle.box_day.specs.Boxes.{Scratch}
 use Rattle.tables.specs.Days.{boxWords}
 use Rattle.tables.specs.Sizes.{dayRoom}
 use Rattle.tables.specs.Pages.{pageSize, pageAt, pagesAt, pageRules, pagesRules, PageReady, Pages}
-use Rattle.page_writer.proofs.Reading.{cutOut, cut-page, none-bits, none-size, more-bits, more-size, pages-first, pages-later}
+use Rattle.page_writer.proofs.Reading.{cutOut, cut-page, none-bits, none-counted, none-size, more-bits, more-counted, more-size, pages-first, pages-later}
+
+-- ## Flags
+or-moves : (page later past : Bool) → page || later || past ≡ later || (past || page)
+or-moves true true past = refl
+or-moves true false true = refl
+or-moves true false false = refl
+or-moves false true past = refl
+or-moves false false past = sym (or-false past)
 
 -- ## The scratch of a day
 pub record Sized (ws bs cs ds es fs : List ℕ) : Type 0 where
@@ -36,13 +48,14 @@ module _ (form : Form) (states counts spans lists pages : List ℕ) (count : ℕ
   abbrev rulesFrom : ℕ → ℕ → List Rule
   rulesFrom n place = pagesRules (boxWords states counts spans lists) (pagesAt n pages place)
 
-  -- so many rules and bits so far, and so many pages left from here on
-  pub record Measured (left here rules bits : ℕ) : Type 0 where
+  -- so many rules and bits so far, whether one has more items than the form can count, and so many pages left from here on
+  pub record Measured (left here rules bits : ℕ) (past : Bool) : Type 0 where
     pub ready : Pages form states counts spans lists pages dayRoom left here
     pub ruled : length (rulesFrom count 0) ≡ rules + length (rulesFrom left here)
     pub sized : length (rulesBits form (rulesFrom count 0)) ≡ bits + length (rulesBits form (rulesFrom left here))
+    pub counted : anyOf (manyItems form) (rulesFrom count 0) ≡ anyOf (manyItems form) (rulesFrom left here) || past
     pub few : rules + 4096 * left ≤ 4096 * count
-    pub short : bits + 2 ^ 29 * left ≤ 2 ^ 29 * count
+    pub short : bits + 2 ^ 31 * left ≤ 2 ^ 31 * count
 
   -- some bits are written, which with those of so many pages left from here on are all; for these there is room
   pub record Writing (old : List ℕ) (place left here : ℕ) (out : List ℕ) (next : ℕ) : Type 0 where
@@ -50,18 +63,20 @@ module _ (form : Form) (states counts spans lists pages : List ℕ) (count : ℕ
     pub done : List ℕ
     pub wrote : Wrote old place done out next
     pub whole : rulesBits form (rulesFrom count 0) ≡ done ++ rulesBits form (rulesFrom left here)
+    pub countable : Countable form (rulesFrom left here)
     pub roomy : RoomFor (length out) next (rulesBits form (rulesFrom left here))
 
   -- at the beginning
-  pub measured-none : Pages form states counts spans lists pages dayRoom count 0 → Measured count 0 0 0
-  measured-none ready = record { ready = ready; ruled = omega arith; sized = omega arith; few = omega arith; short = omega arith }
+  pub measured-none : Pages form states counts spans lists pages dayRoom count 0 → Measured count 0 0 0 false
+  measured-none ready = record { ready = ready; ruled = omega arith; sized = omega arith; counted = sym (or-false (anyOf (manyItems form) (rulesFrom count 0))); few = omega arith; short = omega arith }
 
-  pub writing-none : Pages form states counts spans lists pages dayRoom count 0 → (old : List ℕ) (place : ℕ) → RoomFor (length old) place (rulesBits form (rulesFrom count 0))
+  pub writing-none : Pages form states counts spans lists pages dayRoom count 0 → Countable form (rulesFrom count 0) → (old : List ℕ) (place : ℕ) → RoomFor (length old) place (rulesBits form (rulesFrom count 0))
       → Writing old place count 0 old place
-  writing-none ready old place room = record { ready = ready; done = []; wrote = wrote-none refl; whole = refl; roomy = room }
+  writing-none ready countable old place room = record { ready = ready; done = []; wrote = wrote-none refl; whole = refl; countable = countable; roomy = room }
 
 -- ## Measuring
-module _ {form : Form} {states counts spans lists pages : List ℕ} {count left here rules bits : ℕ} (m : Measured form states counts spans lists pages count left here rules bits) where
+module _ {form : Form} {states counts spans lists pages : List ℕ} {count left here rules bits : ℕ} {past : Bool}
+    (m : Measured form states counts spans lists pages count left here rules bits past) where
   abbrev W : ℕ → List ℕ
   W = boxWords states counts spans lists
 
@@ -69,19 +84,26 @@ module _ {form : Form} {states counts spans lists pages : List ℕ} {count left 
   from = rulesFrom form states counts spans lists pages count
 
   pub measured-all : left ≡ 0
-      → (length (from count 0) ≡ rules) × (length (rulesBits form (from count 0)) ≡ bits) × (rules ≤ 4096 * count) × (bits ≤ 2 ^ 29 * count)
+      → (length (from count 0) ≡ rules) × (length (rulesBits form (from count 0)) ≡ bits) × (anyOf (manyItems form) (from count 0) ≡ past)
+      × (rules ≤ 4096 * count) × (bits ≤ 2 ^ 31 * count)
   measured-all e =
-      let none = none-size form W pages here left e in
-      (omega (arith, m .ruled, none .0), omega (arith, m .sized, none .1), omega (arith, m .few), omega (arith, m .short))
+      let none = none-size form W pages here left e in (
+        omega (arith, m .ruled, none .0),
+        omega (arith, m .sized, none .1),
+        m .counted ∙ ap (λ b. b || past) (none-counted form W pages here left e),
+        omega (arith, m .few),
+        omega (arith, m .short),
+      )
 
   pub measured-page : 0 < left → PageReady form states counts spans lists pages dayRoom here
   measured-page some = pages-first form states counts spans lists pages dayRoom left here some (m .ready)
 
   -- one page more
-  pub measured-more : (some : 0 < left) {size : ℕ} (sized : size ≡ pageSize pages here) → {r b : ℕ} → length (pageRules W (pageAt (cutOut pages here size) 0)) ≡ r
-      → length (rulesBits form (pageRules W (pageAt (cutOut pages here size) 0))) ≡ b → r ≤ 4096 → b ≤ 2 ^ 29
-      → Measured form states counts spans lists pages count (left - 1) (here + size) (rules + r) (bits + b)
-  measured-more some {size} sized {r} {b} p q u v =
+  pub measured-more : (some : 0 < left) {size : ℕ} (sized : size ≡ pageSize pages here) → {r b : ℕ} {page : Bool} → length (pageRules W (pageAt (cutOut pages here size) 0)) ≡ r
+      → length (rulesBits form (pageRules W (pageAt (cutOut pages here size) 0))) ≡ b
+      → anyOf (manyItems form) (pageRules W (pageAt (cutOut pages here size) 0)) ≡ page → r ≤ 4096 → b ≤ 2 ^ 31
+      → Measured form states counts spans lists pages count (left - 1) (here + size) (rules + r) (bits + b) (past || page)
+  measured-more some {size} sized {r} {b} {page} p q k u v =
       let read = cut-page pages here size sized (omega (arith, sized, measured-page some .inside)) in
       let later = from (left - 1) (here + size) in
       let more = more-size form W pages here left some size sized _ read r (length later) b (length (rulesBits form later)) p refl q refl in
@@ -89,6 +111,8 @@ module _ {form : Form} {states counts spans lists pages : List ℕ} {count left 
         ready = pages-later form states counts spans lists pages dayRoom left here size some sized (m .ready);
         ruled = omega (arith, m .ruled, more .0);
         sized = omega (arith, m .sized, more .1);
+        counted = m .counted ∙ ap (λ b. b || past) (more-counted form W pages here left some size sized _ read ∙ ap (λ b. b || anyOf (manyItems form) later) k)
+            ∙ or-moves page (anyOf (manyItems form) later) past;
         few = omega (arith, m .few, u);
         short = omega (arith, m .short, v);
       }
@@ -110,14 +134,29 @@ module _ {form : Form} {states counts spans lists pages : List ℕ} {count : ℕ
 
   -- one page more
   module _ (some : 0 < left) {size : ℕ} (sized : size ≡ pageSize pages here) where
+    abbrev pageRules′ : List Rule
+    pageRules′ = pageRules X (pageAt (cutOut pages here size) 0)
+
+    abbrev laterRules : List Rule
+    laterRules = rulesFrom form states counts spans lists pages count (left - 1) (here + size)
+
     abbrev pageBits : List ℕ
-    pageBits = rulesBits form (pageRules X (pageAt (cutOut pages here size) 0))
+    pageBits = rulesBits form pageRules′
 
     abbrev later : List ℕ
-    later = behind (left - 1) (here + size)
+    later = rulesBits form laterRules
+
+    read : pageAt (cutOut pages here size) 0 ≡ pageAt pages here
+    read = cut-page pages here size sized (omega (arith, sized, writing-page some .inside))
 
     more : behind left here ≡ pageBits ++ later
-    more = more-bits form X pages here left some size sized _ (cut-page pages here size sized (omega (arith, sized, writing-page some .inside)))
+    more = more-bits form X pages here left some size sized _ read
+
+    page-split : (anyOf (manyItems form) pageRules′ ≡ false) × (anyOf (manyItems form) laterRules ≡ false)
+    page-split = split-or _ _ (sym (more-counted form X pages here left some size sized _ read) ∙ w .countable)
+
+    pub page-countable : Countable form pageRules′
+    page-countable = page-split .0
 
     pub page-room : RoomFor (length out) next pageBits
     page-room = room-first pageBits later (room-as more (w .roomy))
@@ -128,5 +167,6 @@ module _ {form : Form} {states counts spans lists pages : List ℕ} {count : ℕ
       done = w .done ++ pageBits;
       wrote = wrote-then (w .wrote) v;
       whole = w .whole ∙ ap (w .done ++_) more ∙ sym (append-assoc (w .done) pageBits later);
+      countable = page-split .1;
       roomy = room-rest v later (room-as more (w .roomy));
     }

@@ -13,15 +13,17 @@ use tables::page::page_size;
 ghost use mathlib.Core.Path.{_≡_};
 ghost use Prim.Native.Nat.{_*_, _≤_, _<_, _^_};
 ghost use lib.ListN.{length};
+ghost use Rattle.laws.specs.Lists.{anyOf};
+ghost use Rattle.definition.specs.Fold.{manyItems};
 ghost use Rattle.forms.specs.Form.{asForm};
 ghost use Rattle.item_writer.specs.Written.{RoomFor, Wrote};
-ghost use Rattle.day_writer.specs.Rules.{rulesBits};
+ghost use Rattle.day_writer.specs.Rules.{Countable, rulesBits};
 ghost use Rattle.box_day.specs.Boxes.{Scratch};
 ghost use Rattle.tables.specs.Days.{boxWords};
 ghost use Rattle.tables.specs.Sizes.{dayRoom};
 ghost use Rattle.tables.specs.Pages.{pageSize, pageAt, pageRules, pagedRules, PageReady, Pages};
 
-// How many rules a page stands for, and how many bits they take.
+// How many rules a page stands for, how many bits they take, and whether one of them has more items of a sort than the form can count.
 fn measure_page(
     form: Form,
     words: &mut [u64],
@@ -43,7 +45,9 @@ fn measure_page(
         (pageAt (now (page .entry)) 0)) ≡ r .rules)
         × (length (rulesBits (asForm form) (pageRules (boxWords (now (states .entry)) (now («span_counts» .entry)) (now (spans .entry)) (now (lists .entry)))
         (pageAt (now (page .entry)) 0))) ≡ r .bits)
-        × (r .rules ≤ 4096) × (r .bits ≤ 2 ^ 29) ⌝ }
+        × (anyOf (manyItems (asForm form)) (pageRules (boxWords (now (states .entry)) (now («span_counts» .entry)) (now (spans .entry)) (now (lists .entry)))
+        (pageAt (now (page .entry)) 0)) ≡ r .past)
+        × (r .rules ≤ 4096) × (r .bits ≤ 2 ^ 31) ⌝ }
 {
     let count = fold_box(
         words,
@@ -61,7 +65,7 @@ fn measure_page(
     measure_day(form, words, count, &page[1..5])
 }
 
-// How many rules the first `count` pages stand for, and how many bits they take.
+// The same of the first `count` pages.
 pub fn measure_pages(
     form: Form,
     states: &[u32],
@@ -77,7 +81,9 @@ pub fn measure_pages(
         (now (pages .entry)) count) ≡ r .rules)
         × (length (rulesBits (asForm form) (pagedRules (now (states .entry)) (now («span_counts» .entry)) (now (spans .entry)) (now (lists .entry))
         (now (pages .entry)) count)) ≡ r .bits)
-        × (r .rules ≤ 4096 * count) × (r .bits ≤ 2 ^ 29 * count) ⌝ }
+        × (anyOf (manyItems (asForm form)) (pagedRules (now (states .entry)) (now («span_counts» .entry)) (now (spans .entry)) (now (lists .entry))
+        (now (pages .entry)) count) ≡ r .past)
+        × (r .rules ≤ 4096 * count) × (r .bits ≤ 2 ^ 31 * count) ⌝ }
 {
     let mut words = buffers::words();
     let mut span_states = buffers::states();
@@ -89,6 +95,7 @@ pub fn measure_pages(
     let mut pages_left = count;
     let mut rules: usize = 0;
     let mut bits: usize = 0;
+    let mut past = false;
     while pages_left > 0 {
         let size = page_size(pages, here);
         let page = measure_page(
@@ -107,13 +114,11 @@ pub fn measure_pages(
         );
         rules += page.rules;
         bits += page.bits;
+        past = past | page.past;
         here += size;
         pages_left -= 1;
     }
-    Measure {
-        rules: rules,
-        bits: bits,
-    }
+    Measure { rules, bits, past }
 }
 
 // Writes a page's rules; answers the place after them.
@@ -137,6 +142,7 @@ fn write_page(
         × (length (now page) ≡ pageSize (now page) 0) ⌝ }
     requires { ⌜ Scratch (length (now «span_states»)) (length (now «span_codes»)) (length (now strokes)) (length (now «minute_cuts»))
         (length (now «interval_states»)) ⌝ }
+    requires { ⌜ Countable (asForm form) (pageRules (boxWords (now states) (now «span_counts») (now spans) (now lists)) (pageAt (now page) 0)) ⌝ }
     requires { ⌜ RoomFor (length (now out)) place
         (rulesBits (asForm form) (pageRules (boxWords (now states) (now «span_counts») (now spans) (now lists)) (pageAt (now page) 0))) ⌝ }
     ensures { λ r. ⌜ Wrote (now (out .entry)) place
@@ -172,6 +178,7 @@ pub fn write_pages(
     count: usize,
 ) -> usize
     requires { ⌜ Pages (asForm form) (now states) (now «span_counts») (now spans) (now lists) (now pages) dayRoom count 0 ⌝ }
+    requires { ⌜ Countable (asForm form) (pagedRules (now states) (now «span_counts») (now spans) (now lists) (now pages) count) ⌝ }
     requires { ⌜ RoomFor (length (now out)) place
         (rulesBits (asForm form) (pagedRules (now states) (now «span_counts») (now spans) (now lists) (now pages) count)) ⌝ }
     ensures { λ r. ⌜ Wrote (now (out .entry)) place

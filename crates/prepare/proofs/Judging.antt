@@ -8,7 +8,7 @@ use borrow.Author.Tests.{lt-ltb, le-ltb}
 use Rattle.laws.specs.Lists.{onlyIf}
 use Rattle.definition.specs.Field.{daysTwice, manyBoxes}
 use Rattle.definition.specs.Rule.{Rule}
-use Rattle.definition.specs.Sheet.{limits1}
+use Rattle.definition.specs.Sheet.{sheetLimits}
 use Rattle.definition.specs.Point.{dimensions}
 use Rattle.definition.specs.Overlap.{firstOverlap}
 use Rattle.definition.specs.Box.{boxCount}
@@ -21,8 +21,8 @@ use Rattle.prepare.specs.Prepared.{Passed}
 
 module _ (ds : List Rule) (n twice : ℕ) (asked : Overlapping ds n twice) where
   -- 11
-  pub twice-refused : twice < n → drain limits1 ds ≡ over daysTwice twice
-  twice-refused h = drain-twice limits1 ds twice (asked .first ∙ ap (λ b. onlyIf b twice) (lt-ltb twice n h))
+  pub twice-refused : twice < n → drain sheetLimits ds ≡ over daysTwice twice
+  twice-refused h = drain-twice sheetLimits ds twice (asked .first ∙ ap (λ b. onlyIf b twice) (lt-ltb twice n h))
 
   module _ (h : n ≤ twice) where
     apart : firstOverlap ds ≡ none
@@ -30,9 +30,9 @@ module _ (ds : List Rule) (n twice : ℕ) (asked : Overlapping ds n twice) where
 
     module _ (boxes : ℕ) (many : boxes ≡ boxCount dimensions ds) where
       -- 5
-      pub boxes-refused : limits1 .boxes < boxes → drain limits1 ds ≡ over manyBoxes boxes
-      boxes-refused more = drain-many limits1 ds apart (omega (arith, many, more)) ∙ ap (over manyBoxes) (sym many)
+      pub boxes-refused : sheetLimits .boxes < boxes → drain sheetLimits ds ≡ over manyBoxes boxes
+      boxes-refused more = drain-many sheetLimits ds apart (omega (arith, many, more)) ∙ ap (over manyBoxes) (sym many)
 
       -- neither
-      pub rules-passed : (rows sizes cuts : List ℕ) → Cut rows sizes cuts ds → boxes ≤ limits1 .boxes → Passed sizes ds
+      pub rules-passed : (rows sizes cuts : List ℕ) → Cut rows sizes cuts ds → boxes ≤ sheetLimits .boxes → Passed sizes ds
       rules-passed rows sizes cuts c few = record { apart = apart; few-boxes = omega (arith, boxes-counted rows sizes cuts ds dimensions (c .cut-by), many, few) }

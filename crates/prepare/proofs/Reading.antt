@@ -10,7 +10,7 @@ use lib.Seq.{length-take-le, getD-take}
 use Rattle.laws.proofs.Lists.{every-all}
 use Rattle.definition.specs.Field.{sheetBits}
 use Rattle.definition.specs.Rule.{Rule}
-use Rattle.definition.specs.Sheet.{Form, form2, limits1, rule}
+use Rattle.definition.specs.Sheet.{Form, form2, sheetLimits, rule}
 use Rattle.definition.specs.Stop.{drained, why}
 use Rattle.definition.proofs.Bits.{Bytes}
 use Rattle.definition.proofs.Drained.{drained-fewer}
@@ -33,7 +33,7 @@ module _ (form : Form) (sheet : List ℕ) (bytes : Bytes sheet) (begins : List �
   same : rulesFrom form (sheetBits sheet) begins 0 count ≡ rs
   same = ap₂ (λ b n. rulesFrom form (sheetBits sheet) b 0 n) (reading .noted) many ∙ rules-noted form (reading .narrow) sheet bytes rs end (reading .read) (reading .before) (reading .room)
 
-  few : length rs ≤ limits1 .rules
+  few : length rs ≤ sheetLimits .rules
   few = rules-few form sheet rs end bytes (reading .read)
 
   -- ## What draining requires
@@ -46,11 +46,11 @@ module _ (form : Form) (sheet : List ℕ) (bytes : Bytes sheet) (begins : List �
   begins-there = omega (arith, many, begins-long form sheet begins bytes rs end reading .1)
 
   fits : AllFit (drained rs)
-  fits = drained-all _ rs (every-all _ ((rule form limits1) .fits) moves rs (rules-each form limits1 rs (encode-decoded form limits1 sheet bytes rs end (reading .read) .0)))
+  fits = drained-all _ rs (every-all _ ((rule form sheetLimits) .fits) moves rs (rules-each form sheetLimits rs (encode-decoded form sheetLimits sheet bytes rs end (reading .read) .0)))
     where
       -- form 2 carries what any form carries
-      moves : (r : Rule) → (rule form limits1) .fits r ≡ true → (rule form2 limits1) .fits r ≡ true
-      moves r f = rule-moves form form2 limits1 holds2 r f (omega (arith, comment-carried form limits1 r f, reading .narrow .comment-narrow))
+      moves : (r : Rule) → (rule form sheetLimits) .fits r ≡ true → (rule form2 sheetLimits) .fits r ≡ true
+      moves r f = rule-moves form form2 sheetLimits holds2 r f (omega (arith, comment-carried form sheetLimits r f, reading .narrow .comment-narrow))
 
   -- ## What it leaves
   module _ (n : ℕ) (states counts spans replacing rangeCounts ranges : List ℕ) (e : n ≡ length (drained (rulesFrom form (sheetBits sheet) begins 0 count)))

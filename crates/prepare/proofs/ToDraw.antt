@@ -7,7 +7,7 @@ use native.Mathlib.Omega.{arith}
 use lib.ListN.{length, take}
 use lib.Seq.{length-take-le}
 use Rattle.definition.specs.Rule.{Rule}
-use Rattle.definition.specs.Sheet.{limits1}
+use Rattle.definition.specs.Sheet.{sheetLimits}
 use Rattle.definition.specs.Stop.{drained, why}
 use Rattle.definition.specs.Point.{dimensions}
 use Rattle.definition.specs.Box.{boxCount}
@@ -20,7 +20,7 @@ use Rattle.prepare.specs.declared.Judged.{Judged}
 use Rattle.prepare.specs.declared.Judged.the-variants.{Fine, Refused}
 
 pub boxes-few : (states counts spans replacing rangeCounts ranges rows sizes cuts : List ℕ) (rs : List Rule)
-    → ToDraw states counts spans replacing rangeCounts ranges rows sizes cuts rs → boxCount dimensions rs ≤ limits1 .boxes
+    → ToDraw states counts spans replacing rangeCounts ranges rows sizes cuts rs → boxCount dimensions rs ≤ sheetLimits .boxes
 boxes-few states counts spans replacing rangeCounts ranges rows sizes cuts rs given =
     omega (arith, boxes-counted rows sizes cuts rs dimensions (given .drawable .2 .cut-by), given .passed .few-boxes)
 
@@ -45,6 +45,6 @@ module _ (states counts spans replacing rangeCounts ranges rows sizes cuts : Lis
   unfolding Judges
   judged-fine n reason e = subst (Judges states counts spans replacing rangeCounts ranges rows sizes cuts rs) e answer
 
-  pub judged-refused : (c p : ℕ) → r ≡ Refused c p → drain limits1 (drained rs) ≡ over c p
+  pub judged-refused : (c p : ℕ) → r ≡ Refused c p → drain sheetLimits (drained rs) ≡ over c p
   unfolding Judges
   judged-refused c p e = subst (Judges states counts spans replacing rangeCounts ranges rows sizes cuts rs) e answer

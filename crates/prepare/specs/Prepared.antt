@@ -5,7 +5,7 @@ use mathlib.Core.Option.{none}
 use Prim.Native.Nat.{ℕ, _*_, _≤_}
 use lib.ListN.{length, take}
 use Rattle.definition.specs.Rule.{Rule}
-use Rattle.definition.specs.Sheet.{Form, limits1}
+use Rattle.definition.specs.Sheet.{Form, sheetLimits}
 use Rattle.definition.specs.Stop.{drained, why}
 use Rattle.definition.specs.Overlap.{firstOverlap}
 use Rattle.definition.specs.Fold.{over, drain}
@@ -29,12 +29,12 @@ EachReading form sheet begins n P = (rs : List Rule) (end : ℕ) → SheetRead f
 -- 11 and 5 pass them: none has days typed twice, and there are no more boxes between their cuts than the limit
 pub record Passed (sizes : List ℕ) (rs : List Rule) : Type 0 where
   pub apart : firstOverlap rs ≡ none
-  pub few-boxes : sizeOf sizes 4 ≤ limits1 .boxes
+  pub few-boxes : sizeOf sizes 4 ≤ sheetLimits .boxes
 
 -- THE ANSWER about so many rules ds in tables: the rows of their cuts; or the definition's refusal
 unfoldable pub JudgesDays : (rows sizes cuts : List ℕ) → ℕ → ℕ → List Rule → Judged → Type 0
 JudgesDays rows sizes cuts rules reason ds (Fine n v) = (n ≡ rules) × (v ≡ reason) × Cut rows sizes cuts ds × Passed sizes ds
-JudgesDays rows sizes cuts rules reason ds (Refused c p) = drain limits1 ds ≡ over c p
+JudgesDays rows sizes cuts rules reason ds (Refused c p) = drain sheetLimits ds ≡ over c p
 
 -- THE TABLES of so many rules, and the rows of their cuts
 pub record Prepared (states counts spans replacing rangeCounts ranges rows sizes cuts : List ℕ) (rs : List Rule) (n : ℕ) : Type 0 where
@@ -47,7 +47,7 @@ pub record Prepared (states counts spans replacing rangeCounts ranges rows sizes
 unfoldable pub Judges : (states counts spans replacing rangeCounts ranges rows sizes cuts : List ℕ) → List Rule → Judged → Type 0
 Judges states counts spans replacing rangeCounts ranges rows sizes cuts rs (Fine n reason) =
     Prepared states counts spans replacing rangeCounts ranges rows sizes cuts (drained rs) n × (reason ≡ why rs)
-Judges states counts spans replacing rangeCounts ranges rows sizes cuts rs (Refused c p) = drain limits1 (drained rs) ≡ over c p
+Judges states counts spans replacing rangeCounts ranges rows sizes cuts rs (Refused c p) = drain sheetLimits (drained rs) ≡ over c p
 
 -- THE TABLES OF SOME RULES AND OF NO OTHERS, and the rows of their cuts: these are drawn next
 pub record ToDraw (states counts spans replacing rangeCounts ranges rows sizes cuts : List ℕ) (rs : List Rule) : Type 0 where

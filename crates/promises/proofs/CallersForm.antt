@@ -5,7 +5,7 @@ use mathlib.Core.List.{List}
 use mathlib.Core.Option.{none}
 use Prim.Native.Nat.{ℕ}
 use borrow.Author.Tests.{ne-eqb}
-use Rattle.definition.specs.Sheet.{Form, Limits, limits1}
+use Rattle.definition.specs.Sheet.{Form, Limits, sheetLimits}
 use Rattle.definition.specs.Forms.{formNamed, inForm, foldIn, writeBackIn, showLineIn, lookupIn, convertIn}
 use Rattle.promises.specs.Convert.{GivesBack}
 use Rattle.promises.specs.CallersForm.{ByNumber, EntriesByNumber}
@@ -30,10 +30,10 @@ entries-by-number limits sheet = record {
 }
 
 -- THERE AND BACK, from form 1 and from form 2
-pub back-to-one : GivesBack (convertIn limits1 1) (convertIn limits1 2)
+pub back-to-one : GivesBack (convertIn sheetLimits 1) (convertIn sheetLimits 2)
 unfolding convertIn inForm formNamed
 back-to-one = moves-there .back
 
-pub back-to-two : GivesBack (convertIn limits1 2) (convertIn limits1 1)
+pub back-to-two : GivesBack (convertIn sheetLimits 2) (convertIn sheetLimits 1)
 unfolding convertIn inForm formNamed
 back-to-two = moves-back .back

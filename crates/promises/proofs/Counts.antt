@@ -10,17 +10,16 @@ use Rattle.definition.proofs.Drained.{left-behind}
 use Rattle.definition.specs.Group.{folded}
 use Rattle.definition.specs.Fold.{Folded, fold}
 use Rattle.promises.specs.Conditions.{Accepted}
-use Rattle.promises.specs.Codes.{Done}
 use Rattle.promises.specs.Counts.{Counted, Nothing, AcceptedCounts, RefusedNothing, SameFolded}
 use Rattle.promises.proofs.Reading.{accepted-once}
-use Rattle.promises.proofs.FoldCodes.{done-answer, refused-whole, fold-codes}
+use Rattle.promises.proofs.FoldCodes.{Done, done-answer, refused-whole, fold-codes}
 
 module _ (form : Form) (limits : Limits) (room : ℕ) (sheet : List ℕ) where
   abbrev answer : Folded
   answer = fold form limits room sheet
 
   -- what an accepted fold answers
-  done-counted : (p : ℕ) (d : Done form limits sheet room p) → Counted form limits (d .0) answer
+  done-counted : (p : ℕ) (d : Done form limits room sheet p) → Counted form limits (d .0) answer
   done-counted p d = subst (Counted form limits (d .0)) (sym (done-answer form limits room sheet p d)) (record {
     drained-counted = refl;
     left-counted = refl;
@@ -31,7 +30,7 @@ module _ (form : Form) (limits : Limits) (room : ℕ) (sheet : List ℕ) where
     bytes-counted = refl;
   })
 
-  accepted-done : answer .code ≡ 0 → Done form limits sheet room (answer .place)
+  accepted-done : answer .code ≡ 0 → Done form limits room sheet (answer .place)
   accepted-done e = (fold-codes form limits room sheet 0 (answer .place)) .only (e, refl)
 
   -- THE COUNTS
@@ -39,7 +38,7 @@ module _ (form : Form) (limits : Limits) (room : ℕ) (sheet : List ℕ) where
   accepted-counts e =
       let d = accepted-done e in
       let k = done-counted (answer .place) d in
-      (d .0, d .1 .0 .0 .0, k, subst (_≤ room) (sym (k .bytes-counted ∙ ap length (k .written))) (d .2))
+      (d .0, d .1 .0 .0 .0 .0, k, subst (_≤ room) (sym (k .bytes-counted ∙ ap length (k .written))) (d .2))
 
   -- the same of the rules that the sheet is read as
   pub counted-rules : answer .code ≡ 0 → (rs : List Rule) → Accepted form limits sheet rs → Counted form limits rs answer

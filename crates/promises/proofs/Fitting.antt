@@ -21,7 +21,7 @@ use Rattle.grid.proofs.Cut.{in-holds, holds-in}
 use Rattle.definition.specs.Field.{noBits, field, _then_, via, tagged, several}
 use Rattle.definition.specs.Rule.{yearBounds, monthBounds, weekBounds, weekdayBounds, Operator, Normal, Additional, Fallback, operatorNumber, Kind, Open, Closed, Unknown, kindNumber, months, fixedDays, Rule}
 use Rattle.definition.specs.Range.{Ends}
-use Rattle.definition.specs.Sheet.{Form, Limits, yearRange, monthdayOf, monthdayRange, weekRange, weekdayOf, weekDayRange, timeOf, time, repeatsOf, repeatsLayout, span, title, counts, head, body, rule}
+use Rattle.definition.specs.Sheet.{Form, Limits, mostItems, yearRange, monthdayOf, monthdayRange, weekRange, weekdayOf, weekDayRange, timeOf, time, repeatsOf, repeatsLayout, span, title, counts, head, body, rule}
 use Rattle.definition.specs.Stop.{everyNth}
 use Rattle.definition.specs.Point.{dimensions, points}
 use Rattle.definition.specs.Day.{Entry, plainSpan}
@@ -132,15 +132,12 @@ module _ (form : Form) (limits : Limits) where
     spans-fit = h;
   }
 
-  abbrev most : ℕ
-  most = 2 ^ form .itemCount - 1
-
-  count-fits : (n : ℕ) → n ≤ most → ltb n (2 ^ form .itemCount) && leb n most ≡ true
-  count-fits n l = both-and (ltb n (2 ^ form .itemCount)) (leb n most) (lt-ltb n (2 ^ form .itemCount) (omega (arith, l, pow-pos (form .itemCount))))
-      (le-leb n most l)
+  count-fits : (n : ℕ) → n ≤ mostItems form → ltb n (2 ^ form .itemCount) && leb n (mostItems form) ≡ true
+  count-fits n l = both-and (ltb n (2 ^ form .itemCount)) (leb n (mostItems form)) (lt-ltb n (2 ^ form .itemCount) (omega (arith, l, pow-pos (form .itemCount))))
+      (le-leb n (mostItems form) l)
 
   -- a rule whose comment, counts and items fit
-  pub rule-fits : (r : Rule) → r .state .comment < 2 ^ form .comment → Sized most most r → ItemsFit form limits r
+  pub rule-fits : (r : Rule) → r .state .comment < 2 ^ form .comment → Sized (mostItems form) (mostItems form) r → ItemsFit form limits r
       → (rule form (widest form limits)) .fits r ≡ true
   unfolding rule tagged head title counts body via _then_ several field
   rule-fits r c s i =

@@ -19,7 +19,7 @@ use Rattle.definition.specs.Group.{pages, rulesOf, folded}
 use Rattle.definition.proofs.PaintedShows.{ProperRun}
 use Rattle.definition.proofs.Groups.{pointGroups}
 use Rattle.promises.specs.Meaning.{SaySame, InGroups, SameMeaning}
-use Rattle.promises.specs.ReadBack.{written}
+use Rattle.promises.specs.Conditions.{written}
 use Rattle.promises.proofs.Group.{Sound, rules-go}
 use Rattle.promises.proofs.Pages.{pages-hold}
 use Rattle.promises.proofs.Meaning.{sound, folded-says, folded-groups}

@@ -11,6 +11,7 @@ pub mod TooLong
 pub mod Twice
 pub mod Reading
 pub mod Draining
+pub mod PastCounts
 pub mod FoldCodes
 pub mod Entries
 pub mod BackCodes
@@ -23,5 +24,8 @@ pub mod Looking
 pub mod Fitting
 pub mod ReadBack
 pub mod Convert
+pub mod SheetBytes
 pub mod ThereAndBack
 pub mod CallersForm
+pub mod RaisedReading
+pub mod LargerSheets

@@ -32,8 +32,8 @@ none-twice ds p h n =
 pub once : (form : Form) (limits : Limits) (room : ℕ) (sheet : List ℕ) → Once form limits room sheet
 once form limits room sheet whole e rs a p =
     let d = (fold-codes form limits room sheet 0 ((fold form limits room sheet) .place)) .only (e, refl) in
-    let same = accepted-once form limits sheet (d .0) rs (d .1 .0 .0 .0) a in
+    let same = accepted-once form limits sheet (d .0) rs (d .1 .0 .0 .0 .0) a in
     let lawful = drained-all Lawful rs (rules-lawful form limits rs (encode-decoded form limits sheet whole rs (a .0) (a .1) .0)) in
-    let apart = all-apart (drained rs) (subst (λ qs. AllOnce (drained qs)) same (d .1 .0 .0 .1)) in
+    let apart = all-apart (drained rs) (subst (λ qs. AllOnce (drained qs)) same (d .1 .0 .0 .0 .1)) in
     let covers = All-map₂ (λ r l o. covers-once r l o p) (drained rs) lawful apart in
     (covers, none-twice (drained rs) p covers)

@@ -1,12 +1,13 @@
 -- DEMAND 3, FROM BYTES TO BYTES: what an accepted fold wrote is read again as its folded rules and the rules left. Rests on the law that it
--- fits the layout, and on the round trip of sheets.
+-- fits the layout, as 13 lets nothing else be written, and on the round trip of sheets.
 use mathlib.Core.Path.{_≡_, refl, sym, ap, _∙_, subst}
 use mathlib.Core.List.{List, [], _∷_, map}
-use mathlib.Core.Bool.{Bool, true, false, _&&_}
-use Prim.Native.Nat.{ℕ, _-_, _^_, _<_}
+use mathlib.Core.Bool.{true, _&&_}
+use Prim.Native.Nat.{ℕ, _^_, _<_}
 use native.Mathlib.Omega.{arith}
 use lib.Dec.{eqb, ltb}
 use lib.ListN.{length}
+use lib.Pow.{pow-pos}
 use borrow.Author.Tests.{lt-ltb, le-leb, eq-eqb}
 use Rattle.laws.specs.Lists.{All}
 use Rattle.laws.proofs.Flags.{split-and, both-and}
@@ -14,41 +15,31 @@ use Rattle.laws.proofs.Lists.{All-map, All-map₂, All-append, every-all, all-e
 use Rattle.laws.proofs.Spread.{flatMap-all}
 use Rattle.grid.specs.Group.{Group}
 use Rattle.grid.specs.Cut.{asRuns}
-use Rattle.definition.specs.Field.{got, field, _then_, via, tagged, several}
+use Rattle.definition.specs.Field.{field, _then_, via, tagged, several}
 use Rattle.definition.specs.Rule.{State, Span, Rule}
-use Rattle.definition.specs.Sheet.{Form, Limits, form1, form2, limits1, span, title, counts, head, body, rule, opening, rules, decode, encode}
-use Rattle.definition.specs.Stop.{stops, drained, left}
+use Rattle.definition.specs.Sheet.{Form, Limits, mostRules, span, title, counts, head, body, rule, opening, rules, decode, encode}
+use Rattle.definition.specs.Stop.{drained, left}
 use Rattle.definition.specs.Day.{Day}
 use Rattle.definition.specs.Group.{pages, rulesOf, folded}
-use Rattle.definition.specs.Fold.{fine, drain, fold}
-use Rattle.definition.proofs.Bits.{Bytes}
+use Rattle.definition.specs.Fold.{fold}
 use Rattle.definition.proofs.SheetRead.{encode-decoded, decode-encoded}
 use Rattle.definition.proofs.Lawful.{ItemsFit, items-fit, rules-each}
 use Rattle.definition.proofs.FoldBox.{drained-all}
 use Rattle.definition.proofs.DayHolds.{InDay}
 use Rattle.definition.proofs.Groups.{pointGroups}
-use Rattle.definition.proofs.RuleCounts.{Roomy, roomy1, roomy2, counts-fit}
+use Rattle.definition.proofs.RuleCounts.{CountsFit, left-all}
 use Rattle.definition.proofs.Carried.{comment-carried}
-use Rattle.promises.specs.Conditions.{Accepted}
+use Rattle.promises.specs.Conditions.{written, Accepted}
 use Rattle.promises.specs.Codes.{result}
-use Rattle.promises.specs.ReadBack.{widest, written, FoldReads}
+use Rattle.promises.specs.ReadBack.{widest, FoldReads}
 use Rattle.promises.proofs.Laid.{laid}
 use Rattle.promises.proofs.Group.{Sound, rules-all}
 use Rattle.promises.proofs.Meaning.{sound}
 use Rattle.promises.proofs.Going.{written-means}
 use Rattle.promises.proofs.Pages.{pages-hold}
 use Rattle.promises.proofs.Fitting.{plain-fits, laid-items, rule-fits}
-use Rattle.promises.proofs.Draining.{drain-fine}
+use Rattle.promises.proofs.PastCounts.{none-fits}
 use Rattle.promises.proofs.FoldCodes.{done-answer, fold-codes}
-
-left-all : (P : Rule → Type 0) (rs : List Rule) → All P rs → All P (left rs)
-unfolding left
-left-all P [] h = tt
-left-all P (r ∷ rs) h = go (stops r) refl (left-all P rs (h .1))
-  where
-    go : (b : Bool) → stops r ≡ b → All P (left rs) → All P (left (r ∷ rs))
-    go true e ih = rw (e, left) h
-    go false e ih = rw (e, left) ih
 
 module _ (form : Form) (limits : Limits) where
   -- what of a rule fits whatever the limits are
@@ -86,31 +77,27 @@ module _ (form : Form) (limits : Limits) where
   pub written-lawful : (rs : List Rule) → (rules form limits) .fits rs ≡ true → All Lawful (written rs)
   written-lawful rs carried =
       let h = every-all Lawful ((rule form limits) .fits) rule-lawful rs (rules-each form limits rs carried) in
-      All-append Lawful (folded (drained rs)) (left rs) (folded-lawful (drained rs) (drained-all Lawful rs h)) (left-all Lawful rs h)
+      All-append Lawful (folded (drained rs)) (left rs) (folded-lawful (drained rs) (drained-all Lawful rs h)) (left-all Lawful rs h .0)
 
   -- the bits don't depend on the limits
   pub same-bits : (wide : Limits) (ws : List Rule) → encode form wide ws ≡ encode form limits ws
   unfolding encode rules opening rule head title counts body tagged via _then_ several field
   same-bits wide ws = refl
 
-  module _ (roomy : Roomy form limits) (sheet : List ℕ) (whole : Bytes sheet) (rs : List Rule) (q : ℕ) (e : decode form limits sheet ≡ got rs q)
-      (f : drain limits (drained rs) ≡ fine) where
-    carried : (rules form limits) .fits rs ≡ true
-    carried = encode-decoded form limits sheet whole rs q e .0
-
+  -- rules that a sheet carries, whose result the form's counts can carry
+  module _ (rs : List Rule) (carried : (rules form limits) .fits rs ≡ true) (few : CountsFit form (written rs)) where
     written-fits : (rules form (widest form limits)) .fits (written rs) ≡ true
     unfolding rules tagged opening via _then_ several field
     written-fits =
-        let k = counts-fit form limits roomy sheet whole rs q e f in
         let ws = written rs in
         let n = length ws in
         -- the sheet starts with the same mark
         let mark = ltb (form .mark) (2 ^ form .markWidth) && eqb (form .mark) (form .mark) in
         let marked = split-and mark _ (split-and ((opening form limits) .fits (length rs)) _ carried .0) .0 in
         both-and _ _ (both-and mark _ marked
-        (both-and _ _ (lt-ltb n (2 ^ form .ruleCount) (k .rule-count)) (le-leb n (2 ^ form .ruleCount - 1) (omega (arith, k .rule-count)))))
+        (both-and _ _ (lt-ltb n (2 ^ form .ruleCount) (omega (arith, few .rule-count, pow-pos (form .ruleCount)))) (le-leb n (mostRules form) (few .rule-count))))
         (both-and _ _ (eq-eqb n n refl) (all-every ((rule form (widest form limits)) .fits) ws
-        (All-map₂ (λ r s l. rule-fits form limits r (l .0) s (l .1)) ws (k .item-counts) (written-lawful rs carried))))
+        (All-map₂ (λ r s l. rule-fits form limits r (l .0) s (l .1)) ws (few .item-counts) (written-lawful rs carried))))
 
     -- WHAT WAS WRITTEN IS READ AGAIN
     pub written-read : Accepted form (widest form limits) (result form limits rs) (written rs)
@@ -119,24 +106,17 @@ module _ (form : Form) (limits : Limits) where
       ap (decode form (widest form limits)) (sym (same-bits (widest form limits) (written rs))) ∙ decode-encoded form (widest form limits) (written rs) written-fits,
     )
 
-  -- DEMAND 3, where the form's counts can carry what the limits allow to come out
-  pub fold-reads : Roomy form limits → (room : ℕ) (sheet : List ℕ) → FoldReads form limits room sheet
-  fold-reads roomy room sheet whole e =
-      let d = (fold-codes form limits room sheet 0 ((fold form limits room sheet) .place)) .only (e, refl) in
+  -- DEMAND 3
+  pub fold-reads : (room : ℕ) (sheet : List ℕ) → FoldReads form limits room sheet
+  fold-reads room sheet whole e =
+      let place = (fold form limits room sheet) .place in
+      let d = (fold-codes form limits room sheet 0 place) .only (e, refl) in
       let rs = d .0 in
-      let a = d .1 .0 .0 .0 in
-      let f = drain-fine limits (drained rs) (d .1 .0 .0 .1) (d .1 .0 .1) (d .1 .1) in
-      let r = done-answer form limits room sheet ((fold form limits room sheet) .place) d in (
+      let a = d .1 .0 .0 .0 .0 in
+      let carried = encode-decoded form limits sheet whole rs (a .0) (a .1) .0 in (
         rs,
         a,
-        subst (λ bytes. Accepted form (widest form limits) bytes (written rs)) (sym (ap (λ g. g .result) r))
-            (written-read roomy sheet whole rs (a .0) (a .1) f),
+        subst (λ bytes. Accepted form (widest form limits) bytes (written rs)) (sym (ap (λ g. g .result) (done-answer form limits room sheet place d)))
+            (written-read rs carried (none-fits form (written rs) (d .1 .1))),
         written-means rs,
       )
-
--- under 01's limits, in both forms
-pub fold-reads1 : (room : ℕ) (sheet : List ℕ) → FoldReads form1 limits1 room sheet
-fold-reads1 = fold-reads form1 limits1 roomy1
-
-pub fold-reads2 : (room : ℕ) (sheet : List ℕ) → FoldReads form2 limits1 room sheet
-fold-reads2 = fold-reads form2 limits1 roomy2

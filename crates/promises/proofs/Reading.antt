@@ -31,7 +31,7 @@ accepted-once form limits sheet rs qs a b =
 
 module _ (form : Form) (limits : Limits) (sheet : List ℕ) where
   -- ## Each condition settles the reading
-  met-read : (c p : ℕ) → Met form limits sheet c p → decode form limits sheet ≡ refused c p
+  pub met-read : (c p : ℕ) → Met form limits sheet c p → decode form limits sheet ≡ refused c p
   unfolding decode
   met-read c p e = rw e
 

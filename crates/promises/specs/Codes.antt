@@ -1,26 +1,24 @@
 -- Demand 1: when each code comes, and with which place, both ways: the table of 01 for the fold, for writing back and for the lookup, with 02's
--- 11, and 02's for the line; the conversion's stands in Convert. A number that stands in no row is never answered.
+-- 11 and 13, and 02's for the line; the conversion's stands in Convert. A number that stands in no row is never answered.
 use mathlib.Core.Path.{_≡_}
-use mathlib.Core.List.{List, [], _++_, map}
+use mathlib.Core.List.{List, [], map}
 use mathlib.Core.Bool.{Bool, true, false, _&&_}
-use Prim.Native.Nat.{ℕ, _≤_, _<_}
+use Prim.Native.Nat.{ℕ}
 use lib.Dec.{eqb, ltb}
-use lib.ListN.{length}
 use Rattle.laws.specs.Lists.{All}
-use Rattle.definition.specs.Field.{sheetBits, daysTwice, manyBoxes, longList, noRoom, noDate, unsettled, noWords}
+use Rattle.definition.specs.Field.{sheetBits, daysTwice, manyBoxes, longList, pastCounts, noDate, unsettled, noWords}
 use Rattle.definition.specs.Rule.{midnight24, Rule}
 use Rattle.definition.specs.Sheet.{Form, Limits, encode}
 use Rattle.definition.specs.Stop.{drained, left}
 use Rattle.definition.specs.Point.{listAt}
 use Rattle.definition.specs.Day.{entryOf, flattened, simple}
-use Rattle.definition.specs.Group.{folded}
 use Rattle.definition.specs.Date.{isDate, pointOf}
 use Rattle.definition.specs.Fold.{fold, writeBack}
 use Rattle.definition.specs.Line.{line}
 use Rattle.definition.specs.Show.{showLine}
 use Rattle.definition.specs.Lookup.{lookup}
 use Rattle.promises.specs.Fields.{FieldKind, Refused}
-use Rattle.promises.specs.Conditions.{Met, Accepted, DaysTwice, ManyBoxes, LongList, Foldable, NoWords, Showable, given, ReadingRows, WritingRows}
+use Rattle.promises.specs.Conditions.{Met, Accepted, written, DaysTwice, ManyBoxes, LongList, Foldable, PastCounts, Writable, NoWords, Showable, given, ReadingRows, WritingRows}
 
 -- the one exactly when the other
 pub record Exactly (A B : Type 0) : Type 0 where
@@ -29,7 +27,7 @@ pub record Exactly (A B : Type 0) : Type 0 where
 
 -- what an accepted fold writes: the folded rules, then the rules left
 abbrev pub result : Form → Limits → List Rule → List ℕ
-result form limits rs = encode form limits (folded (drained rs) ++ left rs)
+result form limits rs = encode form limits (written rs)
 
 -- there are such a date and minute
 abbrev pub dated : ℕ → ℕ → ℕ → ℕ → Bool
@@ -46,19 +44,13 @@ module _ (form : Form) (limits : Limits) (sheet : List ℕ) where
 
   -- ## The fold, into a buffer of `room` bytes
   module _ (room : ℕ) where
-    abbrev pub NoRoom : ℕ → Type 0
-    NoRoom p = (rs : List Rule) × Foldable form limits sheet rs × (room < length (result form limits rs)) × (p ≡ length (result form limits rs))
-
-    abbrev pub Done : ℕ → Type 0
-    Done p = (rs : List Rule) × Foldable form limits sheet rs × (length (result form limits rs) ≤ room) × (p ≡ 0)
-
     abbrev pub FoldRows : ℕ → ℕ → Type 0
     FoldRows c p = ReadingRows form limits sheet c p
         (given (eqb c daysTwice) (DaysTwice form limits sheet p)
         (given (eqb c manyBoxes) (ManyBoxes form limits sheet p)
         (given (eqb c longList) (LongList form limits sheet p)
-        (given (eqb c noRoom) (NoRoom p)
-        (given (eqb c 0) (Done p) ⊥)))))
+        (given (eqb c pastCounts) (PastCounts form limits sheet p)
+        (WritingRows room (Writable form limits sheet) (result form limits) c p)))))
 
     abbrev pub FoldAnswers : ℕ → ℕ → Type 0
     FoldAnswers c p = ((fold form limits room sheet) .code ≡ c) × ((fold form limits room sheet) .place ≡ p)

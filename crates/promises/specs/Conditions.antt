@@ -1,7 +1,7 @@
 -- 01, "Numbers of the answer": the conditions that the table of codes speaks of, each without those before it in the order "1, 2 and 4 as
--- met from the first bit on; then 3, 8, 5, 6, 9, 7", with 10 of 02 "after 3, before 7" and its 11 "after 8, before 5".
+-- met from the first bit on; then 3, 8, 5, 6, 9, 7", with 10 of 02 "after 3, before 7", its 11 "after 8, before 5" and its 13 "after 9, before 7".
 use mathlib.Core.Path.{_≡_}
-use mathlib.Core.List.{List}
+use mathlib.Core.List.{List, _++_}
 use mathlib.Core.Logic.{_⊎_}
 use mathlib.Core.Bool.{Bool, true, false}
 use Prim.Native.Nat.{ℕ, suc, _*_, _≤_, _<_}
@@ -11,11 +11,12 @@ use Rattle.laws.specs.Lists.{All, FirstAt, Mem}
 use Rattle.grid.specs.Cut.{holds}
 use Rattle.definition.specs.Field.{got, refused, bytesFor, sheetBits, pastEnd, unlawful, badEnd, overLimit, noRoom}
 use Rattle.definition.specs.Rule.{Rule, noRule}
-use Rattle.definition.specs.Sheet.{Form, Limits, rules, decode}
-use Rattle.definition.specs.Stop.{drained}
+use Rattle.definition.specs.Sheet.{Form, Limits, mostRules, mostItems, rules, decode}
+use Rattle.definition.specs.Stop.{drained, left}
 use Rattle.definition.specs.Point.{Dimension, dimensions, listAt}
 use Rattle.definition.specs.Overlap.{has}
 use Rattle.definition.specs.Box.{boxCount}
+use Rattle.definition.specs.Group.{folded}
 use Rattle.definition.specs.Line.{firstNormal}
 use Rattle.definition.specs.Show.{wordless}
 use Rattle.promises.specs.Meaning.{isPoint}
@@ -70,6 +71,30 @@ FirstLong limit ds k = (k < length ds) × LongAfter limit ds k × ((j : ℕ) →
 abbrev pub AllShort : ℕ → List Rule → Type 0
 AllShort limit ds = (j : ℕ) → j < length ds → ShortAfter limit ds j
 
+-- ## Results that a form can't carry
+-- the rules that the fold of a sheet's rules writes: the folded rules, then the rules left
+abbrev pub written : List Rule → List Rule
+written rs = folded (drained rs) ++ left rs
+
+-- the sorts of items that a rule has a count of; and how many it has
+pub data Sort : Type 0 where
+  yearItems : Sort
+  monthdayItems : Sort
+  weekItems : Sort
+  weekdayItems : Sort
+  spanItems : Sort
+
+abbrev pub countOf : Sort → Rule → ℕ
+countOf yearItems r = length (r .years)
+countOf monthdayItems r = length (r .monthdays)
+countOf weekItems r = length (r .weeks)
+countOf weekdayItems r = length (r .weekdays)
+countOf spanItems r = length (r .spans)
+
+-- there are more rules than the first number, or one of them has more items of a sort than the second
+abbrev pub MoreThan : ℕ → ℕ → List Rule → Type 0
+MoreThan most mostOfSort ws = (most < length ws) ⊎ ((r : Rule) × (sort : Sort) × Mem r ws × (mostOfSort < countOf sort r))
+
 -- ## Rules without words
 -- the first rule that can't be shown has the index k: the very first if it isn't Normal, else the first that has no words
 abbrev pub FirstUnshown : List Rule → ℕ → Type 0
@@ -117,6 +142,14 @@ module _ (form : Form) (limits : Limits) (sheet : List ℕ) where
   -- neither 1 to 4 nor 11, 5 or 6
   abbrev pub Foldable : List Rule → Type 0
   Foldable rs = FewBoxes rs × AllShort (limits .entries) (drained rs)
+
+  -- 13
+  abbrev pub PastCounts : ℕ → Type 0
+  PastCounts p = (rs : List Rule) × Foldable rs × MoreThan (mostRules form) (mostItems form) (written rs) × (p ≡ 0)
+
+  -- neither 1 to 4 nor 11, 5, 6 or 13
+  abbrev pub Writable : List Rule → Type 0
+  Writable rs = Foldable rs × (MoreThan (mostRules form) (mostItems form) (written rs) → ⊥)
 
   -- 10
   abbrev pub NoWords : ℕ → Type 0

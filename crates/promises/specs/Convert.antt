@@ -1,13 +1,14 @@
 -- 02, M-106, the conversion: when each code comes, and with which place, both ways; what is written; that what comes out, "when returned", gives "the
 -- original bytes"; and that nothing else depends on the form: a sheet and the sheet that it is converted to are looked up alike, have the same line, and
--- their folds have the same numbers, the one fold being the other converted.
+-- their folds have the same numbers, the one fold being the other converted, but where a form's counts can't carry its fold or there is no room for it.
 use mathlib.Core.Path.{_≡_}
 use mathlib.Core.List.{List}
+use mathlib.Core.Logic.{_⊎_}
 use Prim.Native.Nat.{ℕ, _^_, _≤_, _<_}
 use lib.Dec.{eqb, leb, ltb}
 use lib.ListN.{length}
 use Rattle.laws.specs.Lists.{All, FirstAt}
-use Rattle.definition.specs.Field.{noRoom, longComment}
+use Rattle.definition.specs.Field.{noRoom, longComment, pastCounts}
 use Rattle.definition.specs.Rule.{Rule}
 use Rattle.definition.specs.Sheet.{Form, Limits, form1, form2, encode}
 use Rattle.definition.specs.Fold.{Folded, Written, fold}
@@ -85,6 +86,13 @@ pub record SameNumbers (f g : Folded) : Type 0 where
   pub same-place : f .place ≡ g .place
   pub same-why : f .why ≡ g .why
 
+-- codes of a fold that is held back by its form, whose counts can't carry it, or by its buffer, which has no room for it; and of one that is so, or done
+abbrev pub HeldBack : ℕ → Type 0
+HeldBack c = (c ≡ pastCounts) ⊎ (c ≡ noRoom)
+
+abbrev pub DoneOrHeld : ℕ → Type 0
+DoneOrHeld c = (c ≡ 0) ⊎ HeldBack c
+
 -- a sheet, and what it is converted to
 module _ (from to : Form) (limits : Limits) (room : ℕ) (sheet : List ℕ) where
   abbrev OfMoved : (List ℕ → Type 0) → Type 0
@@ -96,10 +104,17 @@ module _ (from to : Form) (limits : Limits) (room : ℕ) (sheet : List ℕ) wher
   abbrev pub LineMoves : Type 0
   LineMoves = OfMoved (λ moved. (lineRoom : ℕ) → showLine to limits lineRoom moved ≡ showLine from limits lineRoom sheet)
 
-  -- where neither fold lacks room. What the first wrote is read with the limits of the counts' own widths, since it may pass those of a sheet
+  -- their folds, each into a buffer of its own
+  abbrev pub OfFolds : (Folded → Folded → Type 0) → Type 0
+  OfFolds P = OfMoved (λ moved. (roomHere roomThere : ℕ) → P (fold from limits roomHere sheet) (fold to limits roomThere moved))
+
+  -- the one is done or held back exactly when the other is
+  abbrev pub FoldsAlike : Type 0
+  FoldsAlike = OfFolds (λ f g. Exactly (DoneOrHeld (f .code)) (DoneOrHeld (g .code)))
+
+  -- where neither is held back. What the first wrote is read with the limits of the counts' own widths, since it may pass those of a sheet
   abbrev pub FoldMoves : Type 0
-  FoldMoves = OfMoved (λ moved. (roomHere roomThere : ℕ) → let f = fold from limits roomHere sheet in let g = fold to limits roomThere moved in
-      (f .code ≡ noRoom → ⊥) → (g .code ≡ noRoom → ⊥)
+  FoldMoves = OfFolds (λ f g. (HeldBack (f .code) → ⊥) → (HeldBack (g .code) → ⊥)
       → SameNumbers f g × (f .code ≡ 0 → (roomMoved : ℕ) → length (g .result) ≤ roomMoved
       → convert from to (widest from limits) roomMoved (f .result) ≡ record { code = 0; bytes = length (g .result); place = 0; result = g .result }))
 
@@ -108,4 +123,5 @@ pub record Moves (from to : Form) (limits : Limits) : Type 0 where
   pub back : GivesBack (convert from to limits) (convert to from limits)
   pub looked-up : (room : ℕ) (sheet : List ℕ) → LookupMoves from to limits room sheet
   pub shown : (room : ℕ) (sheet : List ℕ) → LineMoves from to limits room sheet
+  pub alike : (room : ℕ) (sheet : List ℕ) → FoldsAlike from to limits room sheet
   pub folded : (room : ℕ) (sheet : List ℕ) → FoldMoves from to limits room sheet

@@ -9,3 +9,4 @@ pub mod Looking
 pub mod ReadBack
 pub mod Convert
 pub mod CallersForm
+pub mod LargerSheets

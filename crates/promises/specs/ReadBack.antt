@@ -1,31 +1,25 @@
 -- Demand 3, from bytes to bytes: what an accepted fold wrote can be read again, and its rules mean what the sheet's mean. 01 sets limits to
 -- what a sheet is read from and none to what is written, so it is read with the limits of the counts' own widths: a folded rule may
--- have more than 16 items, and a fold more than 64 rules.
+-- have more than 16 items, and a fold more than 256 rules. What these counts can't carry isn't written: 13 refuses it.
 use mathlib.Core.Path.{_≡_}
-use mathlib.Core.List.{List, _++_}
-use Prim.Native.Nat.{ℕ, _-_, _^_, _<_}
+use mathlib.Core.List.{List}
+use Prim.Native.Nat.{ℕ, _<_}
 use Rattle.laws.specs.Lists.{All}
 use Rattle.definition.specs.Rule.{Rule}
-use Rattle.definition.specs.Sheet.{Form, Limits}
-use Rattle.definition.specs.Stop.{drained, left}
-use Rattle.definition.specs.Group.{folded}
+use Rattle.definition.specs.Sheet.{Form, Limits, mostRules, mostItems}
 use Rattle.definition.specs.Fold.{fold}
 use Rattle.promises.specs.Meaning.{SameMeaning}
-use Rattle.promises.specs.Conditions.{Accepted}
+use Rattle.promises.specs.Conditions.{written, Accepted}
 
 -- as many rules, items and spans as the counts of the form can carry
 abbrev pub widest : Form → Limits → Limits
 widest form limits = record {
-  rules = 2 ^ form .ruleCount - 1;
-  items = 2 ^ form .itemCount - 1;
-  spans = 2 ^ form .itemCount - 1;
+  rules = mostRules form;
+  items = mostItems form;
+  spans = mostItems form;
   boxes = limits .boxes;
   entries = limits .entries;
 }
-
--- the rules that the fold of a sheet's rules writes
-abbrev pub written : List Rule → List Rule
-written rs = folded (drained rs) ++ left rs
 
 -- THE STATEMENT: rs are the rules of the sheet
 abbrev pub FoldReads : Form → Limits → ℕ → List ℕ → Type 0

@@ -8,7 +8,7 @@ use forms::mark_width;
 use limits::width_over;
 ghost use mathlib.Core.Path.{_≡_};
 ghost use Rattle.definition.specs.Field.{Layout, sheetBits};
-ghost use Rattle.definition.specs.Sheet.{limits1, opening};
+ghost use Rattle.definition.specs.Sheet.{sheetLimits, opening};
 ghost use Rattle.forms.specs.Form.{asForm};
 ghost use Rattle.field.specs.Answer.{asRead};
 ghost use Rattle.reader.specs.Says.{Says};
@@ -84,7 +84,7 @@ pub fn first(sheet: &[u8], width: usize) -> Reading
 // How many rules a sheet has. Its first field is the form's mark, refused by 2 where it is another; the count stands behind it. The mark is
 // never too large to be answered, so the first return is never taken.
 pub fn rule_count(form: Form, sheet: &[u8]) -> Taken
-    ensures { λ r. ⌜ asRead r ≡ (opening (asForm form) limits1) .read (sheetBits (now (sheet .entry))) 0 ⌝ }
+    ensures { λ r. ⌜ asRead r ≡ (opening (asForm form) sheetLimits) .read (sheetBits (now (sheet .entry))) 0 ⌝ }
 {
     let reading = first(sheet, mark_width(form));
     let Reading::Field(taken) = reading else {

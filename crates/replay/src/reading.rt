@@ -5,8 +5,8 @@ use forms::Form;
 use sheet::check::Checked;
 
 // Do the rules begin where the record says?
-fn begin_so(begins: &[usize; 64], rules: usize, places: &[u8]) -> bool {
-    if 64 < rules {
+fn begin_so(begins: &[usize; 256], rules: usize, places: &[u8]) -> bool {
+    if 256 < rules {
         return false;
     }
     if places.len() != 3 * rules {
@@ -26,7 +26,7 @@ fn read_so(form: Form, sheet: &[u8], told: &[u8]) -> bool {
     if told.len() < 12 {
         return false;
     }
-    let mut begins = [0usize; 64];
+    let mut begins = [0usize; 256];
     let checked = sheet::check::check(form, sheet, &mut begins);
     match checked {
         Checked::Rules(rules, end) => {

@@ -7,7 +7,7 @@ use native.Mathlib.Omega.{arith}
 use lib.ListN.{length, getD, length-append}
 use Rattle.definition.specs.Field.{bits, field, _then_, via, tagged}
 use Rattle.definition.specs.Range.{Ends}
-use Rattle.definition.specs.Sheet.{yearRange, monthdayOf, monthdayRange, weekRange, time, repeatsLayout, span, Form, limits1, titleWidth, headWidth, title, counts}
+use Rattle.definition.specs.Sheet.{yearRange, monthdayOf, monthdayRange, weekRange, time, repeatsLayout, span, Form, sheetLimits, titleWidth, headWidth, title, counts}
 use Rattle.definition.proofs.Bits.{length-bits}
 use Rattle.codes.specs.Number.{timeAt, repeatsAt, spanAt}
 use Rattle.item_writer.proofs.Items.{days-bits, fixed-bits, variable-bits, no-repeats, repeats-bits, span-bits}
@@ -56,8 +56,8 @@ flat-size f n h [] = let z : 0 ≡ 0 * n = omega arith in z
 flat-size f n h (x ∷ xs) = omega (arith, length-append (f x) (flatMap f xs), h x, flat-size f n h xs)
 
 -- a row's bits are few enough
-pub row-low : (many n : ℕ) → many < 2 ^ 10 → n ≤ 44 → many * n ≤ 45056
-row-low many n h k = let m : many ≤ 1024 = omega arith in omega (arith, mul-le-mul-right n m)
+pub row-low : (many n : ℕ) → many < 2 ^ 12 → n ≤ 44 → many * n ≤ 180224
+row-low many n h k = let m : many ≤ 4096 = omega arith in omega (arith, mul-le-mul-right n m)
 
 module _ (ends rowCounts : List ℕ) where
   pub no-rows : (sort : ℕ) → sort ≡ 4 → length (rowsBits ends rowCounts sort) ≡ 0
@@ -122,11 +122,11 @@ module _ (spans : List ℕ) (first many : ℕ) where
 
 -- ## A rule
 module _ (form : Form) where
-  title-size : (operator state : ℕ) → length (title form limits1 .write (titleOf operator state)) ≡ titleWidth form
+  title-size : (operator state : ℕ) → length (title form sheetLimits .write (titleOf operator state)) ≡ titleWidth form
   unfolding title _then_ via field
   title-size operator state = three 2 2 (form .comment) _ _ _
 
-  counts-size : (rowCounts : List ℕ) (many : ℕ) → length (counts form limits1 .write (countsOf rowCounts many)) ≡ 5 * form .itemCount
+  counts-size : (rowCounts : List ℕ) (many : ℕ) → length (counts form sheetLimits .write (countsOf rowCounts many)) ≡ 5 * form .itemCount
   unfolding counts _then_ field
   counts-size rowCounts many =
       let w = form .itemCount in
@@ -149,11 +149,11 @@ module _ (form : Form) where
   rule-size operator state ends rowCounts spans first many rows times h k r t =
       let all = flatMap (span .write) (spansAt spans first many) in
       let body = rowsBits ends rowCounts 0 ++ all in
-      let counted = counts form limits1 .write (countsOf rowCounts many) in
+      let counted = counts form sheetLimits .write (countsOf rowCounts many) in
       ap length (rule-parts form operator state ends rowCounts spans first many h k)
       ∙ omega (
         arith,
-        length-append (title form limits1 .write (titleOf operator state)) (counted ++ body),
+        length-append (title form sheetLimits .write (titleOf operator state)) (counted ++ body),
         length-append counted body,
         length-append (rowsBits ends rowCounts 0) all,
         title-size operator state,

@@ -32,8 +32,8 @@ fn item_bits(sort: usize) -> usize
 
 // The rows of the sorts from `sort` on, whatever their ends.
 fn rows_bits(item_counts: &[u16], sort: usize) -> usize
-    requires { ⌜ (4 ≤ length (now «item_counts»)) × ((s : ℕ) → getD (now «item_counts») s 0 < 2 ^ 10) × (sort ≤ 4) ⌝ }
-    ensures { λ r. ⌜ ((ends : List ℕ) → rowPlace (now («item_counts» .entry)) 4 ≤ length ends → length (rowsBits ends (now («item_counts» .entry)) sort) ≡ r) × (r + 45056 * sort ≤ 180224) ⌝ }
+    requires { ⌜ (4 ≤ length (now «item_counts»)) × ((s : ℕ) → getD (now «item_counts») s 0 < 2 ^ 12) × (sort ≤ 4) ⌝ }
+    ensures { λ r. ⌜ ((ends : List ℕ) → rowPlace (now («item_counts» .entry)) 4 ≤ length ends → length (rowsBits ends (now («item_counts» .entry)) sort) ≡ r) × (r + 180224 * sort ≤ 720896) ⌝ }
 {
     if sort == 4 {
         return 0;
@@ -83,10 +83,10 @@ pub fn rule_bits(
     first: usize,
     span_count: usize,
 ) -> usize
-    requires { ⌜ (4 ≤ length (now «item_counts»)) × ((s : ℕ) → getD (now «item_counts») s 0 < 2 ^ 10) ⌝ }
+    requires { ⌜ (4 ≤ length (now «item_counts»)) × ((s : ℕ) → getD (now «item_counts») s 0 < 2 ^ 12) ⌝ }
     requires { ⌜ (first + «span_count» ≤ length (now spans)) × («span_count» < 2 ^ 10) ⌝ }
     ensures { λ r. ⌜ ((operator state : ℕ) (ends : List ℕ) → rowPlace (now («item_counts» .entry)) 4 ≤ length ends
-        → length (ruleBits (asForm form) operator state ends (now («item_counts» .entry)) (spansAt (now (spans .entry)) first «span_count»)) ≡ r) × (r < 2 ^ 18) ⌝ }
+        → length (ruleBits (asForm form) operator state ends (now («item_counts» .entry)) (spansAt (now (spans .entry)) first «span_count»)) ≡ r) × (r < 2 ^ 20) ⌝ }
 {
     let rows = rows_bits(item_counts, 0);
     let times = spans_bits(spans, first, span_count);

@@ -5,7 +5,7 @@ use mathlib.Core.Bool.{_||_, not}
 use Prim.Native.Nat.{ℕ, _+_, _*_, _≤_}
 use Rattle.laws.specs.Lists.{anyOf}
 use Rattle.definition.specs.Field.{got, Layout}
-use Rattle.definition.specs.Sheet.{Form, limits1, titleWidth, Counts, counts}
+use Rattle.definition.specs.Sheet.{Form, sheetLimits, titleWidth, Counts, counts}
 use Rattle.definition.specs.Stop.{monthdayStops, weekdayStops}
 use Rattle.definition.specs.Text.{Text, several}
 use Rattle.definition.specs.Line.{isPlain, spanText}
@@ -18,7 +18,7 @@ use Rattle.rule_text.specs.Rule.{daysTold, daysText}
 use Rattle.rule_text.proofs.Meaning.{days-read, spans-read}
 
 module _ (form : Form) (s : List ℕ) (p : ℕ) (readable : Readable form s p) (n : Counts) (i q : ℕ) (z : i ≡ p + titleWidth form)
-    (e : (counts form limits1) .read s i ≡ got n q) where
+    (e : (counts form sheetLimits) .read s i ≡ got n q) where
   pub counts-few : (n .0 ≤ 16) × (n .1 .0 ≤ 16) × (n .1 .1 .0 ≤ 16) × (n .1 .1 .1 .0 ≤ 16) × (n .1 .1 .1 .1 ≤ 16) × (q ≡ i + 5 * form .itemCount)
   counts-few = counts-low form s i n q e
 

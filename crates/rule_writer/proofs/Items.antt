@@ -1,19 +1,20 @@
 -- The bits of an item, sort by sort; and the bits of a rule's head.
 use mathlib.Core.Path.{_≡_, refl, sym, ap, ap₂, _∙_}
 use mathlib.Core.List.{List, _++_, append-assoc}
-use Prim.Native.Nat.{ℕ, _≤_, _<_}
+use Prim.Native.Nat.{ℕ, _≤_, _<_, _^_}
 use native.Mathlib.Omega.{arith}
 use lib.ListN.{getD}
+use lib.Pow.{pow-pos}
 use borrow.Author.Tests.{ne-eqb}
 use Rattle.definition.specs.Field.{bits, field, _then_, via}
 use Rattle.definition.specs.Rule.{yearBounds, monthBounds, weekBounds, weekdayBounds, months, kindNumber}
 use Rattle.definition.specs.Range.{Ends}
-use Rattle.definition.specs.Sheet.{yearRange, monthdayRange, weekRange, weekDayRange, Form, limits1, title, counts}
+use Rattle.definition.specs.Sheet.{yearRange, monthdayRange, weekRange, weekDayRange, Form, sheetLimits, title, counts}
 use Rattle.definition.proofs.Items.{operator-number}
 use Rattle.codes.specs.Number.{stateCoded}
 use Rattle.item_writer.specs.Written.{yearsFrom, weeksFrom, daysFrom}
 use Rattle.rule_writer.specs.Rows.{itemBits, titleOf, countsOf}
-use Rattle.tables.specs.Items.{upperOf}
+use Rattle.tables.specs.Items.{upperOf, FewItems}
 
 -- ## Items
 module _ (sort : ℕ) (e : Ends) where
@@ -40,15 +41,19 @@ module _ (sort : ℕ) (e : Ends) where
 -- ## A head, its fields as wide as the form says
 module _ (form : Form) where
   pub title-bits : (operator state kind comment width : ℕ) → operator < 3 → kind ≡ kindNumber (stateCoded state .kind) → comment ≡ stateCoded state .comment
-      → width ≡ form .comment → title form limits1 .write (titleOf operator state) ≡ bits 2 operator ++ (bits 2 kind ++ bits width comment)
+      → width ≡ form .comment → title form sheetLimits .write (titleOf operator state) ≡ bits 2 operator ++ (bits 2 kind ++ bits width comment)
   unfolding title _then_ via field
   title-bits operator state kind comment width o k c w =
       ap (λ a. bits 2 a ++ (bits 2 (kindNumber (stateCoded state .kind)) ++ bits (form .comment) (stateCoded state .comment))) (operator-number operator o)
       ∙ ap₂ (λ a b. bits 2 operator ++ (bits 2 a ++ bits (form .comment) b)) (sym k) (sym c)
       ∙ ap (λ a. bits 2 operator ++ (bits 2 kind ++ bits a comment)) (sym w)
 
+  -- a count that the form can carry has as many bits
+  pub sort-fits : (counts : List ℕ) → FewItems form counts → (width count sort : ℕ) → width ≡ form .itemCount → sort < 4 → count ≡ getD counts sort 0 → count < 2 ^ width
+  sort-fits counts few width count sort w l e = rw w (omega (arith, few sort l, e, pow-pos (form .itemCount)))
+
   pub counts-bits : (row : List ℕ) (a b c d e width : ℕ) → a ≡ getD row 0 0 → b ≡ getD row 1 0 → c ≡ getD row 2 0 → d ≡ getD row 3 0 → width ≡ form .itemCount
-      → counts form limits1 .write (countsOf row e) ≡ (bits width a ++ (bits width b ++ bits width c)) ++ (bits width d ++ bits width e)
+      → counts form sheetLimits .write (countsOf row e) ≡ (bits width a ++ (bits width b ++ bits width c)) ++ (bits width d ++ bits width e)
   unfolding counts _then_ field
   counts-bits row a b c d e width p q r s w =
       let rest = bits width d ++ bits width e in

@@ -12,7 +12,7 @@ use Rattle.grid.specs.Cut.{Range}
 use Rattle.definition.specs.Field.{Layout, _then_, via, tagged, several}
 use Rattle.definition.specs.Rule.{YearRange, MonthdayRange, months, WeekRange, WeekDayRange, Span, Rule}
 use Rattle.definition.specs.Range.{Ends}
-use Rattle.definition.specs.Sheet.{yearRange, monthdayRange, weekRange, weekDayRange, span, Form, limits1, title, counts, Counts, head, body, rule}
+use Rattle.definition.specs.Sheet.{yearRange, monthdayRange, weekRange, weekDayRange, span, Form, sheetLimits, title, counts, Counts, head, body, rule}
 use Rattle.definition.specs.Point.{Dimension}
 use Rattle.definition.specs.Group.{itemsOf, laidOver}
 use Rattle.item_writer.specs.Written.{yearsFrom, weeksFrom, daysFrom}
@@ -52,21 +52,21 @@ module _ (form : Form) (ends rowCounts : List ℕ) where
   -- THE BITS OF A RULE
   rule-bits : (operator state : ℕ) (spans : List Span) → rowPlace rowCounts 4 ≤ length ends
       → ruleBits form operator state ends rowCounts spans
-      ≡ title form limits1 .write (titleOf operator state) ++
-      (counts form limits1 .write (countsOf rowCounts (length spans)) ++ (rowsBits ends rowCounts 0 ++ flatMap (span .write) spans))
+      ≡ title form sheetLimits .write (titleOf operator state) ++
+      (counts form sheetLimits .write (countsOf rowCounts (length spans)) ++ (rowsBits ends rowCounts 0 ++ flatMap (span .write) spans))
   unfolding rule head body tagged via _then_ several overItems rowsBelow itemBits
   rule-bits operator state spans h =
-      append-assoc first (counts form limits1 .write lengths)
+      append-assoc first (counts form sheetLimits .write lengths)
       (flatMap (yearRange .write) (map asYears y) ++
       (flatMap (monthdayRange .write) (map asMonths m) ++
       (flatMap (weekRange .write) (map asWeeks w) ++ (flatMap (weekDayRange .write) (map asDays d) ++ flatMap (span .write) spans))))
-      ∙ ap₂ (λ n b. first ++ (counts form limits1 .write n ++ b)) same
+      ∙ ap₂ (λ n b. first ++ (counts form sheetLimits .write n ++ b)) same
       (ap₂ _++_ (as-row yearRange asYears 0 (λ e. refl) y)
       (ap₂ _++_ (as-row monthdayRange asMonths 1 (λ e. refl) m) (ap₂ _++_ (as-row weekRange asWeeks 2 (λ e. refl) w)
       (ap (_++ flatMap (span .write) spans) (as-row weekDayRange asDays 3 (λ e. refl) d)))) ∙ sym (four-rows (flatMap (span .write) spans)))
     where
       first : List ℕ
-      first = title form limits1 .write (titleOf operator state)
+      first = title form sheetLimits .write (titleOf operator state)
 
       y : List Ends
       y = row ends rowCounts 0
@@ -110,14 +110,14 @@ module _ (form : Form) (ends rowCounts : List ℕ) where
 -- with the spans that lie in a slice
 pub rule-parts : (form : Form) (operator state : ℕ) (ends rowCounts spans : List ℕ) (first many : ℕ) → rowPlace rowCounts 4 ≤ length ends → first + many ≤ length spans
     → ruleBits form operator state ends rowCounts (spansAt spans first many)
-    ≡ title form limits1 .write (titleOf operator state) ++
-    (counts form limits1 .write (countsOf rowCounts many) ++ (rowsBits ends rowCounts 0 ++ flatMap (span .write) (spansAt spans first many)))
+    ≡ title form sheetLimits .write (titleOf operator state) ++
+    (counts form sheetLimits .write (countsOf rowCounts many) ++ (rowsBits ends rowCounts 0 ++ flatMap (span .write) (spansAt spans first many)))
 rule-parts form operator state ends rowCounts spans first many h k =
     rule-bits form ends rowCounts operator state (spansAt spans first many) h
     ∙ ap
     (λ n.
-    title form limits1 .write (titleOf operator state) ++
-    (counts form limits1 .write (countsOf rowCounts n) ++ (rowsBits ends rowCounts 0 ++ flatMap (span .write) (spansAt spans first many))))
+    title form sheetLimits .write (titleOf operator state) ++
+    (counts form sheetLimits .write (countsOf rowCounts n) ++ (rowsBits ends rowCounts 0 ++ flatMap (span .write) (spansAt spans first many))))
     (spans-length spans first many k)
 
 -- A RULE LAID OVER RUNS IS THE RULE OVER THEIR ITEMS

@@ -4,7 +4,7 @@ use Prim.Native.Nat.{ℕ}
 use Rattle.grid.specs.Cut.{Range}
 use Rattle.definition.specs.Rule.{operatorOf, Rule, Span}
 use Rattle.definition.specs.Range.{Ends}
-use Rattle.definition.specs.Sheet.{Form, limits1, rule}
+use Rattle.definition.specs.Sheet.{Form, sheetLimits, rule}
 use Rattle.definition.specs.Point.{Dimension, dimensions}
 use Rattle.definition.specs.Group.{itemsOf, asRule}
 use Rattle.codes.specs.Number.{stateCoded}
@@ -21,4 +21,4 @@ abbrev pub ruleOf : ℕ → ℕ → List ℕ → List ℕ → List Span → Rule
 ruleOf operator state ends counts spans = overItems dimensions (rowsBelow ends counts 4) (asRule (operatorOf operator) (stateCoded state, spans))
 
 abbrev pub ruleBits : Form → ℕ → ℕ → List ℕ → List ℕ → List Span → List ℕ
-ruleBits form operator state ends counts spans = rule form limits1 .write (ruleOf operator state ends counts spans)
+ruleBits form operator state ends counts spans = rule form sheetLimits .write (ruleOf operator state ends counts spans)

@@ -11,7 +11,7 @@ ghost use Rattle.codes.specs.Number.{stateCoded};
 ghost use Rattle.forms.specs.Form.{asForm};
 ghost use Rattle.item_writer.specs.Written.{RoomFor, Wrote};
 ghost use Rattle.rule_writer.specs.Rows.{spansAt};
-ghost use Rattle.tables.specs.Items.{Rows};
+ghost use Rattle.tables.specs.Items.{FewItems, Rows};
 ghost use Rattle.tables.specs.Days.{FitsSpan};
 ghost use Rattle.rule_writer.specs.Written.{ruleBits};
 
@@ -29,7 +29,7 @@ pub fn put_rule(
     span_count: usize,
 ) -> usize
     requires { ⌜ (operator < 3) × (stateCoded state .comment < 2 ^ asForm form .comment) ⌝ }
-    requires { ⌜ Rows (now ends) (now «item_counts») ⌝ }
+    requires { ⌜ Rows (now ends) (now «item_counts») × FewItems (asForm form) (now «item_counts») ⌝ }
     requires { ⌜ (first + «span_count» ≤ length (now spans)) × («span_count» < 2 ^ 10) × All FitsSpan (spansAt (now spans) first «span_count») ⌝ }
     requires { ⌜ RoomFor (length (now out)) at (ruleBits (asForm form) operator state (now ends) (now «item_counts») (spansAt (now spans) first «span_count»)) ⌝ }
     ensures { λ r. ⌜ Wrote (now (out .entry)) at (ruleBits (asForm form) operator state (now (ends .entry)) (now («item_counts» .entry)) (spansAt (now (spans .entry)) first «span_count»)) (now (out .exit)) r ⌝ }

@@ -1,7 +1,7 @@
 -- The beginnings that a check notes are those of the rules that the definition reads: at each one its rule is read, and from it on up to
 -- the last rule's end stand the bits of the rules from it on.
 use mathlib.Core.Path.{_≡_, refl, sym, ap, ap₂, _∙_, subst}
-use mathlib.Core.List.{List, _∷_, flatMap}
+use mathlib.Core.List.{List, [], _∷_, flatMap}
 use mathlib.Core.Option.{Option, none, some}
 use mathlib.Core.Bool.{Bool, true, false}
 use Prim.Native.Nat.{ℕ, zero, suc, _+_, _*_, _-_, _≤_, _<_, _^_}
@@ -13,7 +13,7 @@ use Rattle.laws.specs.Lists.{from}
 use Rattle.laws.proofs.Numbers.{length-from, getD-from}
 use Rattle.definition.specs.Field.{Read, got, refused, andThen, badEnd, bytesFor, sheetBits, readAll, several}
 use Rattle.definition.specs.Rule.{Rule, noRule}
-use Rattle.definition.specs.Sheet.{Form, limits1, rule, opening, rules, firstSet, ended, decode}
+use Rattle.definition.specs.Sheet.{Form, sheetLimits, rule, opening, rules, firstSet, ended, decode}
 use Rattle.definition.proofs.Bits.{Bits, Bytes, sheet-bits, length-sheetBits}
 use Rattle.definition.proofs.Faithful.{Stand, clash, several-faithful, read-within}
 use Rattle.definition.proofs.Reading.{Short, several-short, all-parts, tagged-parts}
@@ -21,9 +21,10 @@ use Rattle.definition.proofs.Lengths.{rule-short}
 use Rattle.definition.proofs.SheetRead.{rule-faithful}
 use Rattle.forms.specs.Form.{Narrow}
 use Rattle.sheet.specs.End.{ends}
-use Rattle.sheet.specs.Rules.{ruleEnds, noted, begun, checked, rulesAt, AllBegin}
+use Rattle.sheet.specs.Rules.{Places, ruleEnds, noted, begun, checked, rulesAt, AllBegin}
 use Rattle.sheet.specs.Parts.{SheetRead}
 use Rattle.sheet.specs.Begin.{ruleOf, ruleReadAt, Readable}
+use Rattle.sheet.proofs.RuleBits.{rules-long}
 use Rattle.sheet.proofs.RuleRows.{noted-goes}
 use Rattle.sheet.proofs.Whole.{count-begun, none-begun, count-low}
 
@@ -33,10 +34,10 @@ module _ (form : Form) where
     pub readable : Readable form s p
     pub begun-rule : ruleReadAt form s p ≡ getD rs i noRule
     pub low : p < 2 ^ 25
-    pub stands : Stand (flatMap ((rule form limits1) .write) (drop i rs)) s p q
+    pub stands : Stand (flatMap ((rule form sheetLimits) .write) (drop i rs)) s p q
 
   -- ## A rule that is read
-  pub rule-read : (s : List ℕ) (p : ℕ) (r : Rule) (q : ℕ) → (rule form limits1) .read s p ≡ got r q → Readable form s p × (ruleReadAt form s p ≡ r)
+  pub rule-read : (s : List ℕ) (p : ℕ) (r : Rule) (q : ℕ) → (rule form sheetLimits) .read s p ≡ got r q → Readable form s p × (ruleReadAt form s p ≡ r)
   unfolding ruleReadAt
   rule-read s p r q e = (record { end = q; read = e ∙ ap (λ x. got x q) (sym (ap ruleOf e)) }, ap ruleOf e)
 
@@ -69,11 +70,11 @@ module _ (form : Form) where
   module _ (s : List ℕ) (bits : Bits s) (q : ℕ) where
     -- the rule noted first, and one that is noted later
     first-begin : (n : ℕ) (rs : List Rule) (i p : ℕ) (begins : List ℕ) → i < length begins → p < 2 ^ 25
-        → readAll ((rule form limits1) .read) (suc n) s p ≡ got rs q
+        → readAll ((rule form sheetLimits) .read) (suc n) s p ≡ got rs q
         → Begins s q rs 0 (getD (noted form s (suc n) i p begins) (i + 0) 0)
     unfolding several
     first-begin n rs i p begins room low e =
-        let w = all-parts ((rule form limits1) .read) n s p rs q e in
+        let w = all-parts ((rule form sheetLimits) .read) n s p rs q e in
         let first = rule-read s p (w .0) (w .1) (w .3) in
         let z : i + 0 ≡ i = omega arith in
         let here : getD (noted form s (suc n) i p begins) (i + 0) 0 ≡ p =
@@ -84,10 +85,10 @@ module _ (form : Form) where
           readable = first .0;
           begun-rule = first .1 ∙ ap (λ xs. getD xs 0 noRule) (w .5);
           low = low;
-          stands = (several-faithful (rule-faithful form limits1) (suc n)) .written s bits p rs q e .2;
+          stands = (several-faithful (rule-faithful form sheetLimits) (suc n)) .written s bits p rs q e .2;
         })
 
-    later-begin : (n : ℕ) (r : Rule) (rs : List Rule) (i p j : ℕ) (begins : List ℕ) → (rule form limits1) .read s p ≡ got r j → (k : ℕ)
+    later-begin : (n : ℕ) (r : Rule) (rs : List Rule) (i p j : ℕ) (begins : List ℕ) → (rule form sheetLimits) .read s p ≡ got r j → (k : ℕ)
         → Begins s q rs k (getD (noted form s n (i + 1) j (set begins i p)) (i + 1 + k) 0)
         → Begins s q (r ∷ rs) (suc k) (getD (noted form s (suc n) i p begins) (i + suc k) 0)
     later-begin n r rs i p j begins e k later =
@@ -100,12 +101,12 @@ module _ (form : Form) where
         (record { readable = later .readable; begun-rule = later .begun-rule; low = later .low; stands = later .stands })
 
     noted-begin : Narrow form → (n : ℕ) (rs : List Rule) (i p : ℕ) (begins : List ℕ) → i + n ≤ length begins → p + n * 3016 < 2 ^ 25
-        → readAll ((rule form limits1) .read) n s p ≡ got rs q
+        → readAll ((rule form sheetLimits) .read) n s p ≡ got rs q
         → (k : ℕ) → k < n → Begins s q rs k (getD (noted form s n i p begins) (i + k) 0)
     noted-begin narrow zero rs i p begins room low e k l = absurd (omega arith)
     noted-begin narrow (suc n) rs i p begins room low e zero l = first-begin n rs i p begins (omega arith) (omega arith) e
     noted-begin narrow (suc n) rs i p begins room low e (suc k) l =
-        let w = all-parts ((rule form limits1) .read) n s p rs q e in
+        let w = all-parts ((rule form sheetLimits) .read) n s p rs q e in
         subst (λ xs. Begins s q xs (suc k) (getD (noted form s (suc n) i p begins) (i + suc k) 0)) (w .5)
         (later-begin n (w .0) (w .2) i p (w .1) begins (w .3) k
         (noted-begin narrow n (w .2) (i + 1) (w .1) (set begins i p) (omega (arith, length-set begins i p))
@@ -126,66 +127,82 @@ module _ (form : Form) where
       first none f = second f (ltb (8 * bytesFor q) (length s)) refl
 
   pub begun-length : (sheet begins : List ℕ) → length (begun form sheet begins) ≡ length begins
-  begun-length sheet begins = go ((opening form limits1) .read (sheetBits sheet) 0) refl
+  begun-length sheet begins = go ((opening form sheetLimits) .read (sheetBits sheet) 0) refl
     where
-      go : (w : Read ℕ) → (opening form limits1) .read (sheetBits sheet) 0 ≡ w → length (begun form sheet begins) ≡ length begins
+      go : (w : Read ℕ) → (opening form sheetLimits) .read (sheetBits sheet) 0 ≡ w → length (begun form sheet begins) ≡ length begins
       go (got n q) e = ap length (count-begun form sheet n q e begins) ∙ noted-length (sheetBits sheet) n 0 q begins
       go (refused c q) e = ap length (none-begun form sheet c q e begins)
 
   module _ (sheet : List ℕ) (rs : List Rule) (q : ℕ) where
     -- a count of rules, and as many rules
-    decode-parts : decode form limits1 sheet ≡ got rs q
-        → (n : ℕ) × (p : ℕ) × ((opening form limits1) .read (sheetBits sheet) 0 ≡ got n p) ×
-        (readAll ((rule form limits1) .read) n (sheetBits sheet) p ≡ got rs q)
+    decode-parts : decode form sheetLimits sheet ≡ got rs q
+        → (n : ℕ) × (p : ℕ) × ((opening form sheetLimits) .read (sheetBits sheet) 0 ≡ got n p) ×
+        (readAll ((rule form sheetLimits) .read) n (sheetBits sheet) p ≡ got rs q)
     unfolding decode rules several
-    decode-parts e = tagged-parts _ _ _ (sheetBits sheet) 0 rs q (go ((rules form limits1) .read (sheetBits sheet) 0) refl e)
+    decode-parts e = tagged-parts _ _ _ (sheetBits sheet) 0 rs q (go ((rules form sheetLimits) .read (sheetBits sheet) 0) refl e)
       where
-        go : (w : Read (List Rule)) → (rules form limits1) .read (sheetBits sheet) 0 ≡ w → andThen (ended (sheetBits sheet)) w ≡ got rs q
-            → (rules form limits1) .read (sheetBits sheet) 0 ≡ got rs q
+        go : (w : Read (List Rule)) → (rules form sheetLimits) .read (sheetBits sheet) 0 ≡ w → andThen (ended (sheetBits sheet)) w ≡ got rs q
+            → (rules form sheetLimits) .read (sheetBits sheet) 0 ≡ got rs q
         go (refused c p) h g = clash c p rs q g
         go (got x j) h g = h ∙ ended-got (sheetBits sheet) x rs j q g
 
     -- they keep the limit
-    pub rules-few : Bytes sheet → decode form limits1 sheet ≡ got rs q → length rs ≤ limits1 .rules
+    pub rules-few : Bytes sheet → decode form sheetLimits sheet ≡ got rs q → length rs ≤ sheetLimits .rules
     unfolding several
     rules-few b e =
         let w = decode-parts e in
-        let long = several-faithful (rule-faithful form limits1) (w .0) .written (sheetBits sheet) (sheet-bits sheet b) (w .1) rs q (w .3) .0 in
+        let long = several-faithful (rule-faithful form sheetLimits) (w .0) .written (sheetBits sheet) (sheet-bits sheet b) (w .1) rs q (w .3) .0 in
         omega (arith, long, count-low form sheet b (w .0) (w .1) (w .2) .0)
 
     -- WHERE THE LAST ONE ENDS
-    pub rules-end : Narrow form → Bytes sheet → decode form limits1 sheet ≡ got rs q → (q ≤ 8 * length sheet) × (q < 2 ^ 25)
+    pub rules-end : Narrow form → Bytes sheet → decode form sheetLimits sheet ≡ got rs q → (q ≤ 8 * length sheet) × (q < 2 ^ 25)
     unfolding several
     rules-end narrow b e =
         let w = decode-parts e in
         let s = sheetBits sheet in
         let low = count-low form sheet b (w .0) (w .1) (w .2) in
-        let short : Short (rule form limits1) 3016 = λ t p x i h. omega (arith, narrow .head-narrow, rule-short form t p x i h) in
-        let within = read-within (several-faithful (rule-faithful form limits1) (w .0)) s (sheet-bits sheet b) (w .1) rs q (omega (arith, length-sheetBits sheet, low .2)) (w .3) in (
+        let short : Short (rule form sheetLimits) 3016 = λ t p x i h. omega (arith, narrow .head-narrow, rule-short form t p x i h) in
+        let within = read-within (several-faithful (rule-faithful form sheetLimits) (w .0)) s (sheet-bits sheet b) (w .1) rs q (omega (arith, length-sheetBits sheet, low .2)) (w .3) in (
           omega (arith, within, length-sheetBits sheet),
-          omega (arith, several-short (rule form limits1) 3016 short (w .0) s (w .1) rs q (w .3), low .0, low .1, narrow .opening-narrow),
+          omega (arith, several-short (rule form sheetLimits) 3016 short (w .0) s (w .1) rs q (w .3), low .0, low .1, narrow .opening-narrow),
         )
 
+    -- places for all that can begin in the sheet are enough for them
+    pub rules-placed : Narrow form → Bytes sheet → decode form sheetLimits sheet ≡ got rs q → (places : ℕ) → Places (length sheet) places → length rs ≤ places
+    unfolding several
+    rules-placed narrow b e places enough = go rs refl
+      where
+        w : (n : ℕ) × (p : ℕ) × ((opening form sheetLimits) .read (sheetBits sheet) 0 ≡ got n p) × (readAll ((rule form sheetLimits) .read) n (sheetBits sheet) p ≡ got rs q)
+        w = decode-parts e
+
+        go : (qs : List Rule) → qs ≡ rs → length qs ≤ places
+        go [] z = omega arith
+        go (r ∷ qs) z =
+            let stand = several-faithful (rule-faithful form sheetLimits) (w .0) .written (sheetBits sheet) (sheet-bits sheet b) (w .1) rs q (w .3) .2 in
+            let many : suc (length qs) ≡ length rs = ap length z in
+            enough (length qs) (omega (arith, many, rules-few b e))
+            (omega (arith, many, stand .ends, rules-long form narrow rs, rules-end narrow b e .0))
+
     -- WHERE RULES BEGIN
-    pub rules-begin : Narrow form → Bytes sheet → decode form limits1 sheet ≡ got rs q → (begins : List ℕ) → 64 ≤ length begins
+    pub rules-begin : Narrow form → Bytes sheet → decode form sheetLimits sheet ≡ got rs q → (begins : List ℕ) → length rs ≤ length begins
         → (i : ℕ) → i < length rs → Begins (sheetBits sheet) q rs i (getD (begun form sheet begins) i 0)
     unfolding several
     rules-begin narrow b e begins room i l =
         let w = decode-parts e in
         let s = sheetBits sheet in
         let low = count-low form sheet b (w .0) (w .1) (w .2) in
-        let long = several-faithful (rule-faithful form limits1) (w .0) .written s (sheet-bits sheet b) (w .1) rs q (w .3) .0 in
+        let long = several-faithful (rule-faithful form sheetLimits) (w .0) .written s (sheet-bits sheet b) (w .1) rs q (w .3) .0 in
         let z : 0 + i ≡ i = omega arith in
         subst (Begins s q rs i) (ap₂ (λ bs j. getD bs j 0) (sym (count-begun form sheet (w .0) (w .1) (w .2) begins)) z)
-        (noted-begin s (sheet-bits sheet b) q narrow (w .0) rs 0 (w .1) begins (omega (arith, low .0)) (omega (arith, low .0, low .1, narrow .opening-narrow)) (w .3) i (omega (arith, long)))
+        (noted-begin s (sheet-bits sheet b) q narrow (w .0) rs 0 (w .1) begins (omega (arith, long, room)) (omega (arith, low .0, low .1, narrow .opening-narrow)) (w .3) i (omega (arith, long)))
 
   -- a sheet that was checked was read, to the same end and to as many rules
-  pub checked-rules : (sheet : List ℕ) (n q : ℕ) → checked form sheet ≡ got n q → (rs : List Rule) × (decode form limits1 sheet ≡ got rs q) × (length rs ≡ n)
+  pub checked-rules : (sheet : List ℕ) (n q : ℕ) → checked form sheet ≡ got n q → (rs : List Rule) × (decode form sheetLimits sheet ≡ got rs q) × (length rs ≡ n)
   unfolding checked
-  checked-rules sheet n q e = go (decode form limits1 sheet) refl e
+  checked-rules sheet n q e = go (decode form sheetLimits sheet) refl e
     where
-      go : (w : Read (List Rule)) → decode form limits1 sheet ≡ w → andThen (λ rs q. got (length rs) q) w ≡ got n q
-          → (rs : List Rule) × (decode form limits1 sheet ≡ got rs q) × (length rs ≡ n)
+      go : (w : Read (List Rule)) → decode form sheetLimits sheet ≡ w → andThen (λ rs q. got (length rs) q) w ≡ got n q
+          → (rs : List Rule) × (decode form sheetLimits sheet ≡ got rs q) × (length rs ≡ n)
       go (refused c p) h g = clash c p n q g
       go (got rs p) h g = let z : p ≡ q = cc in let m : length rs ≡ n = cc in (rs, h ∙ ap (got rs) z, m)
 
@@ -202,8 +219,8 @@ module _ (form : Form) where
         getD-from (λ k. ruleReadAt form s (getD begins k 0)) noRule 0 n k l ∙ ap (λ j. ruleReadAt form s (getD begins j 0)) z
 
   -- the rules of a sheet that was read, each where its beginning is noted
-  module _ (narrow : Narrow form) (sheet : List ℕ) (b : Bytes sheet) (rs : List Rule) (q : ℕ) (e : decode form limits1 sheet ≡ got rs q) (begins : List ℕ)
-      (room : 64 ≤ length begins) where
+  module _ (narrow : Narrow form) (sheet : List ℕ) (b : Bytes sheet) (rs : List Rule) (q : ℕ) (e : decode form sheetLimits sheet ≡ got rs q) (begins : List ℕ)
+      (room : length rs ≤ length begins) where
     pub all-begin : AllBegin form (sheetBits sheet) (begun form sheet begins) (length rs)
     all-begin i l = let w = rules-begin sheet rs q narrow b e begins room i l in (w .readable, w .low)
 
@@ -216,7 +233,7 @@ module _ (form : Form) where
         many = rules-many (sheetBits sheet) (begun form sheet begins) (length rs)
 
   -- a sheet that was read has a noted beginning for each rule
-  pub begins-long : (sheet begins : List ℕ) → Bytes sheet → (rs : List Rule) (end : ℕ) → SheetRead form sheet begins rs end → (length rs ≤ limits1 .rules) × (length rs ≤ length begins)
+  pub begins-long : (sheet begins : List ℕ) → Bytes sheet → (rs : List Rule) (end : ℕ) → SheetRead form sheet begins rs end → (length rs ≤ sheetLimits .rules) × (length rs ≤ length begins)
   begins-long sheet begins b rs end read =
       let few = rules-few sheet rs end b (read .read) in
       (few, omega (arith, few, read .room, ap length (read .noted), begun-length sheet (read .before)))

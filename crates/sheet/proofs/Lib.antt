@@ -2,6 +2,7 @@ pub mod Ends
 pub mod Heads
 pub mod Rows
 pub mod RuleEnds
+pub mod RuleBits
 pub mod RuleRows
 pub mod Endings
 pub mod Whole

@@ -4,7 +4,7 @@ use mathlib.Core.List.{List}
 use Prim.Native.Nat.{ℕ}
 use Rattle.definition.specs.Field.{Read, got, refused, andThen, _then_, via, tagged}
 use Rattle.definition.specs.Rule.{operatorOf, kindOf}
-use Rattle.definition.specs.Sheet.{Form, limits1, Title, Counts, Body, ruleWith, title, counts, head, body, rule}
+use Rattle.definition.specs.Sheet.{Form, sheetLimits, Title, Counts, Body, ruleWith, title, counts, head, body, rule}
 use Rattle.sheet.specs.declared.rule.CountsRead.{CountsRead}
 use Rattle.sheet.specs.declared.rule.CountsRead.the-variants as countsRead
 use Rattle.sheet.specs.declared.rule.TitleRead.{TitleRead}
@@ -16,17 +16,17 @@ use Rattle.sheet.specs.Rules.{countedEnds}
 module _ (form : Form) where
   -- ## One lemma for each return
   module _ (s : List ℕ) (p : ℕ) where
-    pub counted-goes : (n : Counts) (q : ℕ) → (counts form limits1) .read s p ≡ got n q → countedEnds form s p ≡ ends ((body n) .read s q)
+    pub counted-goes : (n : Counts) (q : ℕ) → (counts form sheetLimits) .read s p ≡ got n q → countedEnds form s p ≡ ends ((body n) .read s q)
     unfolding countedEnds
     counted-goes n q e = rw e
 
-    pub counted-stops : (c q : ℕ) → (counts form limits1) .read s p ≡ refused c q → countedEnds form s p ≡ refused c q
+    pub counted-stops : (c q : ℕ) → (counts form sheetLimits) .read s p ≡ refused c q → countedEnds form s p ≡ refused c q
     unfolding countedEnds
     counted-stops c q e = rw e
 
-    pub rule-goes : (t : Title) (q : ℕ) → (title form limits1) .read s p ≡ got t q → ends ((rule form limits1) .read s p) ≡ countedEnds form s q
+    pub rule-goes : (t : Title) (q : ℕ) → (title form sheetLimits) .read s p ≡ got t q → ends ((rule form sheetLimits) .read s p) ≡ countedEnds form s q
     unfolding rule tagged head _then_ countedEnds via
-    rule-goes t q e = rw e (go ((counts form limits1) .read s q))
+    rule-goes t q e = rw e (go ((counts form sheetLimits) .read s q))
       where
         items : (n : Counts) (w : Read Body) → ends (andThen (λ b j. got (ruleWith (t, n) b) j) w) ≡ ends w
         items n (got b j) = refl
@@ -38,7 +38,7 @@ module _ (form : Form) where
         go (got n i) = items n ((body n) .read s i)
         go (refused c i) = refl
 
-    pub rule-stops : (c q : ℕ) → (title form limits1) .read s p ≡ refused c q → ends ((rule form limits1) .read s p) ≡ refused c q
+    pub rule-stops : (c q : ℕ) → (title form sheetLimits) .read s p ≡ refused c q → ends ((rule form sheetLimits) .read s p) ≡ refused c q
     unfolding rule tagged head _then_
     rule-stops c q e = rw e
 

@@ -9,7 +9,7 @@ use lib.Dec.{ltb}
 use lib.ListN.{length, take, drop}
 use Rattle.definition.specs.Field.{Read, got, refused, andThen, bytesFor, sheetBits, tagged, several}
 use Rattle.definition.specs.Rule.{Rule}
-use Rattle.definition.specs.Sheet.{Form, limits1, openingWidth, rule, opening, rules, firstSet, ended, decode}
+use Rattle.definition.specs.Sheet.{Form, sheetLimits, openingWidth, rule, opening, rules, firstSet, ended, decode}
 use Rattle.definition.proofs.Bits.{Bits, Bytes, sheet-bits, length-sheetBits}
 use Rattle.definition.proofs.Faithful.{several-faithful, read-within}
 use Rattle.definition.proofs.Lengths.{opening-low}
@@ -42,15 +42,15 @@ module _ (form : Form) where
 
   -- the rules' reading, less the values
   rules-read : (s : List ℕ) → Bits s → (n p : ℕ)
-      → andThen (λ rs q. got (length rs) q) (andThen (ended s) ((several n (rule form limits1)) .read s p)) ≡ checkedFrom form s n p
+      → andThen (λ rs q. got (length rs) q) (andThen (ended s) ((several n (rule form sheetLimits)) .read s p)) ≡ checkedFrom form s n p
   unfolding several checkedFrom
-  rules-read s h n p = go ((several n (rule form limits1)) .read s p) refl
+  rules-read s h n p = go ((several n (rule form sheetLimits)) .read s p) refl
     where
-      go : (w : Read (List Rule)) → (several n (rule form limits1)) .read s p ≡ w
-          → andThen (λ rs q. got (length rs) q) (andThen (ended s) ((several n (rule form limits1)) .read s p)) ≡ checkedFrom form s n p
+      go : (w : Read (List Rule)) → (several n (rule form sheetLimits)) .read s p ≡ w
+          → andThen (λ rs q. got (length rs) q) (andThen (ended s) ((several n (rule form sheetLimits)) .read s p)) ≡ checkedFrom form s n p
       go (refused c q) e = rw e (sym (rules-stop s n p c q (sym (ends-all _ n s p) ∙ ap ends e)))
       go (got rs q) e =
-          let long = (several-faithful (rule-faithful form limits1) n) .written s h p rs q e .0 in
+          let long = (several-faithful (rule-faithful form sheetLimits) n) .written s h p rs q e .0 in
           rw e
           (ap (andThen (λ rs q. got (length rs) q)) (ended-any s rs q) ∙ counted-ends (ended s (tt {0}) q) rs long
           ∙ sym (rules-go s n p q (sym (ends-all _ n s p) ∙ ap ends e)))
@@ -62,29 +62,29 @@ module _ (form : Form) where
 
   -- ## From the count on
   module _ (sheet : List ℕ) where
-    pub count-goes : Bytes sheet → (n q : ℕ) → (opening form limits1) .read (sheetBits sheet) 0 ≡ got n q
+    pub count-goes : Bytes sheet → (n q : ℕ) → (opening form sheetLimits) .read (sheetBits sheet) 0 ≡ got n q
         → checked form sheet ≡ checkedFrom form (sheetBits sheet) n q
     unfolding checked decode rules tagged
     count-goes h n q e = rw e (rules-read (sheetBits sheet) (sheet-bits sheet h) n q)
 
-    pub count-stops : (c q : ℕ) → (opening form limits1) .read (sheetBits sheet) 0 ≡ refused c q → checked form sheet ≡ refused c q
+    pub count-stops : (c q : ℕ) → (opening form sheetLimits) .read (sheetBits sheet) 0 ≡ refused c q → checked form sheet ≡ refused c q
     unfolding checked decode rules tagged
     count-stops c q e = rw e refl
 
-    pub count-begun : (n q : ℕ) → (opening form limits1) .read (sheetBits sheet) 0 ≡ got n q → (begins : List ℕ)
+    pub count-begun : (n q : ℕ) → (opening form sheetLimits) .read (sheetBits sheet) 0 ≡ got n q → (begins : List ℕ)
         → begun form sheet begins ≡ noted form (sheetBits sheet) n 0 q begins
     unfolding begun
     count-begun n q e begins = rw (e, begun) refl
 
-    pub none-begun : (c q : ℕ) → (opening form limits1) .read (sheetBits sheet) 0 ≡ refused c q → (begins : List ℕ)
+    pub none-begun : (c q : ℕ) → (opening form sheetLimits) .read (sheetBits sheet) 0 ≡ refused c q → (begins : List ℕ)
         → begun form sheet begins ≡ begins
     unfolding begun
     none-begun c q e begins = rw (e, begun) refl
 
     -- a count keeps its limit, ends where the first rule begins, and within the sheet
-    pub count-low : Bytes sheet → (n q : ℕ) → (opening form limits1) .read (sheetBits sheet) 0 ≡ got n q
-        → (n ≤ limits1 .rules) × (q ≡ openingWidth form) × (q ≤ 8 * length sheet)
+    pub count-low : Bytes sheet → (n q : ℕ) → (opening form sheetLimits) .read (sheetBits sheet) 0 ≡ got n q
+        → (n ≤ sheetLimits .rules) × (q ≡ openingWidth form) × (q ≤ 8 * length sheet)
     count-low h n q e =
         let low = opening-low form (sheetBits sheet) 0 n q e in
-        let within = read-within (opening-faithful form limits1) (sheetBits sheet) (sheet-bits sheet h) 0 n q (omega arith) e in
+        let within = read-within (opening-faithful form sheetLimits) (sheetBits sheet) (sheet-bits sheet h) 0 n q (omega arith) e in
         (low .0, omega (arith, low .1), omega (arith, length-sheetBits sheet, within))

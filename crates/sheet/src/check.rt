@@ -6,10 +6,10 @@ ghost use mathlib.Core.Path.{_≡_};
 ghost use Prim.Native.Nat.{_*_, _-_, _≤_, _<_, _^_};
 ghost use lib.ListN.{length, take, drop};
 ghost use Rattle.definition.specs.Field.{got, andThen, sheetBits};
-ghost use Rattle.definition.specs.Sheet.{firstSet, ended};
+ghost use Rattle.definition.specs.Sheet.{sheetLimits, firstSet, ended};
 ghost use Rattle.forms.specs.Form.{asForm};
 ghost use Rattle.sheet.specs.End.{asStep, skipAll};
-ghost use Rattle.sheet.specs.Rules.{ruleEnds, noted, placeOr, checked, checkedFrom, begun, asChecked};
+ghost use Rattle.sheet.specs.Rules.{Places, ruleEnds, noted, placeOr, checked, checkedFrom, begun, asChecked};
 
 // How many rules and the bit after them, or a refusal's code and place.
 pub enum Checked {
@@ -30,8 +30,8 @@ impl Checked {
 }
 
 // Rules one behind the other, each one's beginning noted.
-fn rules_end(form: Form, sheet: &[u8], begins: &mut [usize; 64], start: usize, count: usize) -> Step
-    requires { ⌜ (start < 2 ^ 20) × (count ≤ 64) ⌝ }
+fn rules_end(form: Form, sheet: &[u8], begins: &mut [usize], start: usize, count: usize) -> Step
+    requires { ⌜ (start < 2 ^ 20) × (start ≤ 8 * length (now sheet)) × (count ≤ sheetLimits .rules) × Places (length (now sheet)) (length (now begins)) ⌝ }
     ensures { λ r. ⌜ (asStep r ≡ skipAll (ruleEnds (asForm form)) count (sheetBits (now (sheet .entry))) start)
         × (now (begins .exit) ≡ noted (asForm form) (sheetBits (now (sheet .entry))) count 0 start (now (begins .entry))) ⌝ }
 {
@@ -89,11 +89,11 @@ fn ended_at(sheet: &[u8], at: usize) -> Step
 fn check_rules(
     form: Form,
     sheet: &[u8],
-    begins: &mut [usize; 64],
+    begins: &mut [usize],
     start: usize,
     count: usize,
 ) -> Checked
-    requires { ⌜ (start < 2 ^ 20) × (start ≤ 8 * length (now sheet)) × (count ≤ 64) ⌝ }
+    requires { ⌜ (start < 2 ^ 20) × (start ≤ 8 * length (now sheet)) × (count ≤ sheetLimits .rules) × Places (length (now sheet)) (length (now begins)) ⌝ }
     ensures { λ r. ⌜ (asChecked r ≡ checkedFrom (asForm form) (sheetBits (now (sheet .entry))) count start)
         × (now (begins .exit) ≡ noted (asForm form) (sheetBits (now (sheet .entry))) count 0 start (now (begins .entry))) ⌝ }
 {
@@ -106,7 +106,8 @@ fn check_rules(
 
 // Every byte string gets an answer: "1, 2 and 4 as met from the first bit on; then 3". How many rules there are is read through 01's view of
 // the sheet, crate `reader`.
-pub fn check(form: Form, sheet: &[u8], begins: &mut [usize; 64]) -> Checked
+pub fn check(form: Form, sheet: &[u8], begins: &mut [usize]) -> Checked
+    requires { ⌜ Places (length (now sheet)) (length (now begins)) ⌝ }
     ensures { λ r. ⌜ (asChecked r ≡ checked (asForm form) (now (sheet .entry))) × (now (begins .exit) ≡ begun (asForm form) (now (sheet .entry)) (now (begins .entry))) ⌝ }
 {
     let count = reader::rule_count(form, sheet);

@@ -5,7 +5,7 @@ use forms::Form;
 ghost use mathlib.Core.Path.{_≡_};
 ghost use Prim.Native.Nat.{_≤_, _<_, _^_};
 ghost use Rattle.definition.specs.Field.{Layout, sheetBits};
-ghost use Rattle.definition.specs.Sheet.{limits1, title, counts, body, rule};
+ghost use Rattle.definition.specs.Sheet.{sheetLimits, title, counts, body, rule};
 ghost use Rattle.forms.specs.Form.{asForm};
 ghost use Rattle.sheet.specs.End.{ends, asStep};
 ghost use Rattle.sheet.specs.Head.{asTitle, titleRefused, asCounts, countsRefused};
@@ -50,7 +50,7 @@ impl CountsRead {
 // "Rule: operator 2 (0 Normal, 1 Additional, 2 Fallback); kind 2 (0 Open, 1 Closed, 2 Unknown); comment 16".
 pub fn title_at(form: Form, sheet: &[u8], at: usize) -> TitleRead
     requires { ⌜ at < 2 ^ 31 ⌝ }
-    ensures { λ r. ⌜ asTitle r ≡ (title (asForm form) limits1) .read (sheetBits (now (sheet .entry))) at ⌝ }
+    ensures { λ r. ⌜ asTitle r ≡ (title (asForm form) sheetLimits) .read (sheetBits (now (sheet .entry))) at ⌝ }
 {
     let first = field::choice_at(sheet, at);
     let Taken::Value(operator, after_operator) = first else {
@@ -70,7 +70,7 @@ pub fn title_at(form: Form, sheet: &[u8], at: usize) -> TitleRead
 // "five counts of 10 each: years, monthdays, weeks, weekdays, spans".
 pub fn counts_at(form: Form, sheet: &[u8], at: usize) -> CountsRead
     requires { ⌜ at < 2 ^ 31 ⌝ }
-    ensures { λ r. ⌜ asCounts r ≡ (counts (asForm form) limits1) .read (sheetBits (now (sheet .entry))) at ⌝ }
+    ensures { λ r. ⌜ asCounts r ≡ (counts (asForm form) sheetLimits) .read (sheetBits (now (sheet .entry))) at ⌝ }
 {
     let first = field::count_at(form, sheet, at);
     let Taken::Value(years, after_years) = first else {
@@ -144,7 +144,7 @@ fn counted_end(form: Form, sheet: &[u8], at: usize) -> Step
 // A whole rule.
 pub fn rule_end(form: Form, sheet: &[u8], at: usize) -> Step
     requires { ⌜ at < 2 ^ 25 ⌝ }
-    ensures { λ r. ⌜ asStep r ≡ ends ((rule (asForm form) limits1) .read (sheetBits (now (sheet .entry))) at) ⌝ }
+    ensures { λ r. ⌜ asStep r ≡ ends ((rule (asForm form) sheetLimits) .read (sheetBits (now (sheet .entry))) at) ⌝ }
 {
     let head = title_at(form, sheet, at);
     match head {

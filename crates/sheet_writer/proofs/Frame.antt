@@ -9,7 +9,7 @@ use lib.ListN.{length, take, drop, replicate, length-append, length-drop, length
 use lib.Seq.{sets-eq, take-append-le, drop-append-le, drop-append-add}
 use Rattle.definition.specs.Field.{bits, number, sheetBits, bytesFor, bytes, packed, Layout, field, _then_, via, tagged, several}
 use Rattle.definition.specs.Rule.{Rule}
-use Rattle.definition.specs.Sheet.{Form, limits1, openingWidth, rule, opening, rules}
+use Rattle.definition.specs.Sheet.{Form, sheetLimits, openingWidth, rule, opening, rules}
 use Rattle.definition.specs.Fold.{buffer}
 use Rattle.definition.proofs.Bits.{Bytes, length-bits, length-sheetBits, length-bytes, bytes-sheet}
 use Rattle.item_writer.specs.Written.{Wrote}
@@ -80,11 +80,11 @@ packed-length ws = length-bytes (bytesFor (length ws)) _
 module _ (form : Form) where
   -- mark and count, the fields being as wide as the form says
   pub opening-bits : (width mark wide count : ℕ) → width ≡ form .markWidth → mark ≡ form .mark → wide ≡ form .ruleCount
-      → opening form limits1 .write count ≡ bits width mark ++ bits wide count
+      → opening form sheetLimits .write count ≡ bits width mark ++ bits wide count
   unfolding opening via _then_ field
   opening-bits width mark wide count e m v = rw (e, m, v)
 
-  pub opening-length : (count : ℕ) → length (opening form limits1 .write count) ≡ openingWidth form
+  pub opening-length : (count : ℕ) → length (opening form sheetLimits .write count) ≡ openingWidth form
   opening-length count =
       ap length (opening-bits _ _ _ count refl refl refl)
       ∙ omega (
@@ -95,6 +95,6 @@ module _ (form : Form) where
       )
 
   -- mark and count, then the rules
-  pub rules-bits : (rs : List Rule) → rules form limits1 .write rs ≡ opening form limits1 .write (length rs) ++ flatMap (rule form limits1 .write) rs
+  pub rules-bits : (rs : List Rule) → rules form sheetLimits .write rs ≡ opening form sheetLimits .write (length rs) ++ flatMap (rule form sheetLimits .write) rs
   unfolding rules tagged several
   rules-bits rs = refl

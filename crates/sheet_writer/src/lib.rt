@@ -10,7 +10,7 @@ ghost use Prim.Native.Nat.{_+_, _*_, _-_, _≤_, _<_, _^_};
 ghost use lib.ListN.{length};
 ghost use lib.Seq.{sets};
 ghost use Rattle.definition.specs.Field.{Layout, bytesFor, sheetBits};
-ghost use Rattle.definition.specs.Sheet.{limits1, opening};
+ghost use Rattle.definition.specs.Sheet.{sheetLimits, opening};
 ghost use Rattle.forms.specs.Form.{asForm};
 ghost use Rattle.item_writer.specs.Written.{RoomFor, Wrote};
 ghost use Rattle.sheet_writer.specs.Frame.{padding, between};
@@ -18,8 +18,8 @@ ghost use Rattle.sheet_writer.specs.Frame.{padding, between};
 // The mark of the form and the rule count; answers where the rules begin.
 pub fn put_opening(form: Form, out: &mut [u8], count: u64) -> usize
     requires { ⌜ count < 2 ^ asForm form .ruleCount ⌝ }
-    requires { ⌜ RoomFor (length (now out)) 0 (opening (asForm form) limits1 .write count) ⌝ }
-    ensures { λ r. ⌜ Wrote (now (out .entry)) 0 (opening (asForm form) limits1 .write count) (now (out .exit)) r ⌝ }
+    requires { ⌜ RoomFor (length (now out)) 0 (opening (asForm form) sheetLimits .write count) ⌝ }
+    ensures { λ r. ⌜ Wrote (now (out .entry)) 0 (opening (asForm form) sheetLimits .write count) (now (out .exit)) r ⌝ }
 {
     let count_at = put(out, 0, mark_width(form), mark(form));
     put(out, count_at, rule_count_width(form), count)

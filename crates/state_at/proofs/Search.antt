@@ -4,7 +4,7 @@ use mathlib.Core.List.{List, [], _∷_}
 use Prim.Native.Nat.{ℕ, suc, _+_, _*_, _-_, _≤_, _<_}
 use native.Mathlib.Omega.{arith}
 use lib.ListN.{length, getD}
-use Rattle.definition.specs.Sheet.{limits1}
+use Rattle.definition.specs.Sheet.{sheetLimits}
 use Rattle.paving.specs.Grid.{sizeOf, Node}
 use Rattle.paving.proofs.Room.{node-in, node-child}
 use Rattle.tables.specs.Cuts.{cutOf}
@@ -25,11 +25,10 @@ module _ (cuts : List ℕ) (first size value : ℕ) where
   enclosed-last lower upper h l = let z : upper ≡ suc lower = omega (arith, h .0) in (omega (arith, h .0, h .1), h .2, subst (λ k. value < getD cuts (first + k) 0) z (h .3))
 
 -- ## A child, and a box
-pub child-low : (sizes : List ℕ) (i node size x : ℕ) → Node (sizeOf sizes 4) sizes (suc i) node → sizeOf sizes 4 ≤ limits1 .boxes → size ≡ getD sizes i 0
-    → x < size → node * size + x < 1024
+pub child-low : (sizes : List ℕ) (i node size x : ℕ) → Node (sizeOf sizes 4) sizes (suc i) node → sizeOf sizes 4 ≤ sheetLimits .boxes → size ≡ getD sizes i 0
+    → x < size → node * size + x < sheetLimits .boxes
 child-low sizes i node size x n few s h =
-    let k : sizeOf sizes 4 ≤ 1024 = few in
-    omega (arith, k, node-in (sizeOf sizes 4) sizes i (node * size + x) (node-child (sizeOf sizes 4) sizes i node size x s h n))
+    omega (arith, few, node-in (sizeOf sizes 4) sizes i (node * size + x) (node-child (sizeOf sizes 4) sizes i node size x s h n))
 
 module _ (rows sizes cuts : List ℕ) where
   -- a row around a value can be searched

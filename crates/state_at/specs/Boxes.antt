@@ -4,7 +4,7 @@ use mathlib.Core.List.{List, [], _∷_}
 use Prim.Native.Nat.{ℕ, zero, suc, _+_, _*_, _≤_, _<_}
 use lib.ListN.{length, getD}
 use Rattle.grid.specs.Cut.{Range}
-use Rattle.definition.specs.Sheet.{limits1}
+use Rattle.definition.specs.Sheet.{sheetLimits}
 use Rattle.paving.specs.Grid.{sizeOf, Node}
 use Rattle.tables.specs.Cuts.{cutOf}
 use Rattle.tables.specs.Lists.{boxOf}
@@ -60,7 +60,7 @@ module _ (rows sizes cuts : List ℕ) where
   -- a grid of few boxes around a point
   pub record Gridded (q : List ℕ) : Type 0 where
     pub top : Node (sizeOf sizes 4) sizes 4 0
-    pub few : sizeOf sizes 4 ≤ limits1 .boxes
+    pub few : sizeOf sizes 4 ≤ sheetLimits .boxes
     pub framed : AllFramed 4 q
 
   -- THE BOX OF A POINT

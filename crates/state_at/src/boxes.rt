@@ -4,7 +4,7 @@ use casts::u16_to_usize;
 ghost use mathlib.Core.List.{[], _∷_};
 ghost use Prim.Native.Nat.{suc, _+_, _≤_, _<_};
 ghost use lib.ListN.{length, getD};
-ghost use Rattle.definition.specs.Sheet.{limits1};
+ghost use Rattle.definition.specs.Sheet.{sheetLimits};
 ghost use Rattle.paving.specs.Grid.{sizeOf, Node};
 ghost use Rattle.state_at.specs.Boxes.{Framed, ChildAt, Gridded, BoxAt};
 
@@ -36,7 +36,7 @@ fn child_at(
     value: u16,
 ) -> usize
     requires { ⌜ Framed (now «row_starts») (now sizes) (now cuts) dimension value ⌝ }
-    requires { ⌜ Node (sizeOf (now sizes) 4) (now sizes) (suc dimension) «box_index» × (sizeOf (now sizes) 4 ≤ limits1 .boxes) ⌝ }
+    requires { ⌜ Node (sizeOf (now sizes) 4) (now sizes) (suc dimension) «box_index» × (sizeOf (now sizes) 4 ≤ sheetLimits .boxes) ⌝ }
     ensures { λ r. ⌜ ChildAt (now («row_starts» .entry)) (now (sizes .entry)) (now (cuts .entry)) dimension «box_index» value r ⌝ }
 {
     let size = u16_to_usize(sizes[dimension]);

@@ -8,7 +8,7 @@ use lib.ListN.{length}
 use Rattle.laws.specs.Lists.{anyOf}
 use Rattle.definition.specs.Field.{got, Layout}
 use Rattle.definition.specs.Rule.{Operator, WeekDayRange, Rule}
-use Rattle.definition.specs.Sheet.{Form, limits1, titleWidth, headWidth, yearRange, monthdayRange, weekRange, weekDayRange, span, Counts, counts}
+use Rattle.definition.specs.Sheet.{Form, sheetLimits, titleWidth, headWidth, yearRange, monthdayRange, weekRange, weekDayRange, span, Counts, counts}
 use Rattle.definition.specs.Stop.{isFallback, yearStops, monthdayStops, weekStops, isHoliday, isMoved, lacksNth, spanStops, firstThatApplies, reason}
 use Rattle.definition.proofs.RuleParts.{RuleParts}
 use Rattle.sheet.specs.Begin.{ruleReadAt, Readable}
@@ -77,7 +77,7 @@ module _ (form : Form) (s : List ℕ) (p : ℕ) (r : Rule) (q : ℕ) (w : RulePa
 
 module _ (form : Form) (s : List ℕ) (p : ℕ) (readable : Readable form s p) where
   -- by the counts that were read
-  pub parts-read : (n : Counts) (i q : ℕ) → i ≡ p + titleWidth form → (counts form limits1) .read s i ≡ got n q
+  pub parts-read : (n : Counts) (i q : ℕ) → i ≡ p + titleWidth form → (counts form sheetLimits) .read s i ≡ got n q
       → bodyReason (n .0) (n .1 .0) (n .1 .1 .0) (n .1 .1 .1 .0) (n .1 .1 .1 .1) s q ≡ partsReason (ruleReadAt form s p)
   parts-read n i q z e =
       let same = counts-same form s p readable n i q z e in

@@ -7,7 +7,7 @@ use lib.ListN.{length, take, drop}
 use Rattle.laws.specs.Lists.{All}
 use Rattle.laws.proofs.Lists.{All-map}
 use Rattle.definition.specs.Rule.{Rule}
-use Rattle.definition.specs.Sheet.{form2, limits1}
+use Rattle.definition.specs.Sheet.{form2, sheetLimits}
 use Rattle.definition.proofs.Lawful.{Lawful, rule-lawful}
 use Rattle.tables.specs.Ranges.{tableRow}
 use Rattle.tables.specs.Rules.{ruleAt, AllFit, DaysHeld, RuleDays}
@@ -15,7 +15,7 @@ use Rattle.tables.proofs.Ranges.{part-length, row-lent}
 
 -- rules that a sheet can carry are lawful
 pub fits-lawful : (rs : List Rule) → AllFit rs → All Lawful rs
-fits-lawful rs h = All-map (λ r f. rule-lawful form2 limits1 r f) rs h
+fits-lawful rs h = All-map (λ r f. rule-lawful form2 sheetLimits r f) rs h
 
 module _ (counts ranges : List ℕ) (n : ℕ) (rs : List Rule) (days : RuleDays counts ranges n rs) where
   module _ (k : ℕ) (here : k < n) where

@@ -9,7 +9,7 @@ use lib.ListN.{length, getD, length-map}
 use Rattle.laws.specs.Lists.{All}
 use Rattle.laws.proofs.Lists.{All-at, every-all}
 use Rattle.definition.specs.Rule.{Normal, Span, Rule, noRule}
-use Rattle.definition.specs.Sheet.{form2, limits1, span, rule}
+use Rattle.definition.specs.Sheet.{form2, sheetLimits, span, rule}
 use Rattle.definition.specs.Day.{Entry, flattened, entryOf, day, dayOf}
 use Rattle.definition.specs.Group.{asRule}
 use Rattle.definition.proofs.Lawful.{items-fit}
@@ -39,13 +39,13 @@ module _ (states counts spans : List ℕ) where
   abbrev pub entryAt : ℕ → Entry
   entryAt k = (stateCoded (getD states k 0), map spanAt (part spans (k * 16) (getD counts k 0)))
 
-  pub entry-back : (k : ℕ) (r : Rule) → TimesAt states counts spans k r → (rule form2 limits1) .fits r ≡ true → entryAt k ≡ entryOf r
+  pub entry-back : (k : ℕ) (r : Rule) → TimesAt states counts spans k r → (rule form2 sheetLimits) .fits r ≡ true → entryAt k ≡ entryOf r
   entry-back k r h f =
       let numbers = map spanNumber (r .spans) in
       let long : getD counts k 0 ≡ length numbers = h .count-held ∙ sym (length-map (r .spans) spanNumber) in
       let held : part spans (k * 16) (getD counts k 0) ≡ numbers =
       ap (part spans (k * 16)) long ∙ part-held spans (k * 16) numbers (λ j l. h .spans-held j (omega (arith, length-map (r .spans) spanNumber))) in
-      let fit = every-all (λ s. span .fits s ≡ true) (span .fits) (λ s e. e) (r .spans) (items-fit form2 limits1 r f .spans-fit) in
+      let fit = every-all (λ s. span .fits s ≡ true) (span .fits) (λ s e. e) (r .spans) (items-fit form2 sheetLimits r f .spans-fit) in
       ap₂ (λ S ss. (S, ss)) (ap stateCoded (h .state-held) ∙ number-state (r .state)) (ap (map spanAt) held ∙ spans-back (r .spans) fit)
 
   -- ## A list

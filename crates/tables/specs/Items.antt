@@ -8,6 +8,7 @@ use lib.ListN.{length, take, drop, getD}
 use Rattle.laws.specs.Lists.{All}
 use Rattle.definition.specs.Rule.{yearBounds, monthBounds, weekBounds, weekdayBounds, Rule}
 use Rattle.definition.specs.Range.{Ends}
+use Rattle.definition.specs.Sheet.{Form, mostItems}
 use Rattle.definition.specs.Point.{Dimension}
 
 -- ## Sorts
@@ -39,6 +40,10 @@ unfoldable pub endsAt : List ℕ → ℕ → ℕ → List Ends
 endsAt ends place many = pairs (take (2 * many) (drop place ends))
 
 -- ## Rows
+-- so many items of each sort are no more than the counts of a form can carry
+abbrev pub FewItems : Form → List ℕ → Type 0
+FewItems form counts = (sort : ℕ) → sort < 4 → getD counts sort 0 ≤ mostItems form
+
 -- where a sort's row begins, and the row
 unfoldable pub rowPlace : List ℕ → ℕ → ℕ
 rowPlace counts zero = 0
@@ -52,11 +57,11 @@ unfoldable pub rowsBelow : List ℕ → List ℕ → ℕ → List (List Ends)
 rowsBelow ends counts zero = []
 rowsBelow ends counts (suc sort) = row ends counts sort ∷ rowsBelow ends counts sort
 
--- rows that are all there, with counts that a head can carry and values that a field can
+-- rows that are all there, with counts that the heads of form 2 can carry and values that a field can
 pub record Rows (ends counts : List ℕ) : Type 0 where
   pub four : 4 ≤ length counts
   pub inside : rowPlace counts 4 ≤ length ends
-  pub few : (sort : ℕ) → getD counts sort 0 < 2 ^ 10
+  pub few : (sort : ℕ) → getD counts sort 0 < 2 ^ 12
   pub lawful : (sort : ℕ) → sort < 4 → All (Below (upperOf sort)) (row ends counts sort)
 
 -- a rule with given items in each dimension

@@ -8,7 +8,7 @@ use lib.ListN.{length, getD, take, replicate}
 use Rattle.laws.specs.Lists.{from, All}
 use Rattle.grid.specs.Group.{somewhere}
 use Rattle.definition.specs.Rule.{Rule}
-use Rattle.definition.specs.Sheet.{limits1}
+use Rattle.definition.specs.Sheet.{sheetLimits}
 use Rattle.definition.specs.Point.{points, listAt, tooLong}
 use Rattle.paving.specs.Grid.{sizeOf}
 use Rattle.tables.specs.Sizes.{listPlaces, listLimit}
@@ -27,7 +27,7 @@ Short lists = (node : ℕ) → getD lists (node * listPlaces) 0 ≤ listLimit
 pub record Empty (lists : List ℕ) (boxes : ℕ) : Type 0 where
   pub zeros : lists ≡ replicate (length lists) 0
   pub room : boxes * listPlaces ≤ length lists
-  pub few : boxes ≤ limits1 .boxes
+  pub few : boxes ≤ sheetLimits .boxes
 
 -- ## Boxes
 -- one interval number for each dimension
@@ -60,7 +60,7 @@ pub record Listed (sizes rows table lists : List ℕ) (rs : List Rule) (k : ℕ)
 -- A LIST FOR EACH BOX, that of its points
 pub record Boxed (rows sizes table lists : List ℕ) (rs : List Rule) : Type 0 where
   pub cut : Cut rows sizes table rs
-  pub few-rules : length rs ≤ limits1 .rules
-  pub few-boxes : sizeOf sizes 4 ≤ limits1 .boxes
+  pub few-rules : length rs ≤ sheetLimits .rules
+  pub few-boxes : sizeOf sizes 4 ≤ sheetLimits .boxes
   pub all-lists : sizeOf sizes 4 * listPlaces ≤ length lists
   pub listed : Listed sizes rows table lists rs (length rs)

@@ -3,12 +3,12 @@
 -- maximal runs".
 use mathlib.Core.Path.{_≡_}
 use mathlib.Core.List.{List, [], _∷_, _++_, map, flatMap}
-use Prim.Native.Nat.{ℕ, zero, suc, _+_, _*_, _-_, _≤_}
+use Prim.Native.Nat.{ℕ, zero, suc, _+_, _-_, _≤_}
 use lib.ListN.{length, take, drop, getD}
 use Rattle.laws.specs.Lists.{All}
 use Rattle.definition.specs.Rule.{Rule}
 use Rattle.definition.specs.Range.{Ends}
-use Rattle.definition.specs.Sheet.{Form, limits1}
+use Rattle.definition.specs.Sheet.{Form, sheetLimits}
 use Rattle.definition.specs.Point.{dimensions}
 use Rattle.definition.specs.Day.{Day}
 use Rattle.definition.specs.Group.{asRules, folded}
@@ -79,9 +79,8 @@ module _ (form : Form) (states counts spans lists pages : List ℕ) (room : ℕ)
   Pages zero at = Unit {0}
   Pages (suc n) at = PageReady at × Pages n (at + pageSize pages at)
 
--- THE PAGES OF SOME RULES' FOLD, so many, from the front on; "A group has at most 33 rules."
+-- THE PAGES OF SOME RULES' FOLD, so many, from the front on
 pub record Paged (form : Form) (states counts spans lists pages : List ℕ) (n : ℕ) (rs : List Rule) : Type 0 where
-  pub few : n ≤ limits1 .boxes
+  pub few : n ≤ sheetLimits .boxes
   pub ready : Pages form states counts spans lists pages dayRoom n 0
-  pub brief : length (folded rs) ≤ 33 * n
   pub rules : pagedRules states counts spans lists pages n ≡ folded rs

@@ -7,7 +7,7 @@ use Prim.Native.Nat.{ℕ, _+_, _*_, _^_, _≤_, _<_}
 use lib.ListN.{length, getD}
 use Rattle.laws.specs.Lists.{All}
 use Rattle.definition.specs.Rule.{State, Rule, noRule}
-use Rattle.definition.specs.Sheet.{Form, form2, limits1, rule}
+use Rattle.definition.specs.Sheet.{Form, form2, sheetLimits, rule}
 use Rattle.definition.specs.Point.{dimensions, selector, replaces}
 use Rattle.codes.specs.Number.{stateNumber, spanNumber}
 use Rattle.tables.specs.Sizes.{rangePlaces}
@@ -19,7 +19,7 @@ ruleAt rs k = getD rs k noRule
 
 -- each is one that a sheet can carry: form 2 carries every rule that form 1 does
 abbrev pub AllFit : List Rule → Type 0
-AllFit = All (λ r. (rule form2 limits1) .fits r ≡ true)
+AllFit = All (λ r. (rule form2 sheetLimits) .fits r ≡ true)
 
 -- a state's comment has room in a form; and those of some rules have
 abbrev pub Commented : Form → State → Type 0
@@ -33,7 +33,7 @@ AllCommented form = All (λ r. Commented form (r .state))
 pub record TimesAt (states counts spans : List ℕ) (k : ℕ) (r : Rule) : Type 0 where
   pub state-held : getD states k 0 ≡ stateNumber (r .state)
   pub count-held : getD counts k 0 ≡ length (r .spans)
-  pub few-held : length (r .spans) ≤ limits1 .spans
+  pub few-held : length (r .spans) ≤ sheetLimits .spans
   pub spans-held : (j : ℕ) → j < length (r .spans) → getD spans (k * 16 + j) 0 ≡ getD (map spanNumber (r .spans)) j 0
 
 -- THE TIMES OF SOME RULES, and of no others
@@ -53,7 +53,7 @@ pub record DaysHeld (counts ranges : List ℕ) (r : Rule) : Type 0 where
 -- THE DAYS OF SOME RULES, so many
 pub record RuleDays (counts ranges : List ℕ) (n : ℕ) (rs : List Rule) : Type 0 where
   pub many : n ≡ length rs
-  pub few-rules : n ≤ limits1 .rules
+  pub few-rules : n ≤ sheetLimits .rules
   pub all-counts : n * 4 ≤ length counts
   pub all-ranges : n * 256 ≤ length ranges
   pub each : (k : ℕ) → k < n → DaysHeld (tableRow counts k 4) (tableRow ranges k 256) (ruleAt rs k)

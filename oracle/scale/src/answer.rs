@@ -12,7 +12,7 @@ pub struct Numbers {
 /// Code, drained, emitted, left, bytes, place and why.
 pub const FOLD_NUMBERS: Numbers = Numbers { count: 7, place: 5 };
 /// Where the bytes of a fold stand among its numbers.
-pub const FOLD_BYTES: usize = 4;
+const FOLD_BYTES: usize = 4;
 /// Code, bytes and place, of a write-back, a line or a conversion.
 pub const WRITTEN_NUMBERS: Numbers = Numbers { count: 3, place: 2 };
 /// Code, kind, comment and place.
@@ -56,6 +56,16 @@ impl Answer {
         let done = outcome.map(|result| (vec![0, result.len() as u64, 0], result));
 
         Self::of(done, WRITTEN_NUMBERS)
+    }
+
+    /// The answer of a fold that says the same in other bytes.
+    pub fn with_result(&self, result: Vec<u8>) -> Self {
+        let mut answer = Self {
+            result,
+            ..self.clone()
+        };
+        answer.numbers[FOLD_BYTES] = answer.result.len() as u64;
+        answer
     }
 
     /// The answer where the buffer has so many bytes.

@@ -109,6 +109,7 @@ pub fn lookup(given: Given, [year, month, day, minute]: [u64; 4], numbers: &mut 
 #[cfg(test)]
 mod tests {
     use super::*;
+    use crate::stack::with_stack;
 
     const EMPTY_SHEET: Given = Given {
         form: 1,
@@ -121,11 +122,11 @@ mod tests {
     fn a_fold_takes_seven_numbers_and_writes_nothing_into_six() {
         let mut out = [BYTE; 3];
         let mut six = [NUMBER; 6];
-        assert!(!fold(EMPTY_SHEET, &mut out, &mut six));
+        assert!(!with_stack(|| fold(EMPTY_SHEET, &mut out, &mut six)));
         assert_eq!((out, six), ([BYTE; 3], [NUMBER; 6]));
 
         let mut seven = [NUMBER; 7];
-        assert!(fold(EMPTY_SHEET, &mut out, &mut seven));
+        assert!(with_stack(|| fold(EMPTY_SHEET, &mut out, &mut seven)));
         assert_eq!((out, seven), ([0, 0, BYTE], [0, 0, 0, 0, 2, 0, 0]));
     }
 
@@ -137,7 +138,8 @@ mod tests {
                 form,
                 ..EMPTY_SHEET
             };
-            assert_eq!(numbers(fold, given, &mut out), [2, 0, 0, 0, 0, 0, 0]);
+            let refused = with_stack(|| numbers(fold, given, &mut out));
+            assert_eq!(refused, [2, 0, 0, 0, 0, 0, 0]);
             assert_eq!(out, [BYTE; 3]);
         }
     }

@@ -6,11 +6,15 @@ use crate::archive::Given;
 use crate::convert::LAST_SHORT_COMMENT;
 use crate::random::Random;
 use crate::rule::{
-    ADDITIONAL, CLOSED, ITEM_LIMIT, MIDNIGHT, NORMAL, OPEN, RULE_LIMIT, Rule, Span, Stepped, Time,
-    UNKNOWN, fixed, fixed_time, months, range, weekdays,
+    ADDITIONAL, CLOSED, ITEM_LIMIT, MIDNIGHT, NORMAL, OPEN, Rule, Span, Stepped, Time, UNKNOWN,
+    fixed, fixed_time, months, range, weekdays,
 };
 use crate::sheet::write_sheet;
 
+/// Once the most that a sheet might have.
+pub const MANY_RULES: u32 = 64;
+
+#[derive(Clone)]
 pub struct BenchSheet {
     pub name: &'static str,
     pub form: Form,
@@ -32,7 +36,7 @@ pub fn bench_sheets() -> Vec<BenchSheet> {
         ("two rules (P2)", worked_day_p2()),
         ("20 rules of a landing site", landing_site()),
         ("64 rules, 1,024 boxes in all dimensions", all_dimensions()),
-        ("64 rules, 1,023 boxes in years", many_years(0)),
+        ("64 rules, 1,023 boxes in years", years_of_64_rules(0)),
         ("24 rules, 1,024 groups", many_groups(0)),
         (
             "52 rules, 1,024 groups of lists of 32 rules",
@@ -40,7 +44,7 @@ pub fn bench_sheets() -> Vec<BenchSheet> {
         ),
         (
             "64 rules, 1,023 boxes in years, lists of up to 32 rules",
-            many_years(30),
+            years_of_64_rules(30),
         ),
     ]);
 
@@ -55,7 +59,7 @@ pub fn named<const N: usize>(sheets: [(&'static str, Vec<Rule>); N]) -> Vec<Benc
         .into()
 }
 
-fn bench_sheet(name: &'static str, form: Form, rules: Vec<Rule>) -> BenchSheet {
+pub fn bench_sheet(name: &'static str, form: Form, rules: Vec<Rule>) -> BenchSheet {
     BenchSheet {
         name,
         form,
@@ -218,7 +222,16 @@ const YEAR_CUTS: [u32; 9] = [1900, 2020, 2021, 2022, 2023, 2024, 2025, 2026, 100
 /// Rules over some stretch of intervals in each dimension, every other one Additional: 4 by 4 by 8 by 8 boxes.
 pub fn all_dimensions() -> Vec<Rule> {
     let mut random = Random::new(64, 1024);
-    let mut stretch = |cuts: &[u32]| {
+    let cuts = [&WEEKDAY_CUTS[..], &WEEK_CUTS, &MONTH_CUTS, &YEAR_CUTS];
+
+    (0..MANY_RULES)
+        .map(|number| stretched_rule(&mut random, number, cuts))
+        .collect()
+}
+
+/// The rule of a number over some stretch between the cuts of each dimension.
+pub fn stretched_rule(random: &mut Random, number: u32, cuts: [&[u32]; 4]) -> Rule {
+    let [days, weeks, months, years] = cuts.map(|cuts| {
         let (one, other) = (random.below(cuts.len()), random.below(cuts.len() - 1));
         let (from, to) = if other < one {
             (other, one)
@@ -226,38 +239,33 @@ pub fn all_dimensions() -> Vec<Rule> {
             (one, other + 1)
         };
         (cuts[from], cuts[to] - 1)
-    };
+    });
+    let hour = number % 12;
 
-    (0..RULE_LIMIT as u32)
-        .map(|number| {
-            let (first_day, last_day) = stretch(&WEEKDAY_CUTS);
-            let (first_week, last_week) = stretch(&WEEK_CUTS);
-            let (first_month, last_month) = stretch(&MONTH_CUTS);
-            let (first_year, last_year) = stretch(&YEAR_CUTS);
-            let hour = number % 12;
-
-            Rule {
-                operator: [NORMAL, ADDITIONAL][number as usize % 2],
-                ..normal([OPEN, UNKNOWN, CLOSED][number as usize % 3], hour, hour + 9)
-            }
-            .saying(number % 7)
-            .on(first_day, last_day)
-            .in_weeks(first_week, last_week)
-            .in_months(first_month, last_month)
-            .in_years(first_year, last_year)
-        })
-        .collect()
+    Rule {
+        operator: [NORMAL, ADDITIONAL][number as usize % 2],
+        ..normal([OPEN, UNKNOWN, CLOSED][number as usize % 3], hour, hour + 9)
+    }
+    .saying(number % 7)
+    .on(days.0, days.1)
+    .in_weeks(weeks.0, weeks.1)
+    .in_months(months.0, months.1)
+    .in_years(years.0, years.1)
 }
 
-/// 511 years, each alone between years that no rule names, shared out sixteen to a rule, so that most stand in two rules; after so many
-/// rules that stand on every day, whose spans follow each other without touching.
-fn many_years(on_every_day: u32) -> Vec<Rule> {
+fn years_of_64_rules(on_every_day: u32) -> Vec<Rule> {
+    many_years(MANY_RULES as usize, 511, on_every_day)
+}
+
+/// So many rules and years. Each year is alone between years that no rule names; they are shared out sixteen to a rule, so that most stand in
+/// two rules; after some rules that stand on every day, whose spans follow each other without touching.
+pub fn many_years(rules: usize, years: usize, on_every_day: u32) -> Vec<Rule> {
     let single = |number: usize| {
-        let year = 1901 + 2 * (number % 511) as u32;
+        let year = 1901 + 2 * (number % years) as u32;
         range(year, year)
     };
 
-    let in_years = (0..RULE_LIMIT - on_every_day as usize).map(|number| {
+    let in_years = (0..rules - on_every_day as usize).map(|number| {
         let hour = number as u32 % 20;
         let years = number * ITEM_LIMIT..(number + 1) * ITEM_LIMIT;
 

@@ -39,6 +39,8 @@ pub const CONVERT: Entry = Entry::new("convert", archive::convert, WRITTEN_NUMBE
 /// What a buffer holds before a call. Two fills, so that no byte written can pass for one left alone in both.
 const FILLS: [u8; 2] = [0xA5, 0x5A];
 const NUMBER_FILL: u64 = 0xA5A5_5A5A_A5A5_5A5A;
+/// Bytes of a buffer that are printed where it differs.
+const SHOWN: usize = 4096;
 /// Numbers lent beyond those that are answered.
 const NUMBERS_MORE: usize = 2;
 
@@ -65,7 +67,17 @@ pub fn compare_rooms(
 
 /// A buffer that is exactly full.
 pub fn compare_full(entry: &Entry, given: Given, ample: &Answer) -> Result<(), Difference> {
-    compare_room(entry, given, ample, ample.result.len(), FILLS[0])
+    compare_in_room(entry, given, ample, ample.result.len())
+}
+
+/// A buffer of so many bytes.
+pub fn compare_in_room(
+    entry: &Entry,
+    given: Given,
+    ample: &Answer,
+    room: usize,
+) -> Result<(), Difference> {
+    compare_room(entry, given, ample, room, FILLS[0])
 }
 
 fn compare_room(
@@ -154,6 +166,9 @@ fn held(call: impl Fn() -> String, expected: Seen, given: Seen) -> Result<(), Di
     })
 }
 
+/// The buffer's front alone, where it is long.
 fn shown((answered, numbers, buffer): &Seen) -> String {
-    format!("{answered} {numbers:?} {}", oracle::bits::to_hex(buffer))
+    let length = buffer.len();
+    let front = oracle::bits::to_hex(&buffer[..length.min(SHOWN)]);
+    format!("{answered} {numbers:?} {front} ({length} bytes)")
 }

@@ -1,7 +1,8 @@
 //! The sheets of the bench that are checked alone, the largest accepted one among them.
 
 use crate::bench_sheets::{
-    BenchSheet, all_dimensions, landing_site, landing_site_of_form_2, named, worked_day_p2,
+    BenchSheet, MANY_RULES, all_dimensions, landing_site, landing_site_of_form_2, named,
+    worked_day_p2,
 };
 use crate::rule::{DATED, ITEM_LIMIT, Monthday, RULE_LIMIT, Rule, Span, Time, range, weekdays};
 
@@ -10,15 +11,16 @@ pub fn check_sheets() -> Vec<BenchSheet> {
         ("two rules (P2)", worked_day_p2()),
         ("20 rules of a landing site", landing_site()),
         ("64 rules, in all dimensions", all_dimensions()),
-        ("64 rules, the largest sheet", largest_sheet()),
+        ("64 full rules", full_rules(MANY_RULES as usize)),
+        ("256 full rules, the largest sheet", full_rules(RULE_LIMIT)),
     ]);
 
     sheets.push(landing_site_of_form_2());
     sheets
 }
 
-/// As many rules, items and spans as there may be, each of the sort that takes most bits.
-fn largest_sheet() -> Vec<Rule> {
+/// So many rules of as many items and spans as there may be, each of the sort that takes most bits.
+pub fn full_rules(count: usize) -> Vec<Rule> {
     let reference = Monthday {
         tag: DATED,
         ..Monthday::default()
@@ -42,7 +44,7 @@ fn largest_sheet() -> Vec<Rule> {
         ..Rule::default()
     };
 
-    vec![rule; RULE_LIMIT]
+    vec![rule; count]
 }
 
 #[cfg(test)]
@@ -56,8 +58,12 @@ mod tests {
     /// of rules. In form 2 a rule's head has 18 bits more, and head and count of the sheet have 28.
     #[test]
     fn largest() {
-        let bytes = |form| write_sheet(form, largest_sheet()).len();
-        assert_eq!(bytes(Form::One), (16 + 64 * 2998) / 8);
-        assert_eq!(bytes(Form::Two), (28 + 64 * 3016_usize).div_ceil(8));
+        let bytes = |form, count| write_sheet(form, full_rules(count)).len();
+        assert_eq!(bytes(Form::One, 64), 23_986);
+        assert_eq!(bytes(Form::One, RULE_LIMIT), (16 + 256 * 2998) / 8);
+        assert_eq!(
+            bytes(Form::Two, RULE_LIMIT),
+            (28 + 256 * 3016_usize).div_ceil(8)
+        );
     }
 }

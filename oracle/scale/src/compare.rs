@@ -77,9 +77,11 @@ fn count(sheet: &Sheet, folded: &Answer, line: &Answer, converted: &Answer, tall
         .conversion(sheet.given().form, &converted.numbers);
 
     if let Ok(accepted) = sheet.accepted() {
-        tally.overlaps(accepted);
+        let is_folded = folded.numbers[0] == 0;
+        tally.overlaps(accepted, is_folded);
         tally.forms.comments(accepted.rules());
-        if let Some(extent) = accepted.extent() {
+        tally.large.sheet(accepted.rules().len());
+        if let Some(extent) = accepted.extent().filter(|_| is_folded) {
             tally.accepted_fold(accepted.rules(), extent, sheet.is_inside());
             tally.stopped(accepted.reasons());
         }
@@ -111,7 +113,7 @@ fn compare_lookups(
     Ok(())
 }
 
-/// A sheet moved to the other form comes back byte for byte, has the same line, and its fold is the fold moved.
+/// A sheet moved to the other form comes back byte for byte, has the same line, and its fold is the fold moved, unless form 1 can't count it.
 fn compare_moved(
     sheet: &Sheet,
     moved: Given,
@@ -122,10 +124,9 @@ fn compare_moved(
     compare_full(&CONVERT, moved, &sheet.write_back())?;
     compare_full(&LINE, moved, line)?;
 
-    if let Some(folded) = sheet.fold_moved(folded) {
-        compare_full(&FOLD, moved, &folded)?;
-        tally.forms.folds_moved += 1;
-    }
+    let folded_there = sheet.fold_moved(folded, moved);
+    compare_full(&FOLD, moved, &folded_there)?;
+    tally.forms.fold_moved(folded, &folded_there);
 
     Ok(())
 }

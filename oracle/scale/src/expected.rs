@@ -9,10 +9,11 @@ use oracle::bits::{BitReader, BitWriter};
 use oracle::fold::{Folded, fold_sheet, read_expression};
 use oracle::form::Form;
 
-use crate::answer::{Answer, FOLD_BYTES, FOLD_NUMBERS, LOOKUP_NUMBERS};
+use crate::answer::{Answer, FOLD_NUMBERS, LOOKUP_NUMBERS};
 use crate::archive::Given;
 use crate::calendar::point_of;
 use crate::convert::moved_to;
+use crate::counts::{PAST_COUNTS, check_counts};
 use crate::layout::Refusal;
 use crate::line::{Unsaid, first_unsaid, line_of};
 use crate::overlap::check_overlaps;
@@ -134,10 +135,12 @@ impl<'a> Sheet<'a> {
         });
         let drained = accepted.drained().len();
         assert_eq!(folded.drained, drained, "the Rust drains as many rules");
+        check_counts(accepted.form, &folded)?;
 
         // Where the rules left were copied, they are not in the count yet.
         let counted = folded.emitted + folded.left;
-        let mut result = folded.result.into_bytes();
+        let carried = folded.result.expect("the counts carry the result");
+        let mut result = carried.into_bytes();
         let (place, width) = (
             accepted.form.rule_count_place(),
             accepted.form.rule_count_width(),
@@ -178,19 +181,17 @@ impl<'a> Sheet<'a> {
         Answer::written(moved)
     }
 
-    /// What the fold of the sheet moved to the other form answers, where this one's fold answers so: the same rules, or the same refusal.
-    /// Nothing where the result passes a sheet's limits, so that it can't be read.
-    pub fn fold_moved(&self, folded: &Answer) -> Option<Answer> {
-        let form = self.accepted().ok()?.form;
-        let mut moved = folded.clone();
+    /// What the fold of an accepted sheet moved to the other form answers, where this one's fold answers so: the same rules, or the same
+    /// refusal. Where the result passes a sheet's limits, so that it can't be read, or form 1 can't count it, the Rust is asked again.
+    pub fn fold_moved(&self, folded: &Answer, moved: Given) -> Answer {
+        let form = Form::of(self.given.form).expect("an accepted sheet has a form");
+        let read = read_sheet(form, &folded.result);
 
-        if folded.numbers[0] == 0 {
-            let rules = read_sheet(form, &folded.result).ok()?.rules;
-            moved.result = write_sheet(form.other(), rules);
-            moved.numbers[FOLD_BYTES] = moved.result.len() as u64;
+        match (folded.numbers[0], read) {
+            (0, Ok(read)) => folded.with_result(write_sheet(form.other(), read.rules)),
+            (0 | PAST_COUNTS, _) => Sheet::new(moved).fold(),
+            _ => folded.clone(),
         }
-
-        Some(moved)
     }
 
     /// The sheet's line in an ample buffer.
@@ -244,19 +245,17 @@ impl<'a> Sheet<'a> {
 
 /// The fold of a sheet that the Rust can't hold: the drained rules with wrapping years and weeks as halves, then the rules left. The
 /// count in front is that of the folded rules alone.
-fn fold_halves(sheet: &[u8], accepted: &Accepted) -> Folded<BitWriter> {
+fn fold_halves(sheet: &[u8], accepted: &Accepted) -> Folded<Option<BitWriter>> {
     let (form, drained) = (accepted.form, accepted.drained());
     let halved = write_sheet(form, drained.iter().map(with_halves).collect());
     let mut folded = fold_sheet(form, &halved).expect("the Rust holds rising ranges of step 1");
     let places = &accepted.read.places;
 
     folded.left = accepted.left().len();
-    copy_bits(
-        &mut folded.result,
-        sheet,
-        places[drained.len()],
-        places[places.len() - 1],
-    );
+    if let Some(result) = &mut folded.result {
+        let (from, end) = (places[drained.len()], places[places.len() - 1]);
+        copy_bits(result, sheet, from, end);
+    }
     folded
 }
 

@@ -4,6 +4,7 @@ use std::fmt::{Display, Formatter, Result};
 
 use oracle::form::Form;
 
+use crate::answer::Answer;
 use crate::convert::{LAST_SHORT_COMMENT, LONG_COMMENT, has_long_comment};
 use crate::rule::Rule;
 use crate::sizes::{Sizes, add_each, met};
@@ -11,8 +12,9 @@ use crate::tally::{CODES, by_code};
 
 #[derive(Default)]
 pub struct Forms {
-    /// Folds of sheets that were moved to the other form.
-    pub folds_moved: u64,
+    /// Folds of sheets that were moved to the other form, and those of which form 1 can't count the result.
+    folds_moved: u64,
+    folded_in_one: u64,
     /// Sheets given in a form that is none, to all functions.
     pub refused: u64,
     /// How many sheets were given in form 1, and in form 2.
@@ -38,6 +40,12 @@ impl Forms {
         }
     }
 
+    /// The same sheet folded in its form, and in the other one.
+    pub fn fold_moved(&mut self, here: &Answer, there: &Answer) {
+        self.folds_moved += 1;
+        self.folded_in_one += u64::from(here.numbers[0] != there.numbers[0]);
+    }
+
     /// Those of an accepted sheet.
     pub fn comments(&mut self, rules: &[Rule]) {
         for rule in rules {
@@ -54,6 +62,7 @@ impl Forms {
 
     pub fn add(&mut self, other: &Self) {
         self.folds_moved += other.folds_moved;
+        self.folded_in_one += other.folded_in_one;
         self.refused += other.refused;
         add_each(&mut self.sheets, &other.sheets);
         add_each(&mut self.codes, &other.codes);
@@ -84,8 +93,8 @@ impl Display for Forms {
         )?;
         writeln!(
             f,
-            "  folds of sheets moved to the other form: {}",
-            self.folds_moved
+            "  folds of sheets moved to the other form: {}, of them {} refused by 13 in form 1 alone",
+            self.folds_moved, self.folded_in_one
         )?;
         write!(f, "  sheets given in a form that is none: {}", self.refused)
     }

@@ -2,8 +2,8 @@
 //!
 //! What a fold gives is the Rust's to say (`oracle::fold`), in either form. Where a sheet is refused, what a lookup finds, what a sheet's
 //! line is, what it is in the other form, and why a fold stopped, the Rust has no say: that is document 01 written plainly (`sheet`,
-//! `points`, `calendar`, `expected`), and 02's M-100 (`line`), M-101 (`overlap`), M-104 (`calendar`), M-105 (`why`) and M-106 (`layout`,
-//! `convert`), as in oracle/reference. The widths of the two forms stand once, with the Rust oracle (`oracle::form`).
+//! `points`, `calendar`, `expected`), and 02's M-100 (`line`), M-101 (`overlap`), M-104 (`calendar`), M-105 (`why`), M-106 (`layout`,
+//! `convert`) and M-107 (`counts`), as in oracle/reference. The widths of the two forms stand once, with the Rust oracle (`oracle::form`).
 //!
 //! For oracle/public, where a public evaluator is asked, there are sheets and moments (`public_sheets`, `public_moments`).
 
@@ -11,15 +11,22 @@ mod answer;
 pub mod archive;
 pub mod arguments;
 pub mod bench_sheets;
+mod boxes;
 mod calendar;
 mod calls;
 pub mod check_sheets;
 mod compare;
 mod convert;
+#[cfg(test)]
+mod counted;
+mod counts;
 mod damage;
 mod dates;
 mod expected;
 mod forms_tally;
+pub mod growth_sheets;
+mod large;
+mod large_tally;
 mod layout;
 mod line;
 pub mod line_sheets;
@@ -43,4 +50,5 @@ mod stoppers;
 mod stored;
 mod tally;
 mod telling;
+pub mod times;
 mod why;

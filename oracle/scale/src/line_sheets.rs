@@ -1,6 +1,8 @@
 //! The sheets of the bench that have a line. The Rust has no writer of such lines, so that the archive is timed alone.
 
-use crate::bench_sheets::{BenchSheet, all_dimensions, landing_site, named, worked_day_p2};
+use crate::bench_sheets::{
+    BenchSheet, MANY_RULES, all_dimensions, landing_site, named, worked_day_p2,
+};
 use crate::rule::{
     FALLBACK, ITEM_LIMIT, NORMAL, RULE_LIMIT, Rule, Span, Stepped, UNKNOWN, fixed, months, weekdays,
 };
@@ -10,7 +12,8 @@ pub fn line_sheets() -> Vec<BenchSheet> {
         ("two rules (P2)", worked_day_p2()),
         ("19 rules of a landing site", landing_site_by_the_clock()),
         ("64 rules, in all dimensions", all_dimensions()),
-        ("64 rules, the longest line", longest_line()),
+        ("64 full rules", long_line(MANY_RULES as usize)),
+        ("256 full rules, the longest line", long_line(RULE_LIMIT)),
     ])
 }
 
@@ -21,8 +24,8 @@ fn landing_site_by_the_clock() -> Vec<Rule> {
     rules
 }
 
-/// As many rules, items and spans as there may be, each as long as it can be written.
-fn longest_line() -> Vec<Rule> {
+/// So many rules of as many items and spans as there may be, each as long as it can be written.
+fn long_line(count: usize) -> Vec<Rule> {
     let stepped = |start, end, step| vec![Stepped { start, end, step }; ITEM_LIMIT];
     let span = Span {
         open_end: 1,
@@ -39,7 +42,7 @@ fn longest_line() -> Vec<Rule> {
         spans: vec![span; ITEM_LIMIT],
     };
 
-    let mut rules = vec![rule; RULE_LIMIT];
+    let mut rules = vec![rule; count];
     rules[0].operator = NORMAL;
     rules
 }
@@ -53,7 +56,9 @@ mod tests {
     /// ` || ` before each rule but the first.
     #[test]
     fn longest() {
-        let line = line_of(&longest_line()).expect("it has a line");
-        assert_eq!(line.len(), 64 * 868 + 63 * 4);
+        for count in [64, RULE_LIMIT] {
+            let line = line_of(&long_line(count)).expect("it has a line");
+            assert_eq!(line.len(), count * 868 + (count - 1) * 4);
+        }
     }
 }

@@ -23,7 +23,7 @@ pub struct Overlaps {
 }
 
 impl Overlaps {
-    pub fn count(&mut self, accepted: &Accepted) {
+    pub fn count(&mut self, accepted: &Accepted, is_folded: bool) {
         let selectors = accepted.selectors();
 
         if let Some(first) = selectors.iter().position(overlaps) {
@@ -37,7 +37,7 @@ impl Overlaps {
             let hidden = accepted.past_a_limit().map(|refusal| refusal.code);
             let codes = [5, 6].map(|code| u64::from(hidden == Some(code)));
             add_each(&mut self.hidden, &codes);
-        } else if accepted.extent().is_some() {
+        } else if is_folded {
             let touching = selectors.iter().flatten().any(|ranges| only_touch(ranges));
             let in_rules_left = accepted.left().iter().any(ranges_overlap);
             self.touching += u64::from(touching);

@@ -144,7 +144,7 @@ mod tests {
     use crate::archive::Given;
     use crate::bench_sheets::bench_sheets;
     use crate::expected::Sheet;
-    use crate::recipes::rules;
+    use crate::recipes::{MIXED, rules};
     use crate::sheet::write_sheet;
 
     const SHEETS: u64 = 20_000;
@@ -167,7 +167,7 @@ mod tests {
         for number in 0..SHEETS {
             let mut random = Random::new(1, number);
             let form = random.of(&[Form::One, Form::Two]);
-            let sound = rules(&mut random, form);
+            let sound = rules(&mut random, form, &MIXED);
             let changed = refused(form, overlapping(&mut random, &sound));
             assert_ne!(refused(form, sound).0, 11, "sheet {number}");
 

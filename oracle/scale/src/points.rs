@@ -7,7 +7,7 @@ use crate::layout::Refusal;
 use crate::rule::{CLOSED, DayItem, NORMAL, Rule, Span};
 use crate::why::may_reach_tomorrow;
 
-pub const BOX_LIMIT: usize = 1024;
+pub const BOX_LIMIT: usize = 4096;
 pub const LIST_LIMIT: usize = 32;
 
 /// The lowest value of a dimension up to the unreachable one above the highest.

@@ -2,8 +2,10 @@
 
 use oracle::form::Form;
 
+use crate::boxes::{Shape, over_boxes};
+use crate::large::{many_boxes, many_rules, many_years};
 use crate::overlapping::take_overlaps;
-use crate::points::{DIMENSIONS, LIST_LIMIT};
+use crate::points::LIST_LIMIT;
 use crate::random::Random;
 use crate::rule::{
     ADDITIONAL, ITEM_LIMIT, RULE_LIMIT, Rule, Stepped, fixed, months, range, weekdays,
@@ -12,17 +14,26 @@ use crate::stock::Stock;
 use crate::stoppers::stop;
 use crate::telling::{add_unsaid, make_sayable};
 
+/// The rules of one sheet, before it is made to have a line.
+pub type Recipe = fn(&mut Stock) -> Vec<Rule>;
+
+/// What a run makes where it isn't one of large sheets alone.
+pub const MIXED: [(usize, Recipe); 9] = [
+    (6_000, drained),
+    (2_600, stopped),
+    (400, boxes_at_the_limit),
+    (400, lists_at_the_limit),
+    (550, counts_at_the_limit),
+    (8, all_at_the_limit),
+    (20, many_boxes),
+    (20, many_rules),
+    (2, many_years),
+];
+
 /// The rules of one sheet. Half of them stay where the Rust's constructors take the values as they are, and of form 2 some have comments of
 /// form 1 alone, so that they can go there.
-pub fn rules(random: &mut Random, form: Form) -> Vec<Rule> {
-    let recipe = random.weighed(&[
-        (600, drained as fn(&mut Stock) -> Vec<Rule>),
-        (260, stopped),
-        (40, boxes_at_the_limit),
-        (40, lists_at_the_limit),
-        (57, counts_at_the_limit),
-        (3, all_at_the_limit),
-    ]);
+pub fn rules(random: &mut Random, form: Form, recipes: &[(usize, Recipe)]) -> Vec<Rule> {
+    let recipe = random.weighed(recipes);
     let rising = random.percent(50);
     let comment_form = match random.percent(SHORT_COMMENTS_PERCENT) {
         true => Form::One,
@@ -71,72 +82,24 @@ fn stopped(stock: &mut Stock) -> Vec<Rule> {
     rules
 }
 
-/// Intervals of weekdays, weeks, months and years: 1,024 boxes or not many less, and some that are more.
-const SHAPES: [[u32; 4]; 8] = [
+/// Intervals of weekdays, weeks, months and years: 4,096 boxes or not many less, some that are more, and some of 1,024, once the most.
+const SHAPES: [Shape; 10] = [
     [1, 8, 8, 16],
     [4, 4, 8, 8],
-    [2, 16, 4, 8],
     [7, 3, 12, 4],
-    [5, 5, 5, 8],
     [1, 32, 1, 32],
     [1, 9, 8, 16],
-    [7, 7, 7, 3],
+    [4, 8, 8, 16],
+    [2, 16, 4, 32],
+    [5, 25, 4, 8],
+    [4, 8, 8, 17],
+    [7, 7, 7, 12],
 ];
 
 fn boxes_at_the_limit(stock: &mut Stock) -> Vec<Rule> {
     let shape = stock.random.of(&SHAPES);
-    let mut first = boxes_rule(shape);
-    first.kind = stock.random.within(0, 2);
-    first.spans = stock.some_spans(2);
-
-    let mut rules = vec![first];
-    for _ in 0..stock.random.below(6) {
-        let mut rule = Rule {
-            operator: stock.random.within(0, 1),
-            ..stock.rule_of_all_days()
-        };
-        rule.years = some_of(stock.random, &rules[0].years);
-        rule.monthdays = some_of(stock.random, &rules[0].monthdays);
-        rule.weeks = some_of(stock.random, &rules[0].weeks);
-        rule.weekdays = some_of(stock.random, &rules[0].weekdays);
-        rules.push(rule);
-    }
-    rules
-}
-
-/// One rule whose ranges make so many intervals in each dimension.
-fn boxes_rule(shape: [u32; 4]) -> Rule {
-    let [on_weekdays, in_weeks, in_months, in_years] = &DIMENSIONS;
-    let [days, weeks, month, years] = shape;
-
-    Rule {
-        years: alternating(in_years.start, years)
-            .map(|year| range(year, year))
-            .collect(),
-        monthdays: alternating(in_months.start, month)
-            .map(|month| months(month, month))
-            .collect(),
-        weeks: alternating(in_weeks.start, weeks)
-            .map(|week| range(week, week))
-            .collect(),
-        weekdays: alternating(on_weekdays.start, days)
-            .map(|day| weekdays(day, day))
-            .collect(),
-        ..Rule::default()
-    }
-}
-
-/// Single values, no two of them neighbours, that cut a dimension into so many intervals.
-fn alternating(lowest: u32, intervals: u32) -> impl Iterator<Item = u32> {
-    (0..intervals / 2).map(move |place| lowest + intervals % 2 + 2 * place)
-}
-
-fn some_of<T: Clone>(random: &mut Random, items: &[T]) -> Vec<T> {
-    items
-        .iter()
-        .filter(|_| random.percent(60))
-        .cloned()
-        .collect()
+    let more = stock.random.below(6);
+    over_boxes(stock, shape, more)
 }
 
 /// Lists of about 32 entries, on all days or, since some rules have days of their own, on some only.
@@ -157,12 +120,12 @@ fn lists_at_the_limit(stock: &mut Stock) -> Vec<Rule> {
     rules
 }
 
-/// 64 rules, or 16 items of one sort, each some way from the one before; half of them one more. There are fewer months and weekdays than
+/// 256 rules, or 16 items of one sort, each some way from the one before; half of them one more. There are fewer months and weekdays than
 /// that, so that a rule with so many of them overlaps: it stops.
 fn counts_at_the_limit(stock: &mut Stock) -> Vec<Rule> {
     let above = stock.random.below(2);
 
-    if stock.random.percent(20) {
+    if stock.random.percent(5) {
         return (0..RULE_LIMIT + above).map(|_| stock.rule()).collect();
     }
 
@@ -199,7 +162,7 @@ fn counts_at_the_limit(stock: &mut Stock) -> Vec<Rule> {
     rules
 }
 
-/// 64 rules of 16 items of each sort and 16 spans. Each has a step, so that no such rule is drawn, which would take long.
+/// 256 rules of 16 items of each sort and 16 spans. Each has a step, so that no such rule is drawn, which would take long.
 fn all_at_the_limit(stock: &mut Stock) -> Vec<Rule> {
     let full = |stock: &mut Stock| Rule {
         operator: stock.random.within(0, 2),
@@ -265,7 +228,7 @@ mod tests {
     #[test]
     fn rules_stop_for_each_reason_and_for_each_two_at_each_place() {
         let met: HashSet<_> = (0..SHEETS)
-            .filter_map(|number| stopped(&rules(&mut Random::new(1, number), Form::One)))
+            .filter_map(|number| stopped(&rules(&mut Random::new(1, number), Form::One, &MIXED)))
             .collect();
 
         for place in [Place::First, Place::Between, Place::Last] {

@@ -8,7 +8,7 @@ pub const OPEN: u32 = 0;
 pub const CLOSED: u32 = 1;
 pub const UNKNOWN: u32 = 2;
 
-pub const RULE_LIMIT: usize = 64;
+pub const RULE_LIMIT: usize = 256;
 pub const ITEM_LIMIT: usize = 16;
 pub const ALL_NTH: u32 = 0b11111;
 pub const MIDNIGHT: u32 = 1440;

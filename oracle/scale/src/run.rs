@@ -5,12 +5,29 @@ use oracle::form::Form;
 use crate::calls::Difference;
 use crate::compare::compare;
 use crate::damage::damaged;
+use crate::large::LARGE;
 use crate::overlapping::overlapping;
 use crate::random::Random;
-use crate::recipes::rules;
+use crate::recipes::{MIXED, Recipe, rules};
 use crate::sheet::write_sheet;
 use crate::shrink::shrunk;
 use crate::tally::Tally;
+
+/// Which sheets a run makes: of all sorts, or large ones alone.
+#[derive(Clone, Copy)]
+pub enum Sheets {
+    Mixed,
+    Large,
+}
+
+impl Sheets {
+    fn recipes(self) -> &'static [(usize, Recipe)] {
+        match self {
+            Self::Mixed => &MIXED,
+            Self::Large => &LARGE,
+        }
+    }
+}
 
 /// What was met among sound, among overlapping and among damaged sheets, and the sheets that differ.
 #[derive(Default)]
@@ -23,10 +40,10 @@ pub struct Report {
 
 impl Report {
     /// Compares the sound sheet of a number, one made from it in which ranges overlap or touch, and a damaged copy of it.
-    pub fn compare_number(&mut self, seed: u64, number: u64) {
+    pub fn compare_number(&mut self, sheets: Sheets, seed: u64, number: u64) {
         let mut random = Random::new(seed, number);
         let form = random.of(&[Form::One, Form::Two]);
-        let mut rules = rules(&mut random, form);
+        let mut rules = rules(&mut random, form, sheets.recipes());
         let sheet = write_sheet(form, rules.clone());
         let changed = write_sheet(form, overlapping(&mut random, &rules));
         let (copy_form, copy) = damaged(&mut random, form, &mut rules, &sheet);

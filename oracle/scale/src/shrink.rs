@@ -1,5 +1,7 @@
 //! A sheet that shows a difference made smaller: rules and items go as long as it still shows one.
 
+use std::iter::successors;
+
 use oracle::form::Form;
 
 use crate::rule::Rule;
@@ -12,12 +14,14 @@ pub fn shrunk(form: Form, sheet: Vec<u8>, differs: impl Fn(&[u8]) -> bool) -> Ve
     };
 
     let mut rules = read.rules;
+    let still_differs = |rules: &Vec<Rule>| differs(&write_sheet(form, rules.clone()));
 
-    while let Some(smaller) = smaller_ones(&rules)
-        .into_iter()
-        .find(|smaller| differs(&write_sheet(form, smaller.clone())))
-    {
-        rules = smaller;
+    loop {
+        let found = smaller_ones(&rules).find(still_differs);
+        match found {
+            Some(smaller) => rules = smaller,
+            None => break,
+        }
     }
 
     match write_sheet(form, rules) {
@@ -26,19 +30,26 @@ pub fn shrunk(form: Form, sheet: Vec<u8>, differs: impl Fn(&[u8]) -> bool) -> Ve
     }
 }
 
-/// The rules with one rule less, then those with one item less.
-fn smaller_ones(rules: &[Rule]) -> Vec<Vec<Rule>> {
-    let mut smaller: Vec<Vec<Rule>> = one_less(rules).collect();
-
-    for (place, rule) in rules.iter().enumerate() {
-        smaller.extend(with_an_item_less(rule).into_iter().map(|rule| {
+/// The rules without a half of them, a quarter and so on, then with one rule less, then with one item less.
+fn smaller_ones(rules: &[Rule]) -> impl Iterator<Item = Vec<Rule>> {
+    let halvings = successors(Some(rules.len() / 2), |size| Some(size / 2));
+    let without_a_part = halvings.take_while(|size| *size > 1).flat_map(move |size| {
+        let starts = (0..rules.len()).step_by(size);
+        starts.map(move |start| without(rules, start, size.min(rules.len() - start)))
+    });
+    let with_less = rules.iter().enumerate().flat_map(move |(place, rule)| {
+        with_an_item_less(rule).into_iter().map(move |rule| {
             let mut rules = rules.to_vec();
             rules[place] = rule;
             rules
-        }));
-    }
+        })
+    });
 
-    smaller
+    without_a_part.chain(one_less(rules)).chain(with_less)
+}
+
+fn without<T: Clone>(items: &[T], start: usize, size: usize) -> Vec<T> {
+    [&items[..start], &items[start + size..]].concat()
 }
 
 fn with_an_item_less(rule: &Rule) -> Vec<Rule> {
@@ -60,5 +71,5 @@ fn with_an_item_less(rule: &Rule) -> Vec<Rule> {
 }
 
 fn one_less<T: Clone>(items: &[T]) -> impl Iterator<Item = Vec<T>> {
-    (0..items.len()).map(|place| [&items[..place], &items[place + 1..]].concat())
+    (0..items.len()).map(|place| without(items, place, 1))
 }

@@ -4,12 +4,15 @@ use std::fmt::{Display, Formatter, Result};
 
 /// Numbers by their count of binary digits: 0, 1, 2 to 3, 4 to 7 and so on.
 #[derive(Default)]
-pub struct Sizes([u64; 18]);
+pub struct Sizes([u64; CLASSES]);
+
+/// Enough for the 135,424 rules that a result may have.
+const CLASSES: usize = 19;
 
 impl Sizes {
     pub fn count(&mut self, size: u64) {
         let digits = u64::BITS - size.leading_zeros();
-        self.0[(digits as usize).min(17)] += 1;
+        self.0[(digits as usize).min(CLASSES - 1)] += 1;
     }
 
     pub fn add(&mut self, other: &Self) {

@@ -1,23 +1,30 @@
-//! How deep a call goes: the stack below it is painted before, and looked through after.
+//! Stack for calls of the archive, whose buffers lie there; and how deep a call goes: the stack below it is painted before, and looked through
+//! after.
 
 use std::thread;
 
-/// What the thread has, what of it is painted, and what is left out next to the painting function's own frame.
-const STACK: usize = 16 << 20;
+/// What a thread that calls the archive has. Those that Rust starts by itself have 2 MB.
+pub const STACK: usize = 16 << 20;
+/// What of it is painted, and what is left out next to the painting function's own frame.
 const PAINTED: usize = 12 << 20;
 const OWN_FRAME: usize = 4096;
 const PAINT: u8 = 0xC3;
 
-/// The bytes of stack that the call takes, rounded up to the part that is not painted.
-pub fn stack_of(call: impl FnOnce() + Send) -> usize {
+/// The call on a thread that has so much.
+pub fn with_stack<T: Send>(call: impl FnOnce() -> T + Send) -> T {
     thread::scope(|scope| {
         thread::Builder::new()
             .stack_size(STACK)
-            .spawn_scoped(scope, || depth_of(call))
+            .spawn_scoped(scope, call)
             .expect("a thread can be started")
             .join()
             .expect("the call ends")
     })
+}
+
+/// The bytes of stack that the call takes, rounded up to the part that is not painted.
+pub fn stack_of(call: impl FnOnce() + Send) -> usize {
+    with_stack(|| depth_of(call))
 }
 
 #[inline(never)]

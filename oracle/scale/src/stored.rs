@@ -8,6 +8,7 @@ use oracle::bits::from_hex;
 use crate::answer::{Answer, FOLD_NUMBERS, LOOKUP_NUMBERS, Numbers, WRITTEN_NUMBERS};
 use crate::archive::{self, Given, Writing};
 use crate::expected::Sheet;
+use crate::stack::with_stack;
 
 struct Case {
     form: u64,
@@ -62,6 +63,10 @@ fn bytes(hex: &str) -> Vec<u8> {
 }
 
 fn check_writing(file: &str, function: Writing, sort: Numbers, ample: fn(&Sheet) -> Answer) {
+    with_stack(|| check_cases(file, function, sort, ample));
+}
+
+fn check_cases(file: &str, function: Writing, sort: Numbers, ample: fn(&Sheet) -> Answer) {
     for case in cases(file, 1 + sort.count) {
         let (form, sheet) = (case.form, &case.sheet);
         let room = case.numbers[0] as usize;
@@ -121,6 +126,10 @@ fn conversions() {
 
 #[test]
 fn lookups() {
+    with_stack(check_lookups);
+}
+
+fn check_lookups() {
     for case in cases("lookup.txt", 4 + LOOKUP_NUMBERS.count) {
         let (form, sheet) = (case.form, &case.sheet);
         let (moment, stored) = case

@@ -5,6 +5,7 @@ use std::fmt::{Display, Formatter, Result};
 
 use crate::expected::Accepted;
 use crate::forms_tally::Forms;
+use crate::large_tally::Large;
 use crate::line::{REASONS, Unsaid};
 use crate::overlap_tally::Overlaps;
 use crate::points::{BOX_LIMIT, Extent, LIST_LIMIT};
@@ -12,8 +13,8 @@ use crate::rule::{ITEM_LIMIT, RULE_LIMIT, Rule};
 use crate::sizes::{Sizes, add_each, met};
 use crate::why::{Reasons, WHYS};
 
-/// Codes go from 0 to 12.
-pub const CODES: usize = 13;
+/// Codes go from 0 to 13.
+pub const CODES: usize = 14;
 
 /// Accepted folds that stand exactly at a limit.
 #[derive(Default)]
@@ -116,6 +117,7 @@ pub struct Tally {
     pub sheets: u64,
     pub short_buffers: u64,
     pub forms: Forms,
+    pub large: Large,
     folded_whole: u64,
     at_limits: AtLimits,
     fold_codes: [u64; CODES],
@@ -142,14 +144,15 @@ impl Tally {
         }
     }
 
-    /// What overlaps or touches in a sheet that was read.
-    pub fn overlaps(&mut self, accepted: &Accepted) {
-        self.overlaps.count(accepted);
+    /// What overlaps or touches in a sheet that was read, and whether its fold was done.
+    pub fn overlaps(&mut self, accepted: &Accepted, is_folded: bool) {
+        self.overlaps.count(accepted, is_folded);
     }
 
     pub fn accepted_fold(&mut self, rules: &[Rule], extent: Extent, inside: bool) {
         self.folded_whole += u64::from(inside);
         self.at_limits.count(rules, extent);
+        self.large.fold(extent.boxes);
     }
 
     /// The reasons of the first rule left by an accepted fold.
@@ -177,6 +180,7 @@ impl Tally {
         self.sheets += other.sheets;
         self.short_buffers += other.short_buffers;
         self.forms.add(&other.forms);
+        self.large.add(&other.large);
         self.folded_whole += other.folded_whole;
         add_each(&mut self.at_limits.0, &other.at_limits.0);
         add_each(&mut self.fold_codes, &other.fold_codes);
@@ -211,6 +215,7 @@ impl Display for Tally {
         writeln!(f, "  drained {}", self.drained)?;
         writeln!(f, "  emitted {}", self.emitted)?;
         writeln!(f, "  left {}", self.left)?;
+        writeln!(f, "{}", self.large)?;
         writeln!(f, "{}", self.stopped)?;
         writeln!(f, "{}", self.overlaps)?;
         writeln!(f, "{}", self.lines)?;

@@ -10,7 +10,7 @@ use borrow.Author.Tests.{lt-ltb, le-ltb, ltb-true, ltb-false}
 use Rattle.laws.specs.Lists.{onlyIf}
 use Rattle.definition.specs.Field.{Layout, bytesFor}
 use Rattle.definition.specs.Rule.{Rule}
-use Rattle.definition.specs.Sheet.{limits1, rule, opening, rules, encode}
+use Rattle.definition.specs.Sheet.{sheetLimits, rule, opening, rules, encode}
 use Rattle.definition.specs.Fold.{Written, buffer, writtenNumbers}
 use Rattle.definition.specs.Forms.{firstLongComment, convertRules, other}
 use Rattle.definition.proofs.Bits.{Bytes}
@@ -42,8 +42,8 @@ Given c rs = let a = start c .args in SheetRead (asForm (a .form)) (a .sheet .no
 
 -- what the definition answers in the form that the sheet is moved to, it answers in the other form
 answered : (c : tie.After-first-long-comment) (rs : List Rule) {w : Written} → let a = start c .args in
-    convertRules (asForm (c .before .other-form .result)) limits1 (length (a .out .now)) rs ≡ w → convertRules (other (asForm (a .form))) limits1 (length (a .out .now)) rs ≡ w
-answered c rs e = sym (ap (λ to. convertRules to limits1 (length (start c .args .out .now)) rs) (c .before .other-form .ensures)) ∙ e
+    convertRules (asForm (c .before .other-form .result)) sheetLimits (length (a .out .now)) rs ≡ w → convertRules (other (asForm (a .form))) sheetLimits (length (a .out .now)) rs ≡ w
+answered c rs e = sym (ap (λ to. convertRules to sheetLimits (length (start c .args .out .now)) rs) (c .before .other-form .ensures)) ∙ e
 
 first-long-comment-requires : tie.Need-first-long-comment-requires
 first-long-comment-requires c κs =
@@ -93,14 +93,14 @@ moved-bits-requires c κs =
 
 -- so many bits have the rules in the other form
 sized : (c : tie.After-moved-bits) (rs : List Rule) → Given (c .before .before) rs
-    → length (rules (asForm (c .before .before .before .other-form .result)) limits1 .write rs) ≡ c .moved-bits .result
+    → length (rules (asForm (c .before .before .before .other-form .result)) sheetLimits .write rs) ≡ c .moved-bits .result
 sized c rs given =
     let a = start (c .before .before) .args in
     moved-length _ _ (a .sheet .now) (a .begins .now) (bytes (c .before .before)) rs (a .end) (a .count) (given .0) (given .1) _ (c .moved-bits .ensures .0)
 
 -- and so many bytes
 encoded : (c : tie.After-moved-bits) (rs : List Rule) → Given (c .before .before) rs
-    → length (encode (asForm (c .before .before .before .other-form .result)) limits1 rs) ≡ (c .moved-bits .result + 7) / 8
+    → length (encode (asForm (c .before .before .before .other-form .result)) sheetLimits rs) ≡ (c .moved-bits .result + 7) / 8
 encoded c rs given = encoded-length _ 0 rs (none-long (c .before) rs given) ∙ ap bytesFor (sized c rs given)
 
 -- ## A buffer without room
@@ -122,7 +122,7 @@ enough c = ltb-false _ _ (sym (c .before .lacks-room .ensures) ∙ c .if2 .left)
 
 room : (c : tie.Else2) (rs : List Rule) → Given (c .before .before .before .before) rs → let first = c .before .before .before .before in
     let to = asForm (first .before .other-form .result) in let a = start first .args in
-    RoomFor (length (a .out .now)) 0 (opening to limits1 .write (a .count) ++ flatMap (rule to limits1 .write) rs)
+    RoomFor (length (a .out .now)) 0 (opening to sheetLimits .write (a .count) ++ flatMap (rule to sheetLimits .write) rs)
 room c rs given =
     let moved = c .before .before in
     let a = start (moved .before .before) .args in

@@ -6,11 +6,10 @@ use Prim.Native.Nat.{_+_, _-_, _≤_, _<_}
 use native.Mathlib.Omega.{arith}
 use lib.Dec.{ltb}
 use lib.ListN.{length, getD}
-use borrow.Author.Needs.{needs}
 use Rattle.definition.specs.Field.{Layout}
 use Rattle.laws.proofs.Lists.{All-at}
 use Rattle.definition.specs.Rule.{Rule, noRule}
-use Rattle.definition.specs.Sheet.{limits1, rule}
+use Rattle.definition.specs.Sheet.{sheetLimits, rule}
 use Rattle.definition.proofs.Bits.{Bytes}
 use Rattle.field.proofs.Bytes.{known-bytes}
 use Rattle.forms.specs.Form.{asForm}
@@ -26,7 +25,7 @@ use Rattle.convert.proofs.move_rules.Tie as tie
 abbrev Inv-loop : tie.InvT-loop
 Inv-loop form to sheet begins count end out₀ place next₀ rule₀ out next passed =
     (passed ≤ count) × (length out ≡ length out₀)
-    × ((rs : List Rule) → SheetRead (asForm form) sheet begins rs end → RoomFor (length out₀) place (flatMap (rule (asForm to) limits1 .write) rs)
+    × ((rs : List Rule) → SheetRead (asForm form) sheet begins rs end → RoomFor (length out₀) place (flatMap (rule (asForm to) sheetLimits .write) rs)
     → Moving (asForm to) rs out₀ place out next passed)
 
 abbrev μ-loop : tie.MeasureT-loop
@@ -40,7 +39,7 @@ bytes : (c : tie.In-loop Inv-loop μ-loop) → Bytes (start c .args .sheet .now)
 bytes c = known-bytes (start c .args .sheet .now) (λ j. omega (arith, c .before .before .before .before .shared-slice-known .given j))
 
 -- there are few rules, and each has a noted beginning
-few : (c : tie.In-loop Inv-loop μ-loop) → let a = start c .args in (a .count ≤ 64) × (a .count ≤ length (a .begins .now))
+few : (c : tie.In-loop Inv-loop μ-loop) → let a = start c .args in (a .count ≤ sheetLimits .rules) × (a .count ≤ length (a .begins .now))
 few c =
     let entry = start c in
     let a = entry .args in
@@ -69,7 +68,7 @@ move-rule-requires c κs =
       ),
       (
         rw (here .same) (All-at (λ r. Commented (asForm (a .to)) (r .state)) rs noRule (entry .pre .3) i l),
-        room-as (ap (rule (asForm (a .to)) limits1 .write) (sym (here .same))) room,
+        room-as (ap (rule (asForm (a .to)) sheetLimits .write) (sym (here .same))) room,
       ),
     )
 
@@ -86,7 +85,7 @@ loop-again c =
           let many = entry .pre .2 ∙ ap length (rules-once (entry .pre .0) rs (entry .pre .1) read) in
           let here = turn test rs read many in
           moving-more _ rs (loop .inv .2 rs read room) (omega (arith, test .loop-test .taken, many))
-          (wrote-as (ap (rule (asForm (a .to)) limits1 .write) (sym (here .same))) (move .move-rule .ensures)),
+          (wrote-as (ap (rule (asForm (a .to)) sheetLimits .write) (sym (here .same))) (move .move-rule .ensures)),
     )
 
 returns : tie.Need-returns Inv-loop μ-loop
@@ -95,7 +94,7 @@ returns c =
     let entry = c .before .before .before .before .before in
     let a = entry .args in
     λ rs read many. moving-all _ rs (loop .inv .2 rs read
-    (subst (λ qs. RoomFor (length (a .out .now)) (a .place) (flatMap (rule (asForm (a .to)) limits1 .write) qs)) (rules-once (entry .pre .0) rs (entry .pre .1) read) (entry .pre .4)))
+    (subst (λ qs. RoomFor (length (a .out .now)) (a .place) (flatMap (rule (asForm (a .to)) sheetLimits .write) qs)) (rules-once (entry .pre .0) rs (entry .pre .1) read) (entry .pre .4)))
     (omega (arith, c .loop-test .left, many))
 
 pub move-rules-spec : {M : Type 1} → statement M

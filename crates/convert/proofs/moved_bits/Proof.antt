@@ -10,17 +10,17 @@ use Rattle.convert.proofs.moved_bits.Statement.{statement}
 use Rattle.convert.proofs.moved_bits.Tie as tie
 
 -- so many heads are few bits
-heads-low : (n w : ℕ) → n ≤ 64 → w ≤ 88 → n * w ≤ 5632
+heads-low : (n w : ℕ) → n ≤ 256 → w ≤ 88 → n * w ≤ 22528
 heads-low n w h k = mul-le-mul h k
 
 -- the heads in the form of the sheet
 heads : (c : tie.After-head-width) → let a = c .before .before .args in a .count * c .head-width .result ≡ a .count * headWidth (asForm (a .form))
 heads c = ap (c .before .before .args .count *_) (c .head-width .ensures .0)
 
-low : (c : tie.After-head-width) → c .before .before .args .count * c .head-width .result ≤ 5632
+low : (c : tie.After-head-width) → c .before .before .args .count * c .head-width .result ≤ 22528
 low c = heads-low _ _ (c .before .before .pre .0) (c .head-width .ensures .1)
 
-low₂ : (c : tie.After-head-width2) → c .before .before .before .before .args .count * c .head-width2 .result ≤ 5632
+low₂ : (c : tie.After-head-width2) → c .before .before .before .before .args .count * c .head-width2 .result ≤ 22528
 low₂ c = heads-low _ _ (c .before .before .before .before .pre .0) (c .head-width2 .ensures .1)
 
 -- all of them lie before the end

@@ -9,6 +9,7 @@ use Rattle.item_writer.proofs.Chain.{wrote-then, room-first, room-rest, room-as
 use Rattle.rule_writer.proofs.rule.put_rule.Reads as put-rule-reads
 use Rattle.day_writer.proofs.Entries.{step}
 use Rattle.day_writer.proofs.Laid.{no-bits, entries-bits}
+use Rattle.day_writer.proofs.Counted.{entry-countable}
 use Rattle.casts.proofs.u64_to_usize.Reads as u64-to-usize-reads
 use Rattle.day_writer.proofs.+write_entries.{statement}
 use Rattle.day_writer.proofs.+write_entries.Tie.{close}
@@ -70,7 +71,10 @@ pub +write-entries-spec : {M : Type 1} → statement M
     let s = step _ _ _ _ _ (if1 .if1 .left) (cast .u64-to-usize .ensures) (pre .1 .1 .0) in
     let bits = entries-bits _ (args .operator) (args .ends .now) (args .item-counts .now) (args .words .now) (args .next) (args .words-left) _ s in (
       (pre .1 .0, s .first .commented),
-      (pre .1 .1 .1 .0, ((omega (arith, s .within, pre .1 .1 .0 .inside), s .few, s .first .spanned), room-first _ _ (room-as bits (pre .1 .1 .1 .1)))),
+      (
+        (pre .1 .1 .1 .0, entry-countable _ (args .ends .now) (args .item-counts .now) (pre .1 .1 .1 .0 .inside) (args .operator) (args .words .now) (args .next) (args .words-left) _ s (pre .1 .1 .1 .1 .0) .0),
+        ((omega (arith, s .within, pre .1 .1 .0 .inside), s .few, s .first .spanned), room-first _ _ (room-as bits (pre .1 .1 .1 .1 .1))),
+      ),
     ))
     (λ c.
     let cast = c .before .before .before .before .before .before in
@@ -108,7 +112,10 @@ pub +write-entries-spec : {M : Type 1} → statement M
     let s = step _ _ _ _ _ (if1 .if1 .left) (cast .u64-to-usize .ensures) (pre .1 .1 .0) in
     let bits = entries-bits _ (args .operator) (args .ends .now) (args .item-counts .now) (args .words .now) (args .next) (args .words-left) _ s in (
       omega (arith, pre .0, s .within),
-      (omega arith, (s .behind, (pre .1 .1 .1 .0, room-rest (put-rule .put-rule .ensures) _ (room-as bits (pre .1 .1 .1 .1))))),
+      (
+        omega arith,
+        (s .behind, (pre .1 .1 .1 .0, (entry-countable _ (args .ends .now) (args .item-counts .now) (pre .1 .1 .1 .0 .inside) (args .operator) (args .words .now) (args .next) (args .words-left) _ s (pre .1 .1 .1 .1 .0) .1, room-rest (put-rule .put-rule .ensures) _ (room-as bits (pre .1 .1 .1 .1 .1))))),
+      ),
     ))
     (λ c. search needs)
     (λ c.

@@ -1,7 +1,9 @@
 -- `day_writer::write_day` meets its contract: the entries from the first word on, the first Normal.
-use mathlib.Core.Path.{sym, ap}
+use mathlib.Core.Path.{sym, ap, _∙_}
 use native.Mathlib.Omega.{arith}
 use borrow.Author.Needs.{needs}
+use Rattle.laws.specs.Lists.{anyOf}
+use Rattle.definition.specs.Fold.{manyItems}
 use Rattle.item_writer.proofs.Chain.{room-as, wrote-as}
 use Rattle.forms.specs.Form.{asForm}
 use Rattle.tables.specs.Items.{rowsBelow}
@@ -20,7 +22,10 @@ write-entries-requires c κs =
         pre .0,
         (
           pre .1 .0,
-          room-as (ap (rulesBits (asForm (a .form))) (sym (entries-day (rowsBelow (a .ends .now) (a .item-counts .now) 4) (dayIn (a .words .now) 0 (a .count))))) (pre .1 .1),
+          (
+            ap (anyOf (manyItems (asForm (a .form)))) (entries-day (rowsBelow (a .ends .now) (a .item-counts .now) 4) (dayIn (a .words .now) 0 (a .count))) ∙ pre .1 .1 .0,
+            room-as (ap (rulesBits (asForm (a .form))) (sym (entries-day (rowsBelow (a .ends .now) (a .item-counts .now) 4) (dayIn (a .words .now) 0 (a .count))))) (pre .1 .1 .1),
+          ),
         ),
       ),
     )

@@ -1,5 +1,4 @@
--- `fold_pages::fold_pages` meets its contract: the buffers are as large as the limits require, the boxes can be folded, the cells and marks are
--- those that popping requires, and the pages in the buffer are those of the folded rules.
+-- `fold_pages::fold_pages` meets its contract: the small buffers are large enough for 64 boxes, the others for as many as the limit allows.
 use mathlib.Core.Path.{_≡_, sym, _∙_}
 use mathlib.Core.List.{List}
 use Prim.Native.Nat.{ℕ, _≤_}
@@ -7,112 +6,72 @@ use native.Mathlib.Omega.{arith}
 use lib.ListN.{length, take}
 use lib.Seq.{length-take-le}
 use borrow.Author.Needs.{needs}
-use denote.Ref.{now}
-use Rattle.fold_pages.proofs.Ready.{box-ready, rows-cut, boxes-room}
-use Rattle.fold_pages.proofs.Paging.{pages-end, pages-folded}
 use Rattle.fold_pages.proofs.fold_pages.Statement.{statement}
 use Rattle.fold_pages.proofs.fold_pages.Tie as tie
 
+abbrev start : tie.After-size-of → tie.Start
+start c = c .before .before .before .before .before .before .before .before .before
+
 -- so many cells as boxes are lent
-lent : (boxes size : ℕ) (cells : List ℕ) → boxes ≡ size → size ≤ 1024 → 1024 ≡ length cells → length (take boxes cells) ≡ size
-lent boxes size cells e few room = length-take-le boxes cells (omega arith) ∙ e
+lent : (boxes size room : ℕ) (cells : List ℕ) → boxes ≡ size → boxes ≤ room → room ≡ length cells → length (take boxes cells) ≡ size
+lent boxes size room cells e few long = length-take-le boxes cells (omega arith) ∙ e
 
-array-borrow-prefix-cells : tie.Need-array-borrow-prefix-cells
-array-borrow-prefix-cells c =
-    let size = c .before .before .before in
-    let entry = size .before .before .before .before .before .before .before .before .before in
-    omega (arith, c .before .before .day-numbers .ensures, entry .pre .0 .2 .few-boxes, size .size-of .ensures)
+slice-aggregate-fold-pages-in : tie.Need-slice-aggregate-fold-pages-in
+slice-aggregate-fold-pages-in c =
+    let branch = c .before .before .before .before .before in
+    sym (length-take-le (branch .before .size-of .result) _ (omega (arith, branch .if1 .taken, c .before .before .before .before .few-day-numbers .ensures)))
 
-slice-aggregate-numbers : tie.Need-slice-aggregate-numbers
-slice-aggregate-numbers c =
-    let size = c .before .before .before .before in
-    let entry = size .before .before .before .before .before .before .before .before .before in
-    sym (length-take-le (size .size-of .result) _ (omega (arith, c .before .before .before .day-numbers .ensures, entry .pre .0 .2 .few-boxes, size .size-of .ensures)))
-
-number-boxes-requires : tie.Need-number-boxes-requires
-number-boxes-requires c κs =
-    let classes = c .before .before .before .before .before .day-classes .ensures in
-    let numbers = c .before .before .before .before .before .before .day-numbers in
-    let size = c .before .before .before .before .before .before .before in
-    let boxes = size .size-of in
-    let entry = size .before .before .before .before .before .before .before .before .before in
-    let a = entry .args in
-    let pre = entry .pre in
-    let given = pre .0 in
-    let few = given .2 .few-boxes in
-    let cells = lent (boxes .result) _ (numbers .result) (boxes .ensures) few (numbers .ensures) in (
-      λ i l. box-ready (now (a .states)) (now (a .span-counts)) (now (a .spans)) (given .0) (given .1) (now (a .row-starts)) (now (a .sizes))
-          (now (a .cuts)) (now (a .lists)) (given .2) i (omega (arith, l, cells)),
-      (record { rows = omega (arith, cells, pre .1); numbers = omega (arith, cells, few, classes .0); few = omega (arith, cells, few) }, classes .1),
-    )
-
-pop-pages-requires : tie.Need-pop-pages-requires
-pop-pages-requires c κs =
-    let step = c .before .before .before .before .before .before .before .before in
-    let numbered = step .number-boxes in
-    let marks = step .before .before .before .before .before .marks .ensures in
-    let numbers = step .before .before .before .before .before .before .before .day-numbers in
-    let size = step .before .before .before .before .before .before .before .before in
-    let boxes = size .size-of in
-    let entry = size .before .before .before .before .before .before .before .before .before in
-    let a = entry .args in
-    let pre = entry .pre in
-    let given = pre .0 in
-    let few = given .2 .few-boxes in
-    let cells = lent (boxes .result) _ (numbers .result) (boxes .ensures) few (numbers .ensures) in (
-      boxes-room (now (a .row-starts)) (now (a .sizes)) (now (a .cuts)) (now (a .lists)) (given .0) (given .2) _ _
-          (numbered .kept .1 .1 .1 .1 .1 .0 ∙ cells) (omega (arith, marks, few)),
+fold-pages-in-requires : tie.Need-fold-pages-in-requires
+fold-pages-in-requires c κs =
+    let numbers = c .before .before .before .before .before .before in
+    let branch = numbers .before in
+    let sized = branch .before in
+    let pre = start sized .pre in
+    let size = sized .size-of .ensures in
+    let few = branch .if1 .taken in
+    let classes = c .before .before .before .before .before .few-day-classes .ensures in (
+      pre .0,
       (
-        rows-cut (now (a .states)) (now (a .span-counts)) (now (a .spans)) (given .0) (given .1) (now (a .row-starts)) (now (a .sizes)) (now (a .cuts))
-            (now (a .lists)) (given .2),
-        (numbered .ensures .none, omega (arith, pre .1, numbered .kept .1 .1 .1 .1 .0)),
+        pre .1,
+        (
+          lent _ _ 64 _ size few (numbers .few-day-numbers .ensures),
+          omega (arith, size, few, classes .0),
+          classes .1,
+          omega (arith, size, few, c .before .before .before .before .few-marks .ensures),
+        ),
       ),
     )
 
-count-pages-requires : tie.Need-count-pages-requires
-count-pages-requires c κs =
-    let pop = c .before .before .before .before .before in
-    let popped = pop .pop-pages in
-    let step = pop .before .before .before .before .before .before .before .before .before in
-    let numbered = step .number-boxes in
-    let numbers = step .before .before .before .before .before .before .before .day-numbers in
-    let size = step .before .before .before .before .before .before .before .before in
-    let boxes = size .size-of in
-    let entry = size .before .before .before .before .before .before .before .before .before in
-    let a = entry .args in
-    let pre = entry .pre in
-    let given = pre .0 in
-    let cells = lent (boxes .result) _ (numbers .result) (boxes .ensures) (given .2 .few-boxes) (numbers .ensures) in
-    let ended = pages-end (now (a .states)) (now (a .span-counts)) (now (a .spans)) (now (a .row-starts)) (now (a .sizes)) (now (a .cuts)) (now (a .lists))
-    _ _ (given .0) (given .1) (given .2) (length (take (boxes .result) (numbers .result))) cells (numbered .ensures)
-    (numbered .kept .1 .1 .1 .1 .1 .0) (numbered .last .1 .1 .1 .1 .0) _
-    (omega (arith, cells, pre .1, numbered .kept .1 .1 .1 .1 .0)) (popped .ensures .1) _ (popped .ensures .0) in
-    (ended .0, omega (arith, ended .1, popped .kept .1 .1 .1 .1 .1 .1 .0))
+slice-aggregate-fold-pages-in-4 : tie.Need-slice-aggregate-fold-pages-in-4
+slice-aggregate-fold-pages-in-4 c =
+    let sized = c .before .before .before .before .before .before in
+    sym (length-take-le (sized .size-of .result) _
+    (omega (arith, sized .size-of .ensures, start sized .pre .0 .2 .few-boxes, c .before .before .before .before .day-numbers .ensures)))
 
-returns : tie.Need-returns
-returns c =
-    let pop = c .before .before .before .before .before .before in
-    let popped = pop .pop-pages in
-    let step = pop .before .before .before .before .before .before .before .before .before in
-    let numbered = step .number-boxes in
-    let numbers = step .before .before .before .before .before .before .before .day-numbers in
-    let size = step .before .before .before .before .before .before .before .before in
-    let boxes = size .size-of in
-    let entry = size .before .before .before .before .before .before .before .before .before in
-    let a = entry .args in
-    let pre = entry .pre in
-    let cells = lent (boxes .result) _ (numbers .result) (boxes .ensures) (pre .0 .2 .few-boxes) (numbers .ensures) in
-    λ rs form tables boxed commented. pages-folded (now (a .states)) (now (a .span-counts)) (now (a .spans)) (now (a .row-starts)) (now (a .sizes)) (now (a .cuts))
-    (now (a .lists)) _ _ rs tables boxed (length (take (boxes .result) (numbers .result))) cells (numbered .ensures)
-    (numbered .kept .1 .1 .1 .1 .1 .0) (numbered .last .1 .1 .1 .1 .0) _
-    (omega (arith, cells, pre .1, numbered .kept .1 .1 .1 .1 .0)) (popped .ensures .1) _ (popped .ensures .0) form commented _ (c .count-pages .ensures)
+fold-pages-in-requires-2 : tie.Need-fold-pages-in-requires-2
+fold-pages-in-requires-2 c κs =
+    let numbers = c .before .before .before .before .before .before in
+    let sized = numbers .before .before in
+    let pre = start sized .pre in
+    let size = sized .size-of .ensures in
+    let few = pre .0 .2 .few-boxes in
+    let classes = c .before .before .before .before .before .day-classes .ensures in (
+      pre .0,
+      (
+        pre .1,
+        (
+          lent _ _ 4096 _ size (omega (arith, size, few)) (numbers .day-numbers .ensures),
+          omega (arith, few, classes .0),
+          classes .1,
+          omega (arith, few, c .before .before .before .before .marks3 .ensures),
+        ),
+      ),
+    )
 
 pub fold-pages-spec : {M : Type 1} → statement M
 fold-pages-spec =
     tie.close
-    (tie.spec
-    (λ c κs.
-    let entry = c .before .before .before .before .before .before .before .before in
-    let boxed = entry .pre .0 .2 in (omega (arith, boxed .cut .four), boxed .cut .filled, omega (arith, boxed .few-boxes)))
-    (λ c κs. search needs) (λ c κs. search needs) (λ c κs. search needs) array-borrow-prefix-cells slice-aggregate-numbers (λ c. search needs)
-    number-boxes-requires (λ c. search needs) (λ c. search needs) pop-pages-requires count-pages-requires (λ c. search needs) returns)
+    (tie.spec (λ c κs. search needs) (λ c κs. search needs) (λ c κs. search needs) (λ c κs. search needs) (λ c. search needs) slice-aggregate-fold-pages-in
+    (λ c. search needs) (λ c. search needs) fold-pages-in-requires (λ c. search needs) (λ c. search needs) (λ c κs. search needs) (λ c κs. search needs)
+    (λ c κs. search needs) (λ c. search needs) slice-aggregate-fold-pages-in-4 (λ c. search needs) (λ c. search needs) fold-pages-in-requires-2
+    (λ c. search needs) (λ c. search needs))

@@ -1,75 +1,96 @@
--- `fold_write::emit` meets its contract: what was measured decides, and both answers are the definition's.
+-- `fold_write::emit` meets its contract: what was measured decides, and all three answers are the definition's.
 use mathlib.Core.Path.{sym, _∙_}
 use Prim.Native.Nat.{_+_, _-_, _/_, _≤_}
 use native.Mathlib.Omega.{arith}
 use lib.ListN.{length}
 use borrow.Author.Needs.{needs}
 use borrow.Author.Tests.{ltb-true, ltb-false}
-use Rattle.fold_write.proofs.Answer.{count-few, count-fits, row-bits, no-room, with-room}
+use Rattle.fold_write.proofs.Answer.{not-counted, count-fits, countable, row-bits, no-room, with-room}
 use Rattle.fold_write.proofs.emit.Statement.{statement}
 use Rattle.fold_write.proofs.emit.Tie as tie
 
 measure-pages-requires : tie.Need-measure-pages-requires
 measure-pages-requires c κs = let entry = c .before .before .before .before .before .before .before in let paged = entry .pre .1 in (paged .ready, omega (arith, paged .few))
 
--- from the test of the room back to what was measured, and to where the function begins
-abbrev measuring : tie.After-lacks-room → tie.After-measure-pages
+-- from what the form can carry back to what was measured, and to where the function begins
+abbrev measuring : tie.After-most-rules → tie.After-measure-pages
 measuring c = c .before .before .before
 
 abbrev start : tie.After-measure-pages → tie.Start
 start c = c .before .before .before .before .before .before .before .before
 
+-- from the test of the room back to the test of the counts, behind which the form can carry the result
+abbrev counting : tie.After-lacks-room → tie.Else1
+counting c = c .before .before .before
+
+abbrev asking : tie.Else1 → tie.After-most-rules
+asking c = c .before .before
+
 -- behind the test the result has room
-enough : (c : tie.Else1)
-    → let measured = measuring (c .before) in
+enough : (c : tie.Else2)
+    → let measured = measuring (asking (counting (c .before))) in
     let args = start measured .args in
     (c .before .before .before .opening-width .result + measured .measure-pages .result .bits + (args .left .end - args .left .start) + 7) / 8 ≤ length (args .out .now)
-enough c = ltb-false _ _ (sym (c .before .lacks-room .ensures) ∙ c .if1 .left)
+enough c = ltb-false _ _ (sym (c .before .lacks-room .ensures) ∙ c .if2 .left)
+
+add-rules : tie.Need-add-rules
+add-rules c = let measured = c .before .before in let pre = start measured .pre in omega (arith, measured .measure-pages .ensures .3, pre .1 .few, pre .2 .left-few)
 
 returns : tie.Need-returns
 returns c =
-    let room = c .before .before in
-    λ rs paged leaving. let m = measuring room .measure-pages .ensures in
-    let lacking = ltb-true _ _ (sym (room .lacks-room .ensures) ∙ c .before .if1 .taken) in
-    let full = no-room (start (measuring room) .args .form) paged leaving (m .0) (m .1) (room .before .before .opening-width .ensures .0) (start (measuring room) .args .out .now) lacking in
-    (c .fold-refused .ensures ∙ full .0, full .1)
+    let asked = c .before .before .before in
+    let measured = measuring asked in
+    λ rs paged leaving. let m = measured .measure-pages .ensures in
+    let past = not-counted (start measured .args .form) paged leaving (m .0) (m .2) (asked .most-rules .ensures) (c .before .if1 .taken) (start measured .args .out .now) in
+    (c .fold-refused .ensures ∙ past .0, past .1)
 
-add-write-sheet : tie.Need-add-write-sheet
-add-write-sheet c =
-    let room = c .before .before .before .before in
-    let measured = measuring room in
-    let pre = start measured .pre in
-    let m = measured .measure-pages .ensures in omega (arith, count-few (start measured .args .form) (pre .1) (pre .2) (m .0) (m .1) (room .before .before .opening-width .ensures .0))
+returns-2 : tie.Need-returns-2
+returns-2 c =
+    let room = c .before .before in
+    let branch = counting room in
+    let measured = measuring (asking branch) in
+    λ rs paged leaving. let m = measured .measure-pages .ensures in
+    let lacking = ltb-true _ _ (sym (room .lacks-room .ensures) ∙ c .before .if2 .taken) in
+    let full = no-room (start measured .args .form) paged leaving (m .0) (m .1) (room .before .before .opening-width .ensures .0) (m .2) (asking branch .most-rules .ensures)
+    (branch .if1 .left) (start measured .args .out .now) lacking in
+    (c .fold-refused2 .ensures ∙ full .0, full .1)
 
 write-sheet-requires : tie.Need-write-sheet-requires
 write-sheet-requires c κs =
-    let branch = c .before .before .before in
-    let measured = measuring (branch .before) in
+    let fitting = c .before in
+    let branch = counting (fitting .before) in
+    let asked = asking branch in
+    let measured = measuring asked in
     let paged = start measured .pre .1 in
     let leaving = start measured .pre .2 in
     let m = measured .measure-pages .ensures in
-    let opened = branch .before .before .before .opening-width .ensures in
+    let opened = fitting .before .before .before .opening-width .ensures in
     let form = start measured .args .form in
     let long = row-bits form paged leaving (m .0) (m .1) (opened .0) in (
       paged .ready,
       (
         (leaving .ordered, leaving .inside, omega (arith, leaving .low)),
         (
-          count-fits form paged leaving (m .0) (m .1) (opened .0),
-          (omega (arith, long, enough branch), omega (arith, long, m .3, paged .few, leaving .low, opened .1)),
+          count-fits form paged leaving (m .0) (m .2) (asked .most-rules .ensures) (branch .if1 .left),
+          (
+            countable form paged leaving (m .0) (m .2) (asked .most-rules .ensures) (branch .if1 .left),
+            (omega (arith, long, enough fitting), omega (arith, long, m .4, paged .few, leaving .low, opened .1)),
+          ),
         ),
       ),
     )
 
-returns-2 : tie.Need-returns-2
-returns-2 c =
-    let branch = c .before .before .before .before .before .before in
-    let measured = measuring (branch .before) in
+returns-3 : tie.Need-returns-3
+returns-3 c =
+    let fitting = c .before .before .before .before in
+    let branch = counting (fitting .before) in
+    let measured = measuring (asking branch) in
     λ rs paged leaving. let m = measured .measure-pages .ensures in
-    with-room (start measured .args .form) paged leaving (m .0) (m .1) (branch .before .before .before .opening-width .ensures .0) (start measured .args .out .now) _ (enough branch) (c .before .before .write-sheet .ensures)
+    with-room (start measured .args .form) paged leaving (m .0) (m .1) (fitting .before .before .before .opening-width .ensures .0) (m .2) (asking branch .most-rules .ensures)
+    (branch .if1 .left) (start measured .args .out .now) _ (enough fitting) (c .before .before .write-sheet .ensures)
 
 pub emit-spec : {M : Type 1} → statement M
 emit-spec =
     tie.close
-    (tie.spec measure-pages-requires (λ c κs. search needs) (λ c. search needs) (λ c. search needs) (λ c. search needs) (λ c. search needs) (λ c κs. search needs)
-    (λ c κs. search needs) returns add-write-sheet write-sheet-requires (λ c. search needs) returns-2)
+    (tie.spec measure-pages-requires add-rules (λ c κs. search needs) (λ c κs. search needs) returns (λ c κs. search needs) (λ c. search needs) (λ c. search needs)
+    (λ c. search needs) (λ c. search needs) (λ c κs. search needs) (λ c κs. search needs) returns-2 write-sheet-requires (λ c. search needs) returns-3)

@@ -15,7 +15,7 @@ put-opening-requires c κs =
     let page = pagedRules (a .states .now) (a .span-counts .now) (a .spans .now) (a .lists .now) (a .pages .now) (a .count) in
     let others = between (a .sheet .now) (a .start) (a .end) in
     let pre = entry .pre .1 .1 in
-    (pre .0, opening-room _ (a .rules) page others (a .out .now) (pre .1 .0) (pre .1 .1))
+    (pre .0, opening-room _ (a .rules) page others (a .out .now) (pre .1 .1 .0) (pre .1 .1 .1))
 
 write-pages-requires : tie.Need-write-pages-requires
 write-pages-requires c κs =
@@ -23,8 +23,8 @@ write-pages-requires c κs =
     let a = entry .args in
     let page = pagedRules (a .states .now) (a .span-counts .now) (a .spans .now) (a .lists .now) (a .pages .now) (a .count) in
     let others = between (a .sheet .now) (a .start) (a .end) in
-    let pre = entry .pre .1 .1 .1 in
-    (entry .pre .0, rules-room _ (a .rules) page others (a .out .now) (pre .0) (pre .1) (c .before .before .before .put-opening .ensures))
+    let pre = entry .pre .1 .1 .1 .1 in
+    (entry .pre .0, (entry .pre .1 .1 .1 .0, rules-room _ (a .rules) page others (a .out .now) (pre .0) (pre .1) (c .before .before .before .put-opening .ensures)))
 
 put-left-requires : tie.Need-put-left-requires
 put-left-requires c κs =
@@ -34,7 +34,7 @@ put-left-requires c κs =
     let page = pagedRules (a .states .now) (a .span-counts .now) (a .spans .now) (a .lists .now) (a .pages .now) (a .count) in
     let others = between (a .sheet .now) (a .start) (a .end) in
     let pre = entry .pre .1 in
-    let room = others-room _ (a .rules) page others (a .out .now) (pre .1 .1 .0) (pre .1 .1 .1) (put-opening .put-opening .ensures)
+    let room = others-room _ (a .rules) page others (a .out .now) (pre .1 .1 .1 .0) (pre .1 .1 .1 .1) (put-opening .put-opening .ensures)
     (c .before .before .before .write-pages .ensures) in
     (pre .0, (omega (arith, room .0, between-length (a .sheet .now) (a .start) (a .end) (pre .0 .0) (pre .0 .1)), room .1))
 
@@ -49,7 +49,7 @@ returns c =
     let others = between (a .sheet .now) (a .start) (a .end) in
     let pre = entry .pre .1 in
     let long = between-length (a .sheet .now) (a .start) (a .end) (pre .0 .0) (pre .0 .1) in
-    sheet-written _ (a .rules) page others (a .out .now) (pre .1 .1 .0) (pre .1 .1 .1) (put-opening .put-opening .ensures) (write-pages .write-pages .ensures)
+    sheet-written _ (a .rules) page others (a .out .now) (pre .1 .1 .1 .0) (pre .1 .1 .1 .1) (put-opening .put-opening .ensures) (write-pages .write-pages .ensures)
     long (c .before .before .put-left .ensures) (λ j. omega (arith, slice-known .slice-known .given j)) (λ j. omega (arith, c .slice-known4 .given j))
 
 pub write-sheet-spec : {M : Type 1} → statement M

@@ -1,6 +1,7 @@
 -- `lookup::look_rules` meets its contract: 8 where there is no such date or minute, else what is answered for the date's point.
 use mathlib.Core.Path.{sym, ap, _∙_}
 use Prim.Native.Nat.{_<_}
+use native.Mathlib.Omega.{arith}
 use borrow.Author.Needs.{needs}
 use borrow.Author.Tests.{leb-true, leb-false}
 use Rattle.calendar.specs.Dated.{pointIn}
@@ -27,7 +28,8 @@ in-day c = leb-false _ _ (sym (c .before .past-midnight .ensures) ∙ c .if1 .le
 look-moment-requires : tie.Need-look-moment-requires
 look-moment-requires c κs =
     let dated = c .before .before .before in
-    (dated .before .before .before .before .before .pre, point-dated _ _ _ _ (sym (ap pointIn (c .before .dated .given .1)) ∙ dated .point-of .ensures) .2)
+    let point = point-dated _ _ _ _ (sym (ap pointIn (c .before .dated .given .1)) ∙ dated .point-of .ensures) in
+    (dated .before .before .before .before .before .pre, (point .2, omega arith))
 
 returns-2 : tie.Need-returns-2
 returns-2 c =

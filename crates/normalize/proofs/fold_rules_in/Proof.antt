@@ -95,15 +95,18 @@ fold-boxes-requires c κs =
     let read = start p .pre .0 .1 in
     let fine = judged-fine _ _ _ _ _ _ _ _ _ _ _ (p .prepare .ensures _ _ (read .0) (read .1)) _ _ (told .before .judged .given .1) in
     let left = leaving .rules-left .ensures in (
-      start p .pre .0 .0,
-      record {
-        end = start p .args .end;
-        read = read .0 .read;
-        commented = rules-commented _ sheet bytes _ _ _ (read .0);
-        leaving = rules-leaving _ sheet bytes _ _ _ (read .0) _ _ (fine .0 .rules-many) (read .1) _ _ _ _ _ (left .0) (left .1) (left .2)
-            (length-take-le _ _ (omega (arith, within told, start p .pre .1 .0 .0, p .prepare .kept .1 .1 .1 .1 .0))) (left .3 ∙ fine .1);
-        to-draw = prepared-to-draw _ _ _ _ _ _ _ _ _ _ _ (fine .0) (omega (arith, within told, start p .pre .1 .0 .0, p .prepare .kept .1 .1 .1 .1 .0));
-      },
+      (
+        start p .pre .0 .0,
+        record {
+          end = start p .args .end;
+          read = read .0 .read;
+          commented = rules-commented _ sheet bytes _ _ _ (read .0);
+          leaving = rules-leaving _ sheet bytes _ _ _ (read .0) _ _ (fine .0 .rules-many) (read .1) _ _ _ _ _ (left .0) (left .1) (left .2)
+              (length-take-le _ _ (omega (arith, within told, start p .pre .1 .0 .0, p .prepare .kept .1 .1 .1 .1 .0))) (left .3 ∙ fine .1);
+          to-draw = prepared-to-draw _ _ _ _ _ _ _ _ _ _ _ (fine .0) (omega (arith, within told, start p .pre .1 .0 .0, p .prepare .kept .1 .1 .1 .1 .0));
+        },
+      ),
+      omega arith,
     )
 
 -- where the rules are prepared, at the end of either branch
@@ -135,6 +138,6 @@ fold-rules-in-spec =
     (λ c. finished c .prepare .kept .1 .1 .1 .1 .1 .1 .1 .0)
     (λ c. finished c .prepare .kept .1 .1 .1 .1 .1 .1 .1 .1 .0)
     (λ c. finished c .prepare .kept .1 .1 .1 .1 .1 .1 .1 .1 .1 .0)
-    (λ c. search needs) (λ c. search needs)
+    (λ c. finished c .prepare .kept .1 .1 .1 .1 .1 .1 .1 .1 .1 .1 .1 .1 .0) (λ c. search needs)
     (λ c. search needs) (λ c. search needs) (λ c. search needs) (λ c. search needs) (λ c. search needs) (λ c. search needs) (λ c. search needs)
     returns-2)

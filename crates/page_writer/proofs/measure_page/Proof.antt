@@ -4,6 +4,8 @@ use Prim.Native.Nat.{_-_}
 use native.Mathlib.Omega.{arith}
 use borrow.Author.Needs.{needs}
 use lib.ListN.{length}
+use Rattle.laws.specs.Lists.{anyOf}
+use Rattle.definition.specs.Fold.{manyItems}
 use Rattle.day_writer.specs.Rules.{rulesBits}
 use Rattle.forms.specs.Form.{asForm}
 use Rattle.tables.specs.Pages.{pageEnds}
@@ -49,8 +51,13 @@ returns c =
     let same = page-rules page _ named _ _ (day .kept .0) (day .ensures .0) (day .ensures .1) ends refl in
     let few = short page _ named _ _ (day .kept .0) (day .ensures .0) (day .ensures .1) in
     let measured = c .measure-day .ensures in
-    let m = measured .0 ends (page .rows .inside) in
-    (ap length (sym same) ∙ m .0, ap (λ rs. length (rulesBits (asForm (entry .args .form)) rs)) (sym same) ∙ m .1, omega (arith, few, measured .1), omega (arith, few, measured .2))
+    let m = measured .0 ends (page .rows .inside) in (
+      ap length (sym same) ∙ m .0,
+      ap (λ rs. length (rulesBits (asForm (entry .args .form)) rs)) (sym same) ∙ m .1,
+      ap (anyOf (manyItems (asForm (entry .args .form)))) (sym same) ∙ m .2,
+      omega (arith, few, measured .1),
+      omega (arith, few, measured .2),
+    )
 
 pub measure-page-spec : {M : Type 1} → statement M
 measure-page-spec =

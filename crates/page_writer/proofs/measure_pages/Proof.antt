@@ -11,13 +11,13 @@ use Rattle.page_writer.proofs.measure_pages.Statement.{statement}
 use Rattle.page_writer.proofs.measure_pages.Tie as tie
 
 abbrev Inv-loop : tie.InvT-loop
-Inv-loop form states counts spans lists pages count words₀ span-states₀ span-codes₀ strokes₀ cuts₀ intervals₀ here₀ left₀ rules₀ bits₀ words span-states span-codes strokes cuts
-    intervals here left rules bits =
-    Measured (asForm form) states counts spans lists pages count left here rules bits × Sized words span-states span-codes strokes cuts intervals
+Inv-loop form states counts spans lists pages count words₀ span-states₀ span-codes₀ strokes₀ cuts₀ intervals₀ here₀ left₀ rules₀ bits₀ past₀ words span-states span-codes strokes
+    cuts intervals here left rules bits past =
+    Measured (asForm form) states counts spans lists pages count left here rules bits past × Sized words span-states span-codes strokes cuts intervals
 
 abbrev μ-loop : tie.MeasureT-loop
-μ-loop form states counts spans lists pages count words₀ span-states₀ span-codes₀ strokes₀ cuts₀ intervals₀ here₀ left₀ rules₀ bits₀ words span-states span-codes strokes cuts
-    intervals here left rules bits =
+μ-loop form states counts spans lists pages count words₀ span-states₀ span-codes₀ strokes₀ cuts₀ intervals₀ here₀ left₀ rules₀ bits₀ past₀ words span-states span-codes strokes
+    cuts intervals here left rules bits past =
     left
 
 loop-holds : tie.Need-loop-holds Inv-loop μ-loop
@@ -75,30 +75,30 @@ add-rules c =
     let test = c .before .before .before .before .before .before .before .before .before .before .before .before .before .before .before .before in
     let loop = test .before in
     let entry = loop .before .before .before .before .before .before .before .before .before .before .before .before in
-    omega (arith, loop .loop .inv .0 .few, test .loop-test .taken, c .before .before .before .before .before .before .before .measure-page .ensures .2, entry .pre .1)
+    omega (arith, loop .loop .inv .0 .few, test .loop-test .taken, c .before .before .before .before .before .before .before .measure-page .ensures .3, entry .pre .1)
 
 add-bits : tie.Need-add-bits Inv-loop μ-loop
 add-bits c =
     let test = c .before .before .before .before .before .before .before .before .before .before .before .before .before .before .before .before .before in
     let loop = test .before in
     let entry = loop .before .before .before .before .before .before .before .before .before .before .before .before in
-    omega (arith, loop .loop .inv .0 .short, test .loop-test .taken, c .before .before .before .before .before .before .before .before .measure-page .ensures .3, entry .pre .1)
+    omega (arith, loop .loop .inv .0 .short, test .loop-test .taken, c .before .before .before .before .before .before .before .before .measure-page .ensures .4, entry .pre .1)
 
 add-here : tie.Need-add-here Inv-loop μ-loop
 add-here c =
-    let size = c .before .before .before .before .before .before .before .before .before .before .before .before .before .before .before .before in
+    let size = c .before .before .before .before .before .before .before .before .before .before .before .before .before .before .before .before .before in
     let loop = size .before .before in
     let entry = loop .before .before .before .before .before .before .before .before .before .before .before .before in
     omega (arith, measured-page (loop .loop .inv .0) (size .before .loop-test .taken) .inside, size .page-size .ensures, entry .good)
 
 loop-again : tie.Need-loop-again Inv-loop μ-loop
 loop-again c =
-    let call = c .before .before .before .before .before .before .before .before in
+    let call = c .before .before .before .before .before .before .before .before .before in
     let size = call .before .before .before .before .before .before .before .before in
     let inv = size .before .before .loop .inv in
     let page = call .measure-page .ensures in
     let kept = call .measure-page .kept .1 in (
-      measured-more (inv .0) (size .before .loop-test .taken) (size .page-size .ensures) (page .0) (page .1) (page .2) (page .3),
+      measured-more (inv .0) (size .before .loop-test .taken) (size .page-size .ensures) (page .0) (page .1) (page .2) (page .3) (page .4),
       record {
         words = inv .1 .words ∙ sym (kept .0);
         states = inv .1 .states ∙ sym (kept .1 .0);
@@ -122,7 +122,7 @@ measure-pages-spec =
     (λ c. c .before .before .before .before .before .before .before .loop .inv .1 .cuts)
     (λ c. c .before .before .before .before .before .before .before .before .loop .inv .1 .intervals)
     add-measure-page mul-measure-page (λ c. omega arith) (λ c. omega arith) part-measure-page-end measure-page-requires add-rules add-bits add-here
-    (λ c. omega (arith, c .before .before .before .before .before .before .before .before .before .before .before .before .before .before .before .before .before .loop-test .taken))
-    (λ c. omega (arith, c .before .before .before .before .before .before .before .before .before .before .before .before .before .before .before .before .before .loop-test .taken))
+    (λ c. omega (arith, c .before .before .before .before .before .before .before .before .before .before .before .before .before .before .before .before .before .before .loop-test .taken))
+    (λ c. omega (arith, c .before .before .before .before .before .before .before .before .before .before .before .before .before .before .before .before .before .before .loop-test .taken))
     loop-again
     (λ c. measured-all (c .before .loop .inv .0) (omega (arith, c .loop-test .left))))

@@ -1,8 +1,10 @@
 -- `page_writer::write_page` meets its contract: the box's day is folded, then written.
-use mathlib.Core.Path.{sym, ap}
+use mathlib.Core.Path.{sym, ap, _∙_}
 use Prim.Native.Nat.{_-_}
 use native.Mathlib.Omega.{arith}
 use borrow.Author.Needs.{needs}
+use Rattle.laws.specs.Lists.{anyOf}
+use Rattle.definition.specs.Fold.{manyItems}
 use Rattle.item_writer.proofs.Chain.{room-as, wrote-as}
 use Rattle.day_writer.specs.Rules.{rulesBits}
 use Rattle.forms.specs.Form.{asForm}
@@ -49,7 +51,7 @@ write-day-requires c κs =
     let day = fold-box .fold-box in
     let same = page-rules page _ named _ _ (day .kept .0) (day .ensures .0) (day .ensures .1) _ (ends-whole page all) in (
       whole page _ named _ _ (day .kept .0) (day .ensures .0) (day .ensures .1),
-      (rows-whole page all, room-as (ap (rulesBits (asForm (entry .args .form))) (sym same)) (entry .pre .1 .1)),
+      (rows-whole page all, (ap (anyOf (manyItems (asForm (entry .args .form)))) same ∙ entry .pre .1 .1 .0, room-as (ap (rulesBits (asForm (entry .args .form))) (sym same)) (entry .pre .1 .1 .1))),
     )
 
 returns : tie.Need-returns

@@ -7,7 +7,7 @@ use lib.ListN.{length}
 use Rattle.tables.proofs.Pages.{size-low}
 use Rattle.forms.specs.Form.{asForm}
 use Rattle.page_writer.proofs.Reading.{cut-ready, cut-whole}
-use Rattle.page_writer.proofs.Walking.{Sized, sized-scratch, Writing, writing-none, writing-page, page-room, writing-more, writing-all}
+use Rattle.page_writer.proofs.Walking.{Sized, sized-scratch, Writing, writing-none, writing-page, page-countable, page-room, writing-more, writing-all}
 use Rattle.page_writer.proofs.write_pages.Statement.{statement}
 use Rattle.page_writer.proofs.write_pages.Tie as tie
 
@@ -25,7 +25,7 @@ loop-holds : tie.Need-loop-holds Inv-loop μ-loop
 loop-holds c =
     let words = c .before .before .before .before .before in
     let entry = words .before .before .before .before .before .before .before in (
-      writing-none _ _ _ _ _ _ _ (entry .pre .0) _ _ (entry .pre .1),
+      writing-none _ _ _ _ _ _ _ (entry .pre .0) (entry .pre .1 .0) _ _ (entry .pre .1 .1),
       record {
         words = words .words .ensures;
         states = c .before .before .before .before .states .ensures;
@@ -72,7 +72,7 @@ write-page-requires c κs =
     let ready = writing-page (inv .0) some in
     let sized = size .page-size .ensures in (
       (cut-ready _ _ _ sized (omega (arith, ready .inside, sized)) ready (inv .1 .words), cut-whole _ _ _ sized (omega (arith, ready .inside, sized))),
-      (sized-scratch (inv .1), page-room (inv .0) some sized),
+      (sized-scratch (inv .1), (page-countable (inv .0) some sized, page-room (inv .0) some sized)),
     )
 
 add-here : tie.Need-add-here Inv-loop μ-loop

@@ -9,7 +9,7 @@ use lib.ListN.{length}
 use borrow.Author.Needs.{needs}
 use borrow.Author.Tests.{eq-eqb, ne-eqb}
 use Rattle.definition.specs.Field.{sheetBits, Read, plain, counted, unlawful, refused}
-use Rattle.definition.specs.Sheet.{Form, limits1, opening}
+use Rattle.definition.specs.Sheet.{Form, sheetLimits, opening}
 use Rattle.field.specs.Answer.{asRead}
 use Rattle.field.specs.declared.Taken.{Taken}
 use Rattle.field.specs.declared.Taken.the-variants.{Value, Refused}
@@ -42,15 +42,15 @@ module _ (s : List ℕ) (w : ℕ) (r : Reading) (e : Says r s 0 w) where
       mark-said : asRead t ≡ (plain (form .markWidth)) .read (sheetBits s) 0
       mark-said = said ∙ ap (λ n. (plain n) .read (sheetBits s) 0) wide
 
-      stays-refused : (c q : ℕ) → t ≡ Refused c q → asRead t ≡ (opening form limits1) .read (sheetBits s) 0
+      stays-refused : (c q : ℕ) → t ≡ Refused c q → asRead t ≡ (opening form sheetLimits) .read (sheetBits s) 0
       stays-refused c q h =
           ap asRead h ∙ opening-stops form (sheetBits s) c q (sym (still-refused _ _ _ _ _ t mark-said c q h) ∙ ap asRead h)
 
       marked : {a : Read ℕ} (v n m : ℕ) → t ≡ Value v n → v ≡ m → m ≡ form .mark
-          → a ≡ (counted (form .ruleCount) (limits1 .rules)) .read (sheetBits s) n → a ≡ (opening form limits1) .read (sheetBits s) 0
+          → a ≡ (counted (form .ruleCount) (sheetLimits .rules)) .read (sheetBits s) n → a ≡ (opening form sheetLimits) .read (sheetBits s) 0
       marked v n m h i j f = f ∙ opening-goes form (sheetBits s) v n (test-passed _ _ _ _ _ t mark-said v n h (eq-eqb v (form .mark) (i ∙ j)))
 
-      unmarked : (v n m : ℕ) → t ≡ Value v n → (v ≡ m → ⊥) → m ≡ form .mark → refused unlawful 0 ≡ (opening form limits1) .read (sheetBits s) 0
+      unmarked : (v n m : ℕ) → t ≡ Value v n → (v ≡ m → ⊥) → m ≡ form .mark → refused unlawful 0 ≡ (opening form sheetLimits) .read (sheetBits s) 0
       unmarked v n m h i j =
           opening-stops form (sheetBits s) unlawful 0 (sym (test-failed _ _ _ _ _ t mark-said v n h (ne-eqb v (form .mark) (λ q. i (q ∙ sym j)))))
 

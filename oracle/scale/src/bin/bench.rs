@@ -1,19 +1,22 @@
 //! The bench: `bench` times the archive and the Rust on the same sheets, from sheet bytes to result bytes, and prints a table; and, by the
-//! archive alone, lines of text, for which the Rust has no writer, and checks, which it does not make, in two more. `bench --sheets`
-//! prints the sheets of the first, in hex and in the Rust's own words; `bench --profile TABLE SHEET RUNS` runs one sheet of a table
-//! (`fold`, `line` or `check`), by its number from 1, that many times by the archive alone, for a profiler.
+//! archive alone, lines of text, for which the Rust has no writer, and checks, which it does not make, in two more. `bench --growth` times
+//! both on sheets of which rules or boxes are four times as many from one to the next, and on sheets at the limits; `bench --stack` tells
+//! how deep each function goes on all these sheets. `bench --sheets` prints the sheets of the first table, in hex and in the Rust's own
+//! words; `bench --profile TABLE SHEET RUNS` runs one sheet of a table (`fold`, `growth`, `limit`, `line` or `check`), by its number from
+//! 1, that many times by the archive alone, for a profiler.
 
 use std::hint::black_box;
 use std::process::ExitCode;
-use std::time::{Duration, Instant};
 
 use oracle::bits::to_hex;
 use oracle::fold::{normalize_sheet, read_expression};
-use scale::archive::{self, Given, numbers};
+use scale::archive::{self, Given, Writing, numbers};
 use scale::bench_sheets::{BenchSheet, bench_sheets};
 use scale::check_sheets::check_sheets;
+use scale::growth_sheets::{growth_sheets, limit_sheets};
 use scale::line_sheets::line_sheets;
 use scale::stack::stack_of;
+use scale::times::times;
 
 fn main() -> ExitCode {
     let words: Vec<String> = std::env::args().skip(1).collect();
@@ -21,10 +24,15 @@ fn main() -> ExitCode {
 
     match words.as_slice() {
         [] => {
-            print_times();
+            print_times(&bench_sheets());
             print_line_times();
             print_check_times();
         }
+        ["--growth"] => {
+            print_times(&growth_sheets());
+            print_times(&limit_sheets());
+        }
+        ["--stack"] => print_stacks(),
         ["--sheets"] => bench_sheets().iter().for_each(print_sheet),
         ["--profile", table, sheet, runs] => match (table_of(table), sheet.parse(), runs.parse()) {
             (Some((sheets, call)), Ok(sheet), Ok(runs)) => profile(&sheets, call, sheet, runs),
@@ -37,12 +45,14 @@ fn main() -> ExitCode {
 }
 
 fn usage() -> ExitCode {
-    eprintln!("usage: bench [--sheets | --profile fold|line|check SHEET RUNS]");
+    eprintln!(
+        "usage: bench [--growth | --stack | --sheets | --profile fold|growth|limit|line|check SHEET RUNS]"
+    );
     ExitCode::from(2)
 }
 
-/// Ample for the longest result of the bench, of some 2 MB.
-const ROOM: usize = 4 << 20;
+/// Ample for the longest result of the bench, of some 9 MB.
+const ROOM: usize = 16 << 20;
 
 /// 01's code 7: the output buffer is shorter than the result.
 const NO_ROOM: u64 = 7;
@@ -62,11 +72,17 @@ type Call = fn(Given, &mut [u8]);
 
 fn table_of(name: &str) -> Option<(Vec<BenchSheet>, Call)> {
     match name {
-        "fold" => Some((bench_sheets(), |sheet, out| _ = black_box(fold(sheet, out)))),
+        "fold" => Some((bench_sheets(), call_fold)),
+        "growth" => Some((growth_sheets(), call_fold)),
+        "limit" => Some((limit_sheets(), call_fold)),
         "line" => Some((line_sheets(), |sheet, out| _ = black_box(line(sheet, out)))),
         "check" => Some((check_sheets(), |sheet, _| _ = black_box(check(sheet)))),
         _ => None,
     }
+}
+
+fn call_fold(sheet: Given, out: &mut [u8]) {
+    black_box(fold(sheet, out));
 }
 
 fn profile(sheets: &[BenchSheet], call: Call, sheet: usize, runs: usize) {
@@ -94,20 +110,18 @@ fn check(sheet: Given) -> u64 {
     code
 }
 
-fn print_times() {
+fn print_times(sheets: &[BenchSheet]) {
     println!(
         "| sheet | bytes in, out | emitted | archive best | median | Rust best | median | normalize alone | archive : Rust best | median | stack |"
     );
     println!("|---|---|---|---|---|---|---|---|---|---|---|");
 
-    for sheet in bench_sheets() {
-        print_row(&sheet);
-    }
+    sheets.iter().for_each(print_row);
 
     let archive = env!("HOURS_ARCHIVE_FILE");
     match std::fs::metadata(archive) {
-        Ok(file) => println!("\nTimes in µs. The archive has {} bytes.", file.len()),
-        Err(error) => println!("\nTimes in µs. {archive}: {error}"),
+        Ok(file) => println!("\nTimes in µs. The archive has {} bytes.\n", file.len()),
+        Err(error) => println!("\nTimes in µs. {archive}: {error}\n"),
     }
 }
 
@@ -150,6 +164,40 @@ fn print_row(sheet: &BenchSheet) {
         ours.median / rust.median,
     );
 }
+
+/// How deep each function goes, in ample room, on every sheet that is folded here.
+fn print_stacks() {
+    println!("| sheet | fold | lookup | write-back | line | convert |");
+    println!("|---|---|---|---|---|---|");
+
+    for sheet in [bench_sheets(), growth_sheets(), limit_sheets()].concat() {
+        let given = sheet.given();
+        let mut out = vec![0; ROOM];
+        let mut depth = |function: Writing| {
+            stack_of(|| {
+                black_box(function(given, &mut out, &mut [0; 7]));
+            })
+        };
+        let [folded, back, lined, moved] = [
+            archive::fold,
+            archive::write_back,
+            archive::line,
+            archive::convert,
+        ]
+        .map(&mut depth);
+        let looked_up = stack_of(|| {
+            black_box(archive::lookup(given, MOMENT, &mut [0; 7]));
+        });
+
+        println!(
+            "| {} | {folded} | {looked_up} | {back} | {lined} | {moved} |",
+            sheet.name
+        );
+    }
+}
+
+/// 1 January 2001 at noon.
+const MOMENT: [u64; 4] = [2001, 1, 1, 720];
 
 /// A table of times of the archive alone.
 fn print_alone(about: &str, columns: &str, sheets: &[BenchSheet], print_row: fn(&BenchSheet)) {
@@ -220,56 +268,4 @@ fn print_check_row(sheet: &BenchSheet) {
         a_byte(ours.best),
         a_byte(ours.median),
     );
-}
-
-/// Microseconds of one run.
-#[derive(Clone, Copy)]
-struct Times {
-    best: f64,
-    median: f64,
-}
-
-/// A sample is as many runs as take this long, and the samples of all calls take turns, so that a busy moment meets all of them.
-const SAMPLE: Duration = Duration::from_micros(200);
-const SAMPLES: usize = 201;
-const LONGEST: Duration = Duration::from_secs(4);
-const FEWEST_SAMPLES: usize = 5;
-
-fn times<const N: usize>(mut calls: [&mut dyn FnMut(); N]) -> [Times; N] {
-    let runs = calls.each_mut().map(|call| runs_of_a_sample(call));
-    let mut samples = [const { Vec::new() }; N];
-    let began = Instant::now();
-
-    for taken in 0..SAMPLES {
-        if taken >= FEWEST_SAMPLES && began.elapsed() > LONGEST {
-            break;
-        }
-        for ((call, runs), samples) in calls.iter_mut().zip(runs).zip(&mut samples) {
-            samples.push(time_of(call, runs).as_secs_f64() * 1e6 / runs as f64);
-        }
-    }
-
-    samples.map(|mut samples| {
-        samples.sort_by(f64::total_cmp);
-        Times {
-            best: samples[0],
-            median: samples[samples.len() / 2],
-        }
-    })
-}
-
-fn runs_of_a_sample(call: &mut dyn FnMut()) -> usize {
-    let mut runs = 1;
-    while time_of(call, runs) < SAMPLE {
-        runs *= 2;
-    }
-    runs
-}
-
-fn time_of(call: &mut dyn FnMut(), runs: usize) -> Duration {
-    let began = Instant::now();
-    for _ in 0..runs {
-        call();
-    }
-    began.elapsed()
 }

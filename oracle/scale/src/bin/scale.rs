@@ -1,5 +1,6 @@
-//! The comparison at scale: `scale --seed S --count N [--threads T]` makes N sound sheets, N overlapping ones and N damaged ones, gives each
-//! to the archive and holds what it answers against the Rust and documents 01 and 02. Exit status 1 on any difference.
+//! The comparison at scale: `scale --seed S --count N [--threads T] [--large 1]` makes N sound sheets, N overlapping ones and N damaged ones,
+//! with `--large 1` large ones alone, gives each to the archive and holds what it answers against the Rust and documents 01 and 02. Exit
+//! status 1 on any difference.
 
 use std::process::ExitCode;
 use std::sync::atomic::{AtomicU64, Ordering};
@@ -8,12 +9,14 @@ use std::time::Instant;
 
 use oracle::bits::to_hex;
 use scale::arguments;
-use scale::run::Report;
+use scale::run::{Report, Sheets};
+use scale::stack::STACK;
 
 struct Arguments {
     seed: u64,
     count: u64,
     threads: u64,
+    sheets: Sheets,
 }
 
 /// How many sheets a thread takes at a time, and how many differences it waits for before it gives up.
@@ -22,7 +25,7 @@ const ENOUGH_DIFFERENCES: usize = 5;
 
 fn main() -> ExitCode {
     let Some(arguments) = arguments() else {
-        eprintln!("usage: scale --seed S --count N [--threads T]");
+        eprintln!("usage: scale --seed S --count N [--threads T] [--large 1]");
         return ExitCode::from(2);
     };
 
@@ -57,13 +60,22 @@ fn main() -> ExitCode {
 
 fn arguments() -> Option<Arguments> {
     let processors = thread::available_parallelism().map_or(1, |threads| threads.get() as u64);
-    let [seed, count, threads] =
-        arguments::numbers([("--seed", 1), ("--count", 0), ("--threads", processors)])?;
+    let [seed, count, threads, large] = arguments::numbers([
+        ("--seed", 1),
+        ("--count", 0),
+        ("--threads", processors),
+        ("--large", 0),
+    ])?;
+    let sheets = match large {
+        0 => Sheets::Mixed,
+        _ => Sheets::Large,
+    };
 
     (threads > 0).then_some(Arguments {
         seed,
         count,
         threads,
+        sheets,
     })
 }
 
@@ -73,7 +85,12 @@ fn compare_all(arguments: &Arguments) -> Report {
 
     thread::scope(|scope| {
         let workers: Vec<_> = (0..arguments.threads)
-            .map(|_| scope.spawn(|| compare_shares(arguments, &next)))
+            .map(|_| {
+                thread::Builder::new()
+                    .stack_size(STACK)
+                    .spawn_scoped(scope, || compare_shares(arguments, &next))
+                    .expect("a thread can be started")
+            })
             .collect();
 
         for worker in workers {
@@ -96,7 +113,7 @@ fn compare_shares(arguments: &Arguments, next: &AtomicU64) -> Report {
         }
 
         for number in first..arguments.count.min(first + SHARE) {
-            report.compare_number(arguments.seed, number);
+            report.compare_number(arguments.sheets, arguments.seed, number);
         }
     }
 }

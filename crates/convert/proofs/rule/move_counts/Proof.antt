@@ -4,10 +4,11 @@ use mathlib.Core.List.{[], _∷_}
 use native.Mathlib.Omega.{arith}
 use borrow.Author.Needs.{needs}
 use Rattle.definition.specs.Field.{Layout, got, sheetBits}
-use Rattle.definition.specs.Sheet.{limits1, counts}
+use Rattle.definition.specs.Sheet.{mostItems, sheetLimits, counts}
 use Rattle.definition.proofs.Faithful.{clash}
 use Rattle.definition.proofs.Lengths.{counts-low}
 use Rattle.forms.specs.Form.{asForm}
+use Rattle.forms.proofs.Numbers.{items-wide}
 use Rattle.rule_writer.specs.Rows.{countsOf}
 use Rattle.item_writer.proofs.Chain.{room-as, wrote-as}
 use Rattle.sheet.proofs.RuleEnds.{took-counts, stopped-counts}
@@ -17,7 +18,7 @@ use Rattle.convert.proofs.rule.move_counts.Tie as tie
 
 -- the counts that were read
 read : (c : tie.After-known-told) → let entry = c .before .before .before .before .before .before in let v = c .before .counts .given .0 in
-    (counts (asForm (entry .args .form)) limits1) .read (sheetBits (entry .args .sheet .now)) (entry .args .at)
+    (counts (asForm (entry .args .form)) sheetLimits) .read (sheetBits (entry .args .sheet .now)) (entry .args .at)
     ≡ got (v .0, (v .1 .0, (v .1 .1 .0, (v .1 .1 .1 .0, v .1 .1 .1 .1 .0)))) (v .1 .1 .1 .1 .1 .0)
 read c = took-counts _ _ _ _ _ _ _ (c .before .before .before .counts-at .ensures) (c .before .counts .given .1)
 
@@ -36,15 +37,16 @@ put-counts-requires c κs =
     let entry = told .before .before .before .before .before .before in
     let given = entry .pre .0 in
     let few = counts-low _ _ _ _ _ (read told) in
+    let wide = items-wide (entry .args .to) in
     let counted = same c ∙ read-once _ (given .0) _ _ (read told) (given .2) in (
       (
         omega arith,
-        row-few _ _ _ _ (omega (arith, c .before .before .before .before .before .u64-to-u16 .ensures, few .0))
-            (omega (arith, c .before .before .before .before .u64-to-u162 .ensures, few .1)) (omega (arith, c .before .before .before .u64-to-u163 .ensures, few .2))
-            (omega (arith, c .before .before .u64-to-u164 .ensures, few .3)),
+        row-few (mostItems (asForm (entry .args .to))) _ _ _ _ (omega (arith, c .before .before .before .before .before .u64-to-u16 .ensures, few .0, wide))
+            (omega (arith, c .before .before .before .before .u64-to-u162 .ensures, few .1, wide)) (omega (arith, c .before .before .before .u64-to-u163 .ensures, few .2, wide))
+            (omega (arith, c .before .before .u64-to-u164 .ensures, few .3, wide)),
         omega (arith, few .4),
       ),
-      room-as (sym (ap (counts (asForm (entry .args .to)) limits1 .write) counted)) (given .3),
+      room-as (sym (ap (counts (asForm (entry .args .to)) sheetLimits .write) counted)) (given .3),
     )
 
 returns : tie.Need-returns
@@ -53,7 +55,7 @@ returns c =
     let row = put .before in
     let told = row .before .before .before .before .before .before in
     let a = told .before .before .before .before .before .before .args in
-    λ n next e. wrote-as (sym (ap (counts (asForm (a .to)) limits1 .write) (same row ∙ read-once _ n _ next (read told) e))) (put .put-counts .ensures)
+    λ n next e. wrote-as (sym (ap (counts (asForm (a .to)) sheetLimits .write) (same row ∙ read-once _ n _ next (read told) e))) (put .put-counts .ensures)
 
 pub move-counts-spec : {M : Type 1} → statement M
 move-counts-spec =

@@ -13,7 +13,8 @@ use Rattle.forms.proofs.Numbers.{narrow}
 use Rattle.sheet.specs.Begin.{ruleReadAt}
 use Rattle.item_writer.specs.Written.{Wrote}
 use Rattle.item_writer.proofs.Chain.{wrote-then, room-rest, room-first, room-as, wrote-as}
-use Rattle.convert.proofs.Parts.{bodyBits, rule-split, counts-there, body-there, body-size, reaches}
+use Rattle.sheet.proofs.RuleBits.{bodyBits, rule-split}
+use Rattle.convert.proofs.Parts.{counts-there, body-there, body-size, reaches}
 use Rattle.convert.proofs.rule.move_rule.Statement.{statement}
 use Rattle.convert.proofs.rule.move_rule.Tie as tie
 

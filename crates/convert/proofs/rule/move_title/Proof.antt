@@ -14,7 +14,8 @@ use Rattle.forms.proofs.Numbers.{narrow}
 use Rattle.sheet.specs.Begin.{ruleReadAt}
 use Rattle.item_writer.specs.Written.{Wrote}
 use Rattle.item_writer.proofs.Chain.{wrote-then, room-rest, room-first, room-as, wrote-as}
-use Rattle.convert.proofs.Parts.{kindBits, kinds-length, title-split, kinds-there, comment-there, reaches}
+use Rattle.sheet.proofs.RuleBits.{kindBits, kinds-length, title-split}
+use Rattle.convert.proofs.Parts.{kinds-there, comment-there, reaches}
 use Rattle.convert.proofs.rule.move_title.Statement.{statement}
 use Rattle.convert.proofs.rule.move_title.Tie as tie
 

@@ -3,9 +3,10 @@ use mathlib.Core.Path.{refl}
 use Prim.Native.Nat.{_≤_}
 use native.Mathlib.Omega.{arith}
 use borrow.Author.Needs.{needs}
+use Rattle.forms.specs.Form.{asForm}
 use Rattle.forms.proofs.Numbers.{count-fits}
 use Rattle.item_writer.proofs.Chain.{wrote-then, room-first, room-rest, room-as, wrote-as}
-use Rattle.rule_writer.proofs.Items.{counts-bits}
+use Rattle.rule_writer.proofs.Items.{sort-fits, counts-bits}
 use Rattle.rule_writer.proofs.head.put_counts.Statement.{statement}
 use Rattle.rule_writer.proofs.head.put_counts.Tie as tie
 
@@ -17,14 +18,13 @@ put-three-requires c κs =
     let entry = width .before .before .before in
     let args = entry .args in
     let pre = entry .pre in
-    let few = pre .0 .1 in
     let narrow : width .item-count-width .result ≤ 32 = omega (arith, width .item-count-width .ensures .1) in
-    let fits = count-fits (args .form) _ in
+    let fits = sort-fits (asForm (args .form)) (args .item-counts .now) (pre .0 .1) _ in
     let same = width .item-count-width .ensures .0 in (
       (
-        (narrow, fits _ same (omega (arith, cast .u16-to-u64 .ensures .0, few 0))),
-        (narrow, fits _ same (omega (arith, cast2 .u16-to-u642 .ensures .0, few 1))),
-        (narrow, fits _ same (omega (arith, c .u16-to-u643 .ensures .0, few 2))),
+        (narrow, fits _ 0 same (omega arith) (cast .u16-to-u64 .ensures .0)),
+        (narrow, fits _ 1 same (omega arith) (cast2 .u16-to-u642 .ensures .0)),
+        (narrow, fits _ 2 same (omega arith) (c .u16-to-u643 .ensures .0)),
       ),
       room-first _ _
           (room-as (counts-bits _ (args .item-counts .now) _ _ _ _ (args .spans) _ (cast .u16-to-u64 .ensures .0) (cast2 .u16-to-u642 .ensures .0) (c .u16-to-u643 .ensures .0) refl (width .item-count-width .ensures .0)) (pre .1)),
@@ -43,7 +43,7 @@ put-requires c κs =
     let whole = room-as
     (counts-bits _ (args .item-counts .now) _ _ _ _ (args .spans) _ (cast .u16-to-u64 .ensures .0) (cast2 .u16-to-u642 .ensures .0) (cast3 .u16-to-u643 .ensures .0) (c .u16-to-u644 .ensures .0) (width .item-count-width .ensures .0))
     (pre .1) in
-    ((omega (arith, width .item-count-width .ensures .1), count-fits (args .form) _ _ (width .item-count-width .ensures .0) (omega (arith, c .u16-to-u644 .ensures .0, pre .0 .1 3))), room-first _ _ (room-rest (put-three .put-three .ensures) _ whole))
+    ((omega (arith, width .item-count-width .ensures .1), sort-fits (asForm (args .form)) (args .item-counts .now) (pre .0 .1) _ _ 3 (width .item-count-width .ensures .0) (omega arith) (c .u16-to-u644 .ensures .0)), room-first _ _ (room-rest (put-three .put-three .ensures) _ whole))
 
 put-requires-2 : tie.Need-put-requires-2
 put-requires-2 c κs =

@@ -16,7 +16,7 @@ put-title-requires c κs =
       pre .0,
       room-first _ _
           (room-as
-          (rule-parts _ (a .operator) (a .state) (a .ends .now) (a .item-counts .now) (a .spans .now) (a .first) (a .span-count) (pre .1 .0 .inside) (pre .1 .1 .0 .0))
+          (rule-parts _ (a .operator) (a .state) (a .ends .now) (a .item-counts .now) (a .spans .now) (a .first) (a .span-count) (pre .1 .0 .0 .inside) (pre .1 .1 .0 .0))
           (pre .1 .1 .1)),
     )
 
@@ -27,9 +27,9 @@ put-counts-requires c κs =
     let a = entry .args in
     let pre = entry .pre in
     let whole = room-as
-    (rule-parts _ (a .operator) (a .state) (a .ends .now) (a .item-counts .now) (a .spans .now) (a .first) (a .span-count) (pre .1 .0 .inside) (pre .1 .1 .0 .0))
+    (rule-parts _ (a .operator) (a .state) (a .ends .now) (a .item-counts .now) (a .spans .now) (a .first) (a .span-count) (pre .1 .0 .0 .inside) (pre .1 .1 .0 .0))
     (pre .1 .1 .1) in
-    ((pre .1 .0 .four, pre .1 .0 .few, pre .1 .1 .0 .1), room-first _ _ (room-rest (put-title .put-title .ensures) _ whole))
+    ((pre .1 .0 .0 .four, pre .1 .0 .1, pre .1 .1 .0 .1), room-first _ _ (room-rest (put-title .put-title .ensures) _ whole))
 
 put-rows-requires : tie.Need-put-rows-requires
 unfolding rowPlace
@@ -40,9 +40,9 @@ put-rows-requires c κs =
     let a = entry .args in
     let pre = entry .pre in
     let whole = room-as
-    (rule-parts _ (a .operator) (a .state) (a .ends .now) (a .item-counts .now) (a .spans .now) (a .first) (a .span-count) (pre .1 .0 .inside) (pre .1 .1 .0 .0))
+    (rule-parts _ (a .operator) (a .state) (a .ends .now) (a .item-counts .now) (a .spans .now) (a .first) (a .span-count) (pre .1 .0 .0 .inside) (pre .1 .1 .0 .0))
     (pre .1 .1 .1) in (
-      pre .1 .0,
+      pre .1 .0 .0,
       ((omega arith, refl), room-first _ _ (room-rest (put-counts .put-counts .ensures) _ (room-rest (put-title .put-title .ensures) _ whole))),
     )
 
@@ -55,7 +55,7 @@ put-spans-requires c κs =
     let a = entry .args in
     let pre = entry .pre in
     let whole = room-as
-    (rule-parts _ (a .operator) (a .state) (a .ends .now) (a .item-counts .now) (a .spans .now) (a .first) (a .span-count) (pre .1 .0 .inside) (pre .1 .1 .0 .0))
+    (rule-parts _ (a .operator) (a .state) (a .ends .now) (a .item-counts .now) (a .spans .now) (a .first) (a .span-count) (pre .1 .0 .0 .inside) (pre .1 .1 .0 .0))
     (pre .1 .1 .1) in (
       pre .1 .1 .0 .0,
       (
@@ -74,7 +74,7 @@ returns c =
     let a = entry .args in
     let pre = entry .pre in
     wrote-as
-    (rule-parts _ (a .operator) (a .state) (a .ends .now) (a .item-counts .now) (a .spans .now) (a .first) (a .span-count) (pre .1 .0 .inside) (pre .1 .1 .0 .0))
+    (rule-parts _ (a .operator) (a .state) (a .ends .now) (a .item-counts .now) (a .spans .now) (a .first) (a .span-count) (pre .1 .0 .0 .inside) (pre .1 .1 .0 .0))
     (wrote-then (put-title .put-title .ensures)
     (wrote-then (put-counts .put-counts .ensures) (wrote-then (put-rows .put-rows .ensures) (put-spans .put-spans .ensures))))
 

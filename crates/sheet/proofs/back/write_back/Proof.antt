@@ -14,8 +14,8 @@ returns : tie.Need-returns
 returns c =
     let copy-back = c .before .before in
     let checked = copy-back .before .before .before in
-    let at-check = checked .before .before in
-    let known = at-check .before .before .before in
+    let at-check = checked .before .before .before .before in
+    let known = at-check .before .before .before .before in
     let entry = known .before in
     let args = entry .args in
     let bytes = known-bytes (args .sheet .now) (λ j. omega (arith, known .shared-slice-known .given j)) in
@@ -27,8 +27,8 @@ returns c =
 
 returns-2 : tie.Need-returns-2
 returns-2 c =
-    let at-check = c .before .before .before in
-    let entry = at-check .before .before .before .before in
+    let at-check = c .before .before .before .before .before in
+    let entry = at-check .before .before .before .before .before in
     let args = entry .args in
     let check = sym (at-check .check .ensures .0) ∙ ap asChecked (c .before .checked2 .given .1) in
     let same = back-refused _ (length (args .out .now)) (args .sheet .now) _ _ check in
@@ -37,4 +37,5 @@ returns-2 c =
 pub write-back-spec : {M : Type 1} → statement M
 write-back-spec =
     tie.close
-    (tie.spec (λ c κs. search needs) (λ c. search needs) (λ c κs. search needs) (λ c. search needs) (λ c. search needs) returns returns-2)
+    (tie.spec (λ c κs. c .before .before .before .before .pre) (λ c. search needs) (λ c κs. search needs) (λ c. search needs) (λ c. search needs)
+    (λ c. search needs) returns (λ c. search needs) returns-2)

@@ -16,10 +16,12 @@ use Rattle.sheet.proofs.check.check_rules.Tie as tie
 
 ended-at-requires : tie.Need-ended-at-requires
 ended-at-requires c κs =
-    let start = c .before .before .before .before .before .before in
+    let at-rules = c .before .before .before .before .before in
+    let known = at-rules .before .before .before in
+    let start = known .before in
     let s = start .args .sheet .now in
-    let bytes = known-bytes s (λ j. omega (arith, c .before .before .before .before .before .shared-slice-known .given j)) in
-    let rows = went _ _ (c .before .before .before .rules-end .ensures .0) (c .before .step .given .1) in
+    let bytes = known-bytes s (λ j. omega (arith, known .shared-slice-known .given j)) in
+    let rows = went _ _ (at-rules .rules-end .ensures .0) (c .before .step .given .1) in
     let within : c .before .step .given .0 .0 ≤ length (sheetBits s) = rules-within _ _ (sheet-bits s bytes) _ _ _ (omega (arith, length-sheetBits s)) rows in
     let short : c .before .step .given .0 .0 ≤ start .args .start + start .args .count * 3016 = rules-short _ (narrow (start .args .form)) _ _ _ _ rows in
     (omega (arith, length-sheetBits s, within), omega (arith, short))
@@ -28,11 +30,14 @@ pub check-rules-spec : {M : Type 1} → statement M
 check-rules-spec =
     tie.close
     (tie.spec (λ c κs. search needs) (λ c. search needs) ended-at-requires (λ c κs. search needs) (λ c. search needs)
-    (λ c. (
-      c .of .ensures ∙ ap (andThen (λ u e. got _ e)) (c .before .ended-at .ensures)
-          ∙ sym (rules-go _ _ _ _ _ (went _ _ (c .before .before .before .before .before .rules-end .ensures .0) (c .before .before .before .step .given .1))),
-      c .before .before .before .before .before .rules-end .ensures .1,
-    ))
+    (λ c. search needs)
     (λ c.
-    let rules-end = c .before .before .before in
+    let rules-end = c .before .before .before .before .before .before .before in (
+      c .of .ensures ∙ ap (andThen (λ u e. got _ e)) (c .before .ended-at .ensures)
+          ∙ sym (rules-go _ _ _ _ _ (went _ _ (rules-end .rules-end .ensures .0) (c .before .before .before .step .given .1))),
+      rules-end .rules-end .ensures .1,
+    ))
+    (λ c. search needs)
+    (λ c.
+    let rules-end = c .before .before .before .before .before in
     (sym (rules-stop _ _ _ _ _ _ (halted _ _ _ (rules-end .rules-end .ensures .0) (c .before .step2 .given .1))), rules-end .rules-end .ensures .1)))
