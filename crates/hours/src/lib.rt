@@ -2,7 +2,7 @@
 // a `requires`: every form's number, byte string, date and buffer gets an answer. 02, M-106: a number that names no form is refused by 2 with place 0,
 // before all else. Rests on the entries in a form that is known.
 pub mod export;
-pub mod in_form;
+mod in_form;
 
 use answers::Answer;
 use answers::Folded;
