@@ -41,7 +41,7 @@ expect 'the C example of a line' "$line" "$programs/line"
 gcc -std=c11 "${strict[@]}" bindings/c/convert.c "$archive" -o "$programs/convert"
 expect 'the C example of a conversion' "$moved" "$programs/convert"
 
-for test in test large; do
+for test in test large lists; do
     gcc -std=c11 "${strict[@]}" "bindings/c/$test.c" "$archive" -o "$programs/$test"
     "$programs/$test"
     g++ -std=c++11 "${strict[@]}" -x c++ "bindings/c/$test.c" -x none "$archive" -o "$programs/$test++"

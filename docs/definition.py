@@ -26,6 +26,7 @@ TITLES = {  # the chapters in their order: no file stands before one that it res
     "definition/specs/Range": "From items to ranges",
     "definition/specs/Stop": "Rules that stop the fold",
     "definition/specs/Point": "From rules to lists at points",
+    "definition/specs/Lists": "Lists too long or too many",
     "definition/specs/Overlap": "Days typed twice",
     "definition/specs/Day": "From a list to a day",
     "definition/specs/Group": "From points to rules",
@@ -45,6 +46,7 @@ TITLES = {  # the chapters in their order: no file stands before one that it res
     "definition/specs/WorkedReasons": "Worked reasons",
     "definition/specs/WorkedForms": "Worked forms",
     "definition/specs/WorkedCounts": "Worked counts",
+    "definition/specs/WorkedLists": "Worked lists",
     "definition/specs/OverBoxes": "What computes: no promise speaks of it",
 }
 CRATES = ("definition", "grid")
@@ -110,6 +112,7 @@ No definition uses a name of a later chapter. [grid's Group] and [grid's Cut] ho
 | `map f xs`, `flatMap f xs`, `sum h xs` | f of each; f of each, a list, joined one behind the other; the sum of h of each |
 | `every t xs`, `anyOf t xs`, `count t xs`, `keep t xs` | do all pass the test t; does one at least; how many do; those that do, in order |
 | `anyPair t xs`, `firstIndex t xs` | does one element pass the test t with a later one; `some` index of the first that passes a test, from 0, or `none` |
+| `distinct same xs`, `filled xs` | each element once, of those that the test `same` finds equal the last; has the list an element |
 | `from s n`, `replicate n x` | the n numbers from s on; n times x |
 | `Option A`, `none`, `some x`, `Option·map f o` | an A or nothing; nothing; the value x; f of the value, if there is one |
 | `onlyIf t x`, `firstOf h xs` | `some x` if t is true, else `none`; the first `some` among h of each, else `none` |

@@ -18,7 +18,8 @@
  * - The stack must have HOURS_STACK bytes left.
  *
  * A call that was made before there were two forms gets HOURS_FORM_1 in front. A sheet that was accepted by the limits of before, 64 rules
- * and 1,024 boxes, is answered as it was, with the same numbers and bytes; now a sheet may have 256 rules, and its fold 4,096 boxes.
+ * and 1,024 boxes, is answered as it was, with the same numbers and bytes, unless HOURS_MANY_LISTS is now given; now a sheet may have 256
+ * rules, and its fold 4,096 boxes.
  */
 #ifndef HOURS_H
 #define HOURS_H
@@ -39,8 +40,8 @@ enum hours_form {
 };
 
 /* The code of an answer: done, or the first reason to refuse: first 2 where `form` is neither 1 nor 2, then 1, 2 and 4 as met from the
- * first bit on, then 3, 8, 11, 5, 6, 9, 10, 12, 13, 7. The place that goes with it stands in brackets; bits and rules are counted from 0,
- * bits from the most significant one on. */
+ * first bit on, then 3, 8, 11, 5, then 6 and 14 rule by rule, 6 first at the same rule, then 9, 10, 12, 13, 7. The place that goes with it
+ * stands in brackets; bits and rules are counted from 0, bits from the most significant one on. */
 enum hours_code {
     HOURS_DONE = 0,          /* done [0] */
     HOURS_PAST_END = 1,      /* a field runs past the end [its first bit] */
@@ -57,8 +58,10 @@ enum hours_code {
     HOURS_OVERLAP = 11,      /* fold and lookup only: two ranges of one day selector of a drained rule share a value, so that a day is
                                 named twice; ranges that only touch are fine [the first such rule's index] */
     HOURS_LONG_COMMENT = 12, /* convert from form 2 only: a comment is above 65,535 [the first such rule's index] */
-    HOURS_PAST_COUNTS = 13   /* fold of form 1 only: the result has more rules or items than form 1 can count, 65,535 rules, those left
+    HOURS_PAST_COUNTS = 13,  /* fold of form 1 only: the result has more rules or items than form 1 can count, 65,535 rules, those left
                                 among them, or 1,023 items of a sort in a rule [0] */
+    HOURS_MANY_LISTS = 14    /* fold and lookup only: after a drained rule more than 512 lists that aren't empty stand at the points, each
+                                counted once; lists differ by the indexes of their rules [that rule's index] */
 };
 
 /* Bytes of stack: more than twice what the deepest call of the bench took (oracle/README.md). That a stack is deep enough is not
@@ -87,7 +90,7 @@ enum hours_why {
 
 /* The numbers of a fold, and how many they are. */
 enum hours_fold_number {
-    HOURS_FOLD_CODE,    /* an hours_code: 0 to 7, 11 or 13 */
+    HOURS_FOLD_CODE,    /* an hours_code: 0 to 7, 11, 13 or 14 */
     HOURS_FOLD_DRAINED, /* rules before the first one that can't be folded exactly */
     HOURS_FOLD_EMITTED, /* rules that these were folded to */
     HOURS_FOLD_LEFT,    /* rules copied as they came, from the first one that can't be folded on */
@@ -99,7 +102,7 @@ enum hours_fold_number {
 
 /* The numbers of a lookup, and how many they are. */
 enum hours_lookup_number {
-    HOURS_LOOKUP_CODE,    /* an hours_code: 0 to 6, 8, 9 or 11 */
+    HOURS_LOOKUP_CODE,    /* an hours_code: 0 to 6, 8, 9, 11 or 14 */
     HOURS_LOOKUP_KIND,    /* an hours_kind */
     HOURS_LOOKUP_COMMENT, /* the comment's number, 0 for none */
     HOURS_LOOKUP_PLACE,   /* the code's place */

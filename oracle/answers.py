@@ -1,38 +1,40 @@
 """The stored answers: `python3 oracle/answers.py --seed N` writes crates/replay/data/{fold,lookup,back,line,convert,read}.txt.
 
-All answers are the reference's. Folds inside the Rust's domain are held against the built oracle while the lists are
+All answers are the reference's. Folds inside the Rust's domain are held against the built oracle while the files are
 made. A case is a line, its fields separated by a space, bytes in upper-case hex and `-` for none; lines that start with
 `#` are remarks. Sheets of form 1 come first, then those of form 2, then those that are no sheets of the form said and forms that
-are none. Rests on `reference`, on `cases`, `line_cases`, `overlap_cases`, `why_cases`, `convert_cases` and `large_cases` for the
-sheets and on `compare` for the oracle.
+are none. Rests on `reference`, on `cases`, `line_cases`, `overlap_cases`, `why_cases`, `convert_cases`, `large_cases` and
+`list_cases` for the sheets and on `remarks` for what is told of a file in front, where the oracle is asked.
 """
 
 from __future__ import annotations
 
 import argparse
-from collections import Counter
 from itertools import islice
-from operator import itemgetter
 from pathlib import Path
 from random import Random
 from typing import Callable, Iterable
 
+import large_cases
+import list_cases
 from cases import (
     EVERY_SORT, FEWER, Given, damaged, each_refused_sort, generated, is_small, largest, named_dates, named_sheets,
-    new_year_dates, other_forms, refused_sort, refused_sorts, sample_date, sheets_of_lists, twice_refused,
+    new_year_dates, other_forms, refused_sort, sample_date, sheets_of_lists, twice_refused,
 )
-from compare import fold_line, oracle_lines, verdict
 from convert_cases import long_comments, moved_here, refused_before_12
-from large_cases import DATES, fold_rooms, for_other_entries, large_sheets
+from large_cases import fold_rooms, large_sheets
 from line_cases import each_reason, flipped_lines, long_line, named_lines, with_a_line, without_a_line
+from list_cases import generated_lists, is_refused_by_lists, is_short_fold, list_sheets
 from overlap_cases import each_overlap, refused_by_overlaps_too
 from reference.convert import convert
 from reference.fold import Folded, Written, fold, write_back
 from reference.large import check_large
-from reference.line import NO_LINE, line, reasons_against
+from reference.line import line
 from reference.lookup import lookup
+from reference.many_lists import check_many_lists
 from reference.sheet import FORMS, Rule, read_sheet, write_sheet
 from reference.worked import EXAMPLES, FOLDS, NUMBERED_WEEKS, OVERLAPS, ROOM, check_worked
+from remarks import counts_remark, held_against_oracle, reasons_remark, sheets_in, sorts_remarks
 from why_cases import each_why
 
 DATA = Path(__file__).parent.parent / "crates" / "replay" / "data"
@@ -96,8 +98,12 @@ def some(sheets: Iterable[Given], wanted: int, form: int) -> Iterable[Given]:
     return islice(sheets, wanted // FEWER[form])
 
 
+def for_other_entries(form: int) -> dict[str, bytes]:
+    return large_cases.for_other_entries(form) | list_cases.for_other_entries(form)
+
+
 def large_lines(entry: Entry, form: int) -> list[str]:
-    """Large sheets in a buffer that is exactly full, and in one that is a byte short."""
+    """Sheets that are large or have many lists in a buffer that is exactly full, and in one that is a byte short."""
     lines = []
     for name, given in named_in_form(form, for_other_entries(form)):
         needed = entry(*given, ROOM)[0].bytes
@@ -128,10 +134,13 @@ def fold_lines(form: int, seed: str) -> list[str]:
     for name, sheets in (each_overlap() | each_why()).items():
         lines += [f"# {name}" + ", some of them" * (FEWER[form] > 1)]
         lines += [written_case(fold, given, ROOM) for given in in_form(form, sheets[:: FEWER[form]])]
-    for name, given in named_in_form(form, large_sheets(form)):
+    for name, given in named_in_form(form, large_sheets(form), list_sheets(form)):
         needed = fold(*given, ROOM)[0].bytes
         rooms = dict.fromkeys((*fold_rooms(name), needed, max(needed - 1, 0)))
         lines += [f"# {name}", *(written_case(fold, given, room) for room in rooms)]
+    for name, is_kept in {"folded": is_short_fold, "refused by 6 and 14": is_refused_by_lists}.items():
+        lines += [f"# generated, of many lists, {name}"]
+        lines += [written_case(fold, given, ROOM) for given in some(generated_lists(form, seed, is_kept), 16, form)]
     return lines
 
 
@@ -155,8 +164,9 @@ def lookup_lines(form: int, seed: str) -> list[str]:
     lines += [lookup_case(given, date) for given in small for date in telling_dates(given, random)]
     anyhow = generated(form, f"{seed}/any lookup", False)
     lines += [lookup_case(given, sample_date(random)) for given in some(anyhow, 500, form)]
-    for name, given in named_in_form(form, for_other_entries(form)):
-        lines += [f"# {name}", *(lookup_case(given, date) for date in DATES)]
+    for cases, sheets in ((large_cases, large_cases.for_other_entries(form)), (list_cases, list_cases.for_lookups(form))):
+        for name, given in named_in_form(form, sheets):
+            lines += [f"# {name}", *(lookup_case(given, date) for date in cases.DATES)]
     return lines
 
 
@@ -250,60 +260,6 @@ def read_anyhow(given: Given) -> list[str]:
 # The files
 
 
-def sheets_in(lines: Iterable[str]) -> list[Given]:
-    given = (line.split()[:2] for line in lines if not line.startswith("#"))
-    return list(dict.fromkeys(Given(int(form), bytes.fromhex("" if sheet == "-" else sheet)) for form, sheet in given))
-
-
-def in_forms(lines: Iterable[str]) -> dict[int, list[Given]]:
-    """The sheets that are given in each form, but not those in none."""
-    return {form: [given for given in sheets_in(lines) if given.form == form] for form in FORMS}
-
-
-def held_against_oracle(lines: list[str]) -> str:
-    """A remark on how the folds of the lines' sheets came out beside the oracle; an assertion if one differs."""
-    counts: Counter = Counter()
-    for form, sheets in in_forms(lines).items():
-        bytes_given = [given.sheet for given in sheets]
-        for sheet, theirs in zip(bytes_given, oracle_lines(form, bytes_given, []), strict=True):
-            name, difference = verdict(sheet, fold_line(form, sheet), theirs)
-            assert difference is None, difference
-            counts[name] += 1
-    told = ", ".join(f"{number} {name}" for name, number in sorted(counts.items()))
-    return f"# of {counts.total()} different sheets of both forms, beside the Rust oracle: {told}"
-
-
-def counts_remark(lines: list[str], layout: str, field: str) -> str:
-    column = layout.split().index(field)
-    counts = Counter(int(line.split()[column]) for line in lines if not line.startswith("#"))
-    told = ", ".join(f"{value}: {number}" for value, number in sorted(counts.items()))
-    return f"# answers by {field.lower()}: {told}"
-
-
-def sorts_remarks(lines: list[str]) -> list[str]:
-    """For each code of reading, at which sorts of field or bit it is given here; in neither form may one be missing."""
-    remarks = []
-    for form, sheets in in_forms(lines).items():
-        counts = Counter((code, sort) for code, _, sort in map(refused_sort, sheets) if code)
-        wanted = refused_sorts(form)
-        assert set(wanted) == set(counts), set(wanted) ^ set(counts)
-        told: dict[int, list[str]] = {}
-        for code, sort in sorted(wanted, key=itemgetter(0)):
-            told.setdefault(code, []).append(f"{sort} ({counts[code, sort]})")
-        remarks += [f"# form {form}, code {code} at: " + ", ".join(sorts) for code, sorts in told.items()]
-    return remarks
-
-
-def reasons_remark(lines: list[str]) -> str:
-    """How many sheets have each reason against a line at the rule that 10 names."""
-    counts: Counter = Counter()
-    for given in sheets_in(lines):
-        answer, _ = line(*given, ROOM)
-        if answer.code == NO_LINE:
-            counts.update(reasons_against(read_sheet(*given)[0][answer.place], is_first=answer.place == 0))
-    return f"# code {NO_LINE} for: " + ", ".join(f"{reason} ({number})" for reason, number in sorted(counts.items()))
-
-
 def write_list(name: str, seed: int, layout: str, remarks: list[str], lines: list[str]) -> None:
     head = [f"# made by: python3 oracle/answers.py --seed {seed}", f"# {layout}", *remarks]
     (DATA / name).write_text("\n".join(head + lines) + "\n")
@@ -328,6 +284,7 @@ def main() -> None:
     seed = parser.parse_args().seed
     check_worked()
     check_large()
+    check_many_lists()
     DATA.mkdir(parents=True, exist_ok=True)
     for name, (layout, lines_in, anyhow) in LISTS.items():
         lines = [line for form in FORMS for line in lines_in(form, SEEDS[form].format(seed))]

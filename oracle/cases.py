@@ -12,9 +12,10 @@ from random import Random
 from typing import Callable, Iterator, NamedTuple
 
 from generate import MANY_RULES, fields_met, flip, overwrite, sheet_number, stop_by_span
-from reference.build import ITEM_OF_ENDS, ITEM_OF_SORT, boxes_rule, fixed, hours, many, plain_rule, weekdays
+from reference.build import ITEM_OF_SORT, boxes_rule, fixed, hours, interval, many, plain_rule, weekdays
 from reference.fold import fold
-from reference.points import DIMENSIONS, LIST_LIMIT, Dimension, cuts_of, drained_of, shape_of
+from reference.lists import LIST_LIMIT
+from reference.points import DIMENSIONS, Dimension, cuts_of, drained_of, shape_of
 from reference.sheet import (
     ADDITIONAL, DAY_ITEMS, EVENT, EVENT_OFFSET, FIXED_MINUTES, ITEM_FIELDS, ITEM_LIMIT, KIND, NORMAL, NO_REPEATS, OPEN_END,
     OPERATOR, PADDING, PAST_THE_END, REPEATS, REPEATS_FLAG, TIME_TAG, DatedRange, Field, Holiday, Months,
@@ -135,12 +136,7 @@ def boxes_all_different(comments: bool) -> list[Rule]:
 
 def intervals_with_bit(dimension: Dimension, bits: int, bit: int) -> Iterator[tuple]:
     """Single values from the lowest on, and the rest as the last interval: those whose number has the bit."""
-    last = 2**bits - 1
-    for interval in range(last + 1):
-        start = dimension.lowest + interval
-        end = dimension.upper - 1 if interval == last else start
-        if interval >> bit & 1:
-            yield ITEM_OF_ENDS[dimension.items](start, end)
+    return (interval(dimension, 2**bits, number) for number in range(2**bits) if number >> bit & 1)
 
 
 def twice_refused(form: int) -> dict[str, bytes]:

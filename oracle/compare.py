@@ -1,12 +1,13 @@
-"""The reference held against the Rust oracle: `compare.py --seed N --count N [--form N] [--any|--days|--halves] [--large]`.
+"""The reference held against the Rust oracle: `compare.py --seed N --count N [--form N] [--any|--days|--halves] [--large|--lists]`.
 
 Generated sheets go to both; counts are printed and, where the two differ, the smallest inputs. Exit status 1 on any
 difference. Why a fold stopped isn't compared: the Rust tells no reason. Nor is a sheet that code 11 refuses, for ranges that
 overlap: the Rust folds it. The sheets stay inside the Rust's domain, but with `--any`. `--days` compares days of lists in place
 of folds. `--halves` takes drained rules alone, and the Rust, whose years and weeks don't wrap, gets those that do as their two
 halves. With `--form 2` both read and write sheets of form 2: to the Rust a comment is a text, whatever its length. With `--large`
-the sheets have many rules and boxes; there code 13 is compared too, by the counts of the Rust's own result. Rests on the built
-oracle (oracle/target/release/oracle), on `generate` and on `reference`.
+the sheets have many rules and boxes; there code 13 is compared too, by the counts of the Rust's own result. With `--lists` they
+have many lists; there codes 6 and 14 are compared too, by the Rust's own lists after each rule. Rests on the built oracle
+(oracle/target/release/oracle), on `generate` and on `reference`.
 """
 
 from __future__ import annotations
@@ -21,18 +22,23 @@ from pathlib import Path
 from random import Random
 from typing import Iterator, NamedTuple
 
-from generate import sheets
+from generate import add_sorts, sheets
 from reference.check import check_boxes_against_points, check_other_form
 from reference.counts import MOST_ITEMS, MOST_RULES, PAST_COUNTS
 from reference.day import day_of, rules_of_day
 from reference.fold import AMPLE_ROOM, fold
-from reference.points import DIMENSIONS, drained_of, ranges_of
-from reference.sheet import FORMS, PADDING, PAST_THE_END, UNLAWFUL, Refusal, Week, Year, read_sheet, write_sheet
+from reference.lists import DIFFERENT_LIMIT, LIST_LIMIT, LIST_TOO_LONG, TOO_MANY_LISTS
+from reference.overlap import RANGES_SHARE
+from reference.points import DIMENSIONS, TOO_MANY_BOXES, drained_of, ranges_of
+from reference.sheet import (
+    FORMS, PADDING, PAST_ITS_LIMIT, PAST_THE_END, UNLAWFUL, Refusal, Week, Year, read_sheet, write_sheet,
+)
 
 ORACLE = Path(__file__).parent / "target" / "release" / "oracle"
 WORKERS, CHUNK, SHOWN = 2, 500, 5
 POINT_CHECK_EVERY = 50  # the literal check costs several folds
 UNREADABLE = "outside unreadable"
+BEFORE_LISTS = (PAST_THE_END, UNLAWFUL, PADDING, PAST_ITS_LIMIT, RANGES_SHARE, TOO_MANY_BOXES)  # refused before any list is judged
 _, WEEKS, _, YEARS = DIMENSIONS
 
 
@@ -101,12 +107,42 @@ def is_past_counts(theirs: str) -> bool:
     return False
 
 
-def verdict(sheet: bytes, ours: str, theirs: str) -> tuple[str, Difference | None]:
+def code_of(line: str) -> int:
+    """The code by which the reference refuses, 0 where it folds."""
+    return int(line.split()[1]) if line.startswith("refused") else 0
+
+
+def refused_by_lists(lists: str) -> str:
+    """What the oracle's lists after each rule ask for: the first refusal by 6 or 14, 6 first at the same rule, or none."""
+    for index, standing in enumerate(filter(None, lists.split(","))):
+        different, longest = map(int, standing.split())
+        if longest > LIST_LIMIT:
+            return f"refused {LIST_TOO_LONG} {index}"
+        if different > DIFFERENT_LIMIT:
+            return f"refused {TOO_MANY_LISTS} {index}"
+    return ""
+
+
+def judged_by_lists(sheet: bytes, ours: str, lists: str) -> tuple[str, Difference | None] | None:
+    """What the sheet counts as where 6 or 14 is given or wanted, and the difference, if there is one."""
+    code = code_of(ours)
+    if code in BEFORE_LISTS or lists.startswith("outside"):
+        return None
+    wanted, given = refused_by_lists(lists), ours if code in (LIST_TOO_LONG, TOO_MANY_LISTS) else ""
+    if wanted == given:
+        return (f"refused by the Rust's lists too: code {code}", None) if given else None
+    return "differing by the Rust's lists", Difference(sheet, ours, wanted or "lists that are not refused")
+
+
+def verdict(sheet: bytes, ours: str, theirs: str, lists: str | None = None) -> tuple[str, Difference | None]:
     """What the sheet counts as, and the difference, if there is one."""
+    judged = lists is not None and judged_by_lists(sheet, ours, lists)
+    if judged:
+        return judged
     if ours == f"refused {PAST_COUNTS} 0" and not theirs.startswith("outside"):
         return "past the counts of form 1", None if is_past_counts(theirs) else Difference(sheet, ours, theirs)
     if ours.startswith("refused"):
-        code = int(ours.split()[1])
+        code = code_of(ours)
         answered = code in (PAST_THE_END, UNLAWFUL, PADDING) and not theirs.startswith("outside")
         return f"refused by the reference: code {code}", Difference(sheet, ours, theirs) if answered else None
     if theirs.startswith("outside") and theirs != UNREADABLE:
@@ -116,28 +152,39 @@ def verdict(sheet: bytes, ours: str, theirs: str) -> tuple[str, Difference | Non
     return "compared and differing", Difference(sheet, ours, theirs)
 
 
-def lines_of_both(form: int, seed: int, mode: str, large: bool, numbers: range) -> Iterator[tuple[bytes, str, str]]:
-    """Each sheet, the reference's line and the oracle's."""
-    given = list(sheets(form, seed, numbers, mode in ("folds", "days"), large))
+class Work(NamedTuple):
+    """Which sheets are compared, and how."""
+
+    form: int
+    seed: int
+    mode: str
+    sort: str | None
+
+
+def lines_of_both(work: Work, numbers: range) -> Iterator[tuple[bytes, str, str, str | None]]:
+    """Each sheet, the reference's line and the oracle's, and its lists where sheets of many lists are compared."""
+    form, mode = work.form, work.mode
+    given = list(sheets(form, work.seed, numbers, mode in ("folds", "days"), work.sort))
     theirs = given
     if mode == "halves":
         given = [drained_alone(form, sheet) for sheet in given]
         theirs = [in_halves(form, sheet) for sheet in given]
     line, options = (day_line, ["--days"]) if mode == "days" else (fold_line, [])
-    return zip(given, map(partial(line, form), given), oracle_lines(form, theirs, options), strict=True)
+    lists = oracle_lines(form, theirs, ["--lists"]) if work.sort == "lists" and mode != "days" else [None] * len(given)
+    return zip(given, map(partial(line, form), given), oracle_lines(form, theirs, options), lists, strict=True)
 
 
-def compare_chunk(form: int, seed: int, mode: str, large: bool, numbers: range) -> tuple[Counter, list[Difference]]:
+def compare_chunk(work: Work, numbers: range) -> tuple[Counter, list[Difference]]:
     counts: Counter = Counter()
     differences = []
-    for number, (sheet, ours, theirs) in zip(numbers, lines_of_both(form, seed, mode, large, numbers)):
-        name, difference = verdict(sheet, ours, theirs)
+    for number, (sheet, ours, theirs, lists) in zip(numbers, lines_of_both(work, numbers)):
+        name, difference = verdict(sheet, ours, theirs, lists)
         counts[name] += 1
         if difference:
             differences.append(difference)
-        if mode != "days" and number % POINT_CHECK_EVERY == 0 and not ours.startswith("refused"):
-            check_boxes_against_points(drained_of(read_sheet(form, sheet)[0]), Random(number))
-            check_other_form(form, sheet)
+        if work.mode != "days" and number % POINT_CHECK_EVERY == 0 and not ours.startswith("refused"):
+            check_boxes_against_points(drained_of(read_sheet(work.form, sheet)[0]), Random(number))
+            check_other_form(work.form, sheet)
             counts["checked at points and in the other form too"] += 1
     return counts, differences
 
@@ -162,14 +209,14 @@ def main() -> int:
     modes.add_argument("--days", dest="mode", action="store_const", const="days", help="days of lists in place of folds")
     modes.add_argument("--halves", dest="mode", action="store_const", const="halves", help="ranges that wrap as halves")
     parser.set_defaults(mode="folds")
-    parser.add_argument("--large", action="store_true", help="sheets of many rules and boxes alone")
+    add_sorts(parser)
     arguments = parser.parse_args()
     chunks = [range(start, min(start + CHUNK, arguments.count)) for start in range(0, arguments.count, CHUNK)]
     counts: Counter = Counter()
     differences: list[Difference] = []
     with Pool(WORKERS) as pool:
-        work = partial(compare_chunk, arguments.form, arguments.seed, arguments.mode, arguments.large)
-        for chunk_counts, chunk_differences in pool.imap_unordered(work, chunks):
+        work = Work(arguments.form, arguments.seed, arguments.mode, arguments.sort)
+        for chunk_counts, chunk_differences in pool.imap_unordered(partial(compare_chunk, work), chunks):
             counts += chunk_counts
             differences += chunk_differences
     report(arguments.count, counts, differences)

@@ -1,10 +1,10 @@
-"""A seeded generator of packed sheets: `python3 oracle/generate.py --seed N --count N [--form N] [--inside] [--large]` prints hex
-lines.
+"""A seeded generator of packed sheets: `python3 oracle/generate.py --seed N --count N [--form N] [--inside] [--large|--lists]`
+prints hex lines.
 
 Sheet number i of a seed depends on nothing but the seed, i, the form and the options. Ranges of one selector share values in few
 sheets, and often in rules left. `--inside` stays where the Rust's constructors take the values as they are: year and week
-ranges that rise, and steps that they keep. `--large` makes sheets of many rules and boxes alone. Rests on `stock`, `large`,
-`reference.sheet`, `reference.build` and `reference.overlap`.
+ranges that rise, and steps that they keep. `--large` makes sheets of many rules and boxes alone, `--lists` those of many lists.
+Rests on `stock`, `large`, `many_lists`, `reference.sheet`, `reference.build` and `reference.overlap`.
 """
 
 from __future__ import annotations
@@ -14,6 +14,7 @@ from random import Random
 from typing import Iterator
 
 from large import LARGE
+from many_lists import MANY_LISTS
 from reference.build import ITEM_OF_SORT, boxes_rule, fixed, many
 from reference.overlap import overlaps
 from reference.sheet import (
@@ -207,14 +208,23 @@ DAMAGED = {truncated: 15, flipped: 20, ended_wrong: 8, unlawful: 12, noise: 5}
 ANY = {1: ACCEPTED | DAMAGED, 2: ACCEPTED | DAMAGED | {wrong_head: 5, of_another_form: 5}}
 
 
-def sheet_number(form: int, seed: int | str, number: int, inside: bool, large: bool = False) -> bytes:
+SORTS = {"large": LARGE, "lists": MANY_LISTS}  # of sheets that come where they are asked for alone
+
+
+def sheet_number(form: int, seed: int | str, number: int, inside: bool, sort: str | None = None) -> bytes:
     random = Random(f"{seed}/{number}")
-    recipes = LARGE if large else ACCEPTED if inside else ANY[form]
+    recipes = SORTS[sort] if sort else ACCEPTED if inside else ANY[form]
     return random.choices(tuple(recipes), tuple(recipes.values()))[0](random, inside, form)
 
 
-def sheets(form: int, seed: int | str, numbers: range, inside: bool, large: bool) -> Iterator[bytes]:
-    return (sheet_number(form, seed, number, inside, large) for number in numbers)
+def sheets(form: int, seed: int | str, numbers: range, inside: bool, sort: str | None) -> Iterator[bytes]:
+    return (sheet_number(form, seed, number, inside, sort) for number in numbers)
+
+
+def add_sorts(parser: argparse.ArgumentParser) -> None:
+    sorts = parser.add_mutually_exclusive_group()
+    sorts.add_argument("--large", dest="sort", action="store_const", const="large", help="sheets of many rules and boxes alone")
+    sorts.add_argument("--lists", dest="sort", action="store_const", const="lists", help="sheets of many lists alone")
 
 
 def main() -> None:
@@ -223,9 +233,9 @@ def main() -> None:
     parser.add_argument("--count", type=int, required=True)
     parser.add_argument("--form", type=int, choices=FORMS, default=1)
     parser.add_argument("--inside", action="store_true", help="stay inside the Rust's domain")
-    parser.add_argument("--large", action="store_true", help="sheets of many rules and boxes alone")
+    add_sorts(parser)
     arguments = parser.parse_args()
-    for sheet in sheets(arguments.form, arguments.seed, range(arguments.count), arguments.inside, arguments.large):
+    for sheet in sheets(arguments.form, arguments.seed, range(arguments.count), arguments.inside, arguments.sort):
         print(sheet.hex().upper())
 
 

@@ -11,7 +11,7 @@ from math import prod
 from random import Random
 
 from reference.build import boxes_rule, plain_rule
-from reference.large import STOPPER, Shape, boxes_apart, years_apart
+from reference.large import STOPPER, Shape, each_interval, each_odd_choice, many_groups, with_own_states, years_apart
 from reference.points import DIMENSIONS
 from reference.sheet import ADDITIONAL, NORMAL, RULE_LIMIT, Rule, write_sheet
 from stock import Stock
@@ -66,10 +66,12 @@ def many_years(random: Random, inside: bool, form: int) -> bytes:
     return write_sheet(form, some_left(random, rules + beside * random.choice((0, 0, 1))))
 
 
-def many_groups(random: Random, inside: bool, form: int) -> bytes:
-    """Boxes of which no two are alike, at times with more rules than form 1 can count."""
-    shape, everywhere = random.choice((((4, 8, 8, 16), 12), ((4, 8, 8, 16), 11), ((7, 12, 12, 4), 2), ((3, 20, 11, 6), 0)))
-    return write_sheet(form, some_left(random, boxes_apart(shape, everywhere)))
+def groups_of_few_lists(random: Random, inside: bool, form: int) -> bytes:
+    """A group for each of many boxes, at times with more rules than form 1 can count, or by more lists than there may be."""
+    shape = random.choice(((1, 8, 8, 16), (4, 8, 8, 8), (7, 6, 6, 6)))
+    days = random.choice((each_odd_choice, each_odd_choice, each_interval))(shape)
+    rules = many_groups() if random.random() < 0.4 else with_own_states(days + [{}] * random.randint(0, 4))
+    return write_sheet(form, some_left(random, rules))
 
 
 def some_left(random: Random, rules: list[Rule]) -> list[Rule]:
@@ -78,4 +80,4 @@ def some_left(random: Random, rules: list[Rule]) -> list[Rule]:
     return rules if random.random() < 0.7 else [*rules[:place], STOPPER, *rules[place:][1:]]
 
 
-LARGE = {many_rules: 30, many_boxes: 40, many_rules_over_many_boxes: 12, many_years: 16, many_groups: 2}
+LARGE = {many_rules: 30, many_boxes: 40, many_rules_over_many_boxes: 12, many_years: 16, groups_of_few_lists: 2}

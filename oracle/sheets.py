@@ -20,7 +20,7 @@ length of the sheet and of what is told.
     a lookup       YEAR MONTH DAY MINUTE in eight bytes each, CODE KIND COMMENT PLACE
 
 END is the place of the first bit after the rules, 0 where the sheet is refused; ROOM is the buffer's length. Rests on
-`answers` and `cases` for the sheets and on `reference`.
+`answers`, `remarks` and `cases` for the sheets and on `reference`.
 """
 
 from __future__ import annotations
@@ -28,7 +28,7 @@ from __future__ import annotations
 from functools import partial
 from typing import Callable, Iterable
 
-from answers import DATA, Entry, in_forms, read_case, written_case
+from answers import DATA, Entry, read_case, written_case
 from cases import Given, all_fields, damaged, is_accepted
 from generate import fields_met
 from reference.convert import convert
@@ -36,6 +36,7 @@ from reference.fold import Folded, Written, write_back
 from reference.line import line
 from reference.sheet import read_sheet
 from reference.worked import ROOM
+from remarks import in_forms
 
 SHEETS_FOR_A_FIELD = {1: 2, 2: 1}  # by form
 SIZE_LIMIT = 65536  # the program's buffer for what follows a record's three numbers

@@ -1,60 +1,22 @@
 /* Document 02's larger sheets, from C: 256 rules and one more, and results at what form 1 can count. Compiles as C and as C++. */
 #include <stdlib.h>
-#include <string.h>
 
-#include "check.h"
-#include "hours.h"
+#include "sheet.h"
 
-enum { ITEMS = 16, SHEET = 40000, ROOM = 20000 };
-
-/* A sheet that is written field by field, the most significant bit first. */
-static uint8_t sheet[SHEET];
-static size_t written;
-
-static void put(unsigned width, unsigned long value)
-{
-    while (width-- > 0) {
-        sheet[written / 8] |= (uint8_t)(((value >> width) & 1) << (7 - written % 8));
-        written++;
-    }
-}
-
-static size_t sheet_length(void)
-{
-    return (written + 7) / 8;
-}
-
-static void begin(enum hours_form form, unsigned rules)
-{
-    memset(sheet, 0, sizeof sheet);
-    written = 0;
-    if (form == HOURS_FORM_2) {
-        put(4, 2);
-    }
-    put(form == HOURS_FORM_2 ? 24 : 16, rules);
-}
+enum { ITEMS = 16 };
 
 /* Open 10:00-18:00, on so many years from one on, each two after the one before. */
 static void put_rule(enum hours_form form, unsigned operator_, unsigned years, unsigned first)
 {
-    const unsigned count = form == HOURS_FORM_2 ? 12 : 10;
+    const unsigned counts[4] = {years, 0, 0, 0};
 
-    put(2, operator_);
-    put(2, HOURS_OPEN);
-    put(form == HOURS_FORM_2 ? 24 : 16, 0);
-    put(count, years);
-    for (int sort = 0; sort < 3; sort++) {
-        put(count, 0);
-    }
-    put(count, 1);
+    put_head(form, operator_, 0, counts);
     for (unsigned i = 0; i < years; i++) {
         put(14, first + 2 * i);
         put(14, first + 2 * i);
         put(16, 1);
     }
-    put(13, 600);
-    put(13, 1080);
-    put(2, 0);
+    put_span(600, 1080);
 }
 
 /* So many years, a multiple of sixteen or one less, and a rule left behind them. */
@@ -71,16 +33,6 @@ static void put_years(enum hours_form form, unsigned years)
         put_rule(form, 0, here, 1901 + 2 * before);
     }
     put_rule(form, 2, 0, 0);
-}
-
-static uint8_t out[ROOM];
-static uint64_t numbers[HOURS_FOLD_NUMBERS];
-
-static uint64_t fold_into(enum hours_form form, size_t room)
-{
-    memset(out, PAINT, sizeof out);
-    CHECK(hours_fold(form, sheet, sheet_length(), out, room, numbers, HOURS_FOLD_NUMBERS));
-    return numbers[HOURS_FOLD_CODE];
 }
 
 static void check_folded(enum hours_form form)

@@ -54,6 +54,12 @@ def alternating(dimension: Dimension, intervals: int) -> list[int]:
     return list(range(first, first + intervals // 2 * 2, 2))
 
 
+def interval(dimension: Dimension, count: int, number: int):
+    """The item of one of so many intervals: single values from the lowest on, and the rest as the last."""
+    start = dimension.lowest + number
+    return ITEM_OF_ENDS[dimension.items](start, dimension.upper - 1 if number == count - 1 else start)
+
+
 def singles(sort: str, values: Iterable[int]) -> tuple:
     """A day's item for each of the values."""
     return tuple(ITEM_OF_ENDS[sort](value, value) for value in values)

@@ -1,15 +1,17 @@
 """The computation over boxes held against the literal reading, at sampled points, and one form against the other.
 
 Checked for the drained rules of an accepted fold: the list of a point's box is the list said literally for that point, and
-no rule stands in it twice, since no ranges overlap (document 02, M-101); the folded rules say at the point exactly its day;
-the day of simple spans shows at a minute the last span that covers it; and cuts beyond those needed change nothing. Checked
-for an accepted sheet whose comments fit the other form (M-106): moved there and back it is the same, its fold moved there is
+no rule stands in it twice, since no ranges overlap (document 02, M-101); after some rule the lists that differ (M-108) are those
+said literally for the first points of all boxes; the folded rules say at the point exactly its day; the day of simple spans
+shows at a minute the last span that covers it; and cuts beyond those needed change nothing. Checked for an accepted sheet whose comments fit the other form (M-106): moved there and back it is the same, its fold moved there is
 the fold of what it was moved to, unless form 1 can't count it (M-107), and its line stays. Rests on the other modules.
 """
 
 from __future__ import annotations
 
 from bisect import bisect_right
+from itertools import product
+from math import prod
 from random import Random
 
 from .convert import COMMENT_TOO_LONG, OTHER_FORM, convert
@@ -18,11 +20,13 @@ from .day import Day, PLAIN_CLOSED, StatedSpan, day_of, flatten, is_simple
 from .fold import AMPLE_ROOM, days_of_lists, fold, fold_drained
 from .groups import folded_rules, number_of
 from .line import line
+from .lists import different_lists, lists_of_boxes
 from .lookup import last_covering
-from .points import DIMENSIONS, Dimension, Point, cuts_of, list_at, lists_of_boxes, shape_of
+from .points import DIMENSIONS, Dimension, Point, cuts_of, list_at, shape_of
 from .sheet import MIDNIGHT, PAST_ITS_LIMIT, Rule
 
 POINTS, MINUTES, EXTRA_CUTS = 40, 5, 2
+SAID_LITERALLY = 20000  # rules at points, at most
 
 
 def check_other_form(form: int, sheet: bytes) -> None:
@@ -56,11 +60,19 @@ def check_boxes_against_points(drained: list[Rule], random: Random) -> None:
         assert len(set(entries)) == len(entries), ("twice", point)
         assert [(rule.kind, rule.comment, rule.spans) for rule in said] == [(*state, spans) for state, spans in day], point
         check_minutes(flatten(rules), day, random)
+    check_lists_against_points(drained[: random.randint(0, len(drained))], cuts)
     finer = [
         sorted({*values, *(random.randrange(dimension.lowest, dimension.upper) for _ in range(EXTRA_CUTS))})
         for values, dimension in zip(cuts, DIMENSIONS)
     ]
     assert folded_rules(days_of_lists(drained, lists_of_boxes(drained, finer)), finer) == folded, ("cuts", finer)
+
+
+def check_lists_against_points(first: list[Rule], cuts: list[list[int]]) -> None:
+    """Of the first rules, unless these and the boxes are too many to be said literally."""
+    if len(first) * prod(shape_of(cuts)) <= SAID_LITERALLY:
+        said = [list_at(first, point) for point in product(*(values[:-1] for values in cuts))]
+        assert different_lists(lists_of_boxes(first, cuts)) == different_lists(said), ("lists", len(first))
 
 
 def check_minutes(spans: list[StatedSpan], day: Day, random: Random) -> None:

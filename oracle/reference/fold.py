@@ -1,8 +1,8 @@
 """The fold and the write-back: the numbers of the answer, the refusals in their order, the bytes.
 
 The last number, why the fold stopped, is document 02's (M-105), and so are the refusal of overlaps (M-101), the form that the
-caller says and "a fold keeps" (M-106), and what form 1 can't count (M-107). Rests on `sheet`, `points`, `overlap`, `why`, `day`,
-`groups` and `counts`.
+caller says and "a fold keeps" (M-106), what form 1 can't count (M-107), and how many lists may differ (M-108). Rests on `sheet`,
+`points`, `overlap`, `lists`, `why`, `day`, `groups` and `counts`.
 """
 
 from __future__ import annotations
@@ -13,8 +13,9 @@ from typing import Callable, NamedTuple
 from .counts import check_counts
 from .day import Day, day_of
 from .groups import folded_rules
+from .lists import lists_of_boxes
 from .overlap import check_overlaps
-from .points import List, check_boxes, cuts_of, drained_of, lists_of_boxes
+from .points import List, check_boxes, cuts_of, drained_of
 from .sheet import Refusal, Rule, pack_rules, read_sheet, rules_bits, unpack, write_sheet
 from .why import NOTHING, why_stopped
 

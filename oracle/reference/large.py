@@ -5,16 +5,18 @@ Rests on `build` for the rules, on `counts` for the code and on `fold`; `check_l
 
 from __future__ import annotations
 
-from typing import Iterator
+from itertools import product
 
-from .build import ITEM_OF_ENDS, boxes_rule, fixed, plain_rule, singles, weekdays
+from .build import boxes_rule, fixed, interval, plain_rule, singles, weekdays
 from .counts import PAST_COUNTS
 from .fold import AMPLE_ROOM, BUFFER_TOO_SHORT, fold
+from .lists import LIST_TOO_LONG
 from .overlap import RANGES_SHARE
-from .points import DIMENSIONS, LIST_TOO_LONG, TOO_MANY_BOXES
-from .sheet import ADDITIONAL, CLOSED, FALLBACK, FORMS, ITEM_LIMIT, UNKNOWN, Rule, Span, Year, write_sheet
+from .points import DIMENSIONS, TOO_MANY_BOXES, Dimension
+from .sheet import ADDITIONAL, CLOSED, FALLBACK, FORMS, ITEM_LIMIT, UNKNOWN, Months, Rule, Span, Year, write_sheet
 
 Shape = tuple[int, int, int, int]  # intervals of weekdays, weeks, months and years
+Days = dict[str, tuple]  # a rule's items by their sort
 OVER_BOXES, SHARING = boxes_rule((4, 8, 8, 17)), plain_rule(weekdays=(weekdays(0, 2), weekdays(1, 3)))
 STOPPER, WHY_FALLBACK = plain_rule(operator=FALLBACK), 1
 
@@ -41,33 +43,57 @@ def own_span(number: int) -> Span:
     return fixed(24 * number, 24 * number + 20)
 
 
-def intervals(shape: Shape) -> Iterator[tuple[str, tuple]]:
-    """Single values from the lowest on and the rest as the last interval, dimension after dimension, each as a rule's items."""
-    for dimension, count in zip(DIMENSIONS, shape):
-        for start in range(dimension.lowest, dimension.lowest + count):
-            is_last = start == dimension.lowest + count - 1
-            yield dimension.items, (ITEM_OF_ENDS[dimension.items](start, dimension.upper - 1 if is_last else start),)
-
-
-def boxes_apart(shape: Shape, everywhere: int) -> list[Rule]:
-    """No two boxes alike, each a group of four rules and as many more as stand everywhere, since each has its own comment."""
-    days = [{sort: items} for sort, items in intervals(shape)] + [{}] * everywhere
+def with_own_states(days: list[Days]) -> list[Rule]:
+    """Additional rules on these days, each with a comment and a span of its own."""
     return [
         plain_rule(operator=ADDITIONAL, comment=1 + number, spans=(own_span(number),), **items)
         for number, items in enumerate(days)
     ]
 
 
-def fewer_by(less: int, rules: list[Rule]) -> list[Rule]:
-    """The first box is closed at the hours of so many rules that stand everywhere, so that its group has so many rules less."""
-    first_box = {each.items: (ITEM_OF_ENDS[each.items](each.lowest, each.lowest),) for each in DIMENSIONS}
+def each_interval(shape: Shape) -> list[Days]:
+    """Dimension after dimension, each of its intervals: so no two boxes have the same list."""
+    return [
+        {dimension.items: (interval(dimension, count, number),)}
+        for dimension, count in zip(DIMENSIONS, shape) for number in range(count)
+    ]
+
+
+def each_odd_choice(shape: Shape) -> list[Days]:
+    """For each bit of an interval's number and each choice of dimensions, odd in count, the boxes where just these have the bit set.
+
+    Of two boxes that differ in one dimension alone, some bit is set in an odd count of dimensions for one, and for the other it is
+    not: the two are not alike, and so no group grows. Boxes that differ in more dimensions may share a list."""
+    bits = range(max(count - 1 for count in shape).bit_length())
+    choices = [choice for choice in product((0, 1), repeat=len(shape)) if sum(choice) % 2]
+    return [days for bit, choice in product(bits, choices) if (days := days_with(shape, bit, choice)) is not None]
+
+
+def days_with(shape: Shape, bit: int, choice: tuple[int, ...]) -> Days | None:
+    """In each dimension the intervals whose number has the bit as chosen; none where a dimension has no such interval."""
+    days: Days = {}
+    for dimension, count, wanted in zip(DIMENSIONS, shape, choice):
+        numbers = [number for number in range(count) if number >> bit & 1 == wanted]
+        if not numbers:
+            return None
+        if len(numbers) < count:
+            days[dimension.items] = tuple(interval(dimension, count, number) for number in numbers)
+    return days
+
+
+def fewer_by(less: int, rules: list[Rule], cut: tuple[Dimension, ...] = DIMENSIONS[1:]) -> list[Rule]:
+    """The first box, by the dimensions that are cut, is closed at the hours of so many of the last rules, so that its group has so
+    many rules less."""
+    first_box = {each.items: singles(each.items, [each.lowest]) for each in cut}
     hours = tuple(span for rule in rules[-less:] for span in rule.spans)
     return [*rules, plain_rule(kind=CLOSED, spans=hours, **first_box)]
 
 
-def sixteen_in_each() -> list[Rule]:
-    """4,096 groups of sixteen rules are 65,536 rules."""
-    return boxes_apart((4, 8, 8, 16), everywhere=12)
+def many_groups() -> list[Rule]:
+    """2,560 groups of 510 lists: 24 rules for each box of nine of the ten months' intervals, 20 for those of the last, and in each
+    box on average two of the sixteen that tell it from others. Together 65,536 rules."""
+    but_the_last = {"monthdays": (Months(1, 9),)}
+    return with_own_states(each_odd_choice((1, 16, 10, 16)) + [but_the_last] * 4 + [{}] * 20)
 
 
 # What comes out
@@ -93,15 +119,15 @@ LARGE_RUNS: dict[str, tuple[list[Rule], tuple[int, int, int]]] = {
 COUNTED: dict[str, tuple[list[Rule], tuple[int, int, int]]] = {
     "1023 years": (years_apart(1023), (64, 1, 0)),
     "1023 years, and a rule left": ([*years_apart(1023), STOPPER], (64, 1, 1)),
-    "65535 rules": (fewer_by(1, sixteen_in_each()), (49, 65535, 0)),
-    "65534 rules, and a rule left": ([*fewer_by(2, sixteen_in_each()), STOPPER], (49, 65534, 1)),
+    "65535 rules": (fewer_by(1, many_groups()), (41, 65535, 0)),
+    "65534 rules, and a rule left": ([*fewer_by(2, many_groups()), STOPPER], (41, 65534, 1)),
 }
 NOT_COUNTED: dict[str, tuple[list[Rule], tuple[int, int, int]]] = {
     "1024 years": (years_apart(1024), (64, 1, 0)),
     "1024 years, and a rule left": ([*years_apart(1024), STOPPER], (64, 1, 1)),
     "1024 years in the last rule": ([*years_apart(16, first=5001, comment=1), *years_apart(1024, kind=UNKNOWN)], (65, 2, 0)),
-    "65536 rules": (sixteen_in_each(), (48, 65536, 0)),
-    "65535 rules, and a rule left": ([*fewer_by(1, sixteen_in_each()), STOPPER], (49, 65535, 1)),
+    "65536 rules": (many_groups(), (40, 65536, 0)),
+    "65535 rules, and a rule left": ([*fewer_by(1, many_groups()), STOPPER], (41, 65535, 1)),
 }
 
 # Name: rules of which more comes than form 1 can count, but for a refusal that is given before; its code and place.

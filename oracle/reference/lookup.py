@@ -1,7 +1,7 @@
 """The state lookup: kind and comment at a date and minute.
 
-Dates and their ISO weeks (document 02, M-104) are those of the standard library's Gregorian calendar. Rests on `sheet`, `points`, `overlap`
-and `day`.
+Dates and their ISO weeks (document 02, M-104) are those of the standard library's Gregorian calendar. Rests on `sheet`, `points`, `overlap`,
+`lists` and `day`.
 """
 
 from __future__ import annotations
@@ -10,8 +10,9 @@ from datetime import MAXYEAR, date
 from typing import NamedTuple
 
 from .day import PLAIN_CLOSED, State, StatedSpan, flatten, is_simple
+from .lists import lists_of_boxes
 from .overlap import check_overlaps
-from .points import Point, check_boxes, cuts_of, drained_of, list_at, lists_of_boxes
+from .points import Point, check_boxes, cuts_of, drained_of, list_at
 from .sheet import MIDNIGHT, Refusal, read_sheet
 
 FIRST_YEAR = 1900
@@ -41,7 +42,7 @@ def state_at(form: int, sheet: bytes, year: int, month: int, day: int, minute: i
     check_overlaps(drained)
     cuts = cuts_of(drained)
     check_boxes(cuts)
-    lists_of_boxes(drained, cuts)  # for its refusal, which any point's list may cause
+    lists_of_boxes(drained, cuts)  # for its refusals, which any point's list may cause
     spans = flatten(drained[index] for index in list_at(drained, point))
     if len(drained) < len(rules) or not all(is_simple(span) for _, span in spans):
         raise Refusal(NOT_ANSWERABLE, 0)

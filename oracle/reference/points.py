@@ -1,8 +1,8 @@
-"""From rules to points: ranges, draining, the count of boxes (code 5), the list at each point (code 6).
+"""From rules to points: ranges, draining, the count of boxes (code 5), the list at each point.
 
-A list is a tuple of indexes of drained rules. `list_at` says it literally, for one point; `lists_of_boxes` computes it
-once for each box between cuts, where no range begins or ends. Rests on `sheet` for the rules and on `why` for
-those that stop.
+A list is a tuple of indexes of drained rules. `list_at` says it literally, for one point; `draw_rule` computes it rule after
+rule, once for each box between cuts, where no range begins or ends; how lists are judged stands in `lists`. Rests on `sheet`
+for the rules and on `why` for those that stop.
 """
 
 from __future__ import annotations
@@ -14,8 +14,8 @@ from typing import NamedTuple
 from .sheet import CLOSED, NORMAL, Refusal, Rule
 from .why import stops
 
-BOX_LIMIT, LIST_LIMIT = 4096, 32  # the first is document 02's, M-107
-TOO_MANY_BOXES, LIST_TOO_LONG = 5, 6
+BOX_LIMIT = 4096  # document 02's, M-107
+TOO_MANY_BOXES = 5
 
 Range = tuple[int, int]  # start, and the end excluded
 Point = tuple[int, int, int, int]  # weekday, week, month, year
@@ -110,16 +110,17 @@ def check_boxes(cuts: list[list[int]]) -> None:
         raise Refusal(TOO_MANY_BOXES, boxes)
 
 
-def lists_of_boxes(drained: list[Rule], cuts: list[list[int]]) -> list[List]:
-    """The list of each box, boxes in the order of their first points; a list that grows too long is refused."""
-    shape = shape_of(cuts)
-    lists: list[List] = [()] * prod(shape)
-    for index, rule in enumerate(drained):
-        for box, combinations in boxes_covered(rule, cuts, shape):
-            lists[box] = (index,) if replaces(rule) else lists[box] + (index,) * combinations
-            if len(lists[box]) > LIST_LIMIT:
-                raise Refusal(LIST_TOO_LONG, index)
-    return lists
+def empty_lists(cuts: list[list[int]]) -> list[List]:
+    """The list of each box before any rule."""
+    return [()] * prod(shape_of(cuts))
+
+
+def draw_rule(lists: list[List], index: int, rule: Rule, cuts: list[list[int]]) -> list[List]:
+    """The list of each box after one more rule, boxes in the order of their first points."""
+    drawn = list(lists)
+    for box, combinations in boxes_covered(rule, cuts, shape_of(cuts)):
+        drawn[box] = (index,) if replaces(rule) else lists[box] + (index,) * combinations
+    return drawn
 
 
 def boxes_covered(rule: Rule, cuts: list[list[int]], shape: list[int]):

@@ -3,6 +3,7 @@
 use crate::bits::{from_hex, to_hex};
 use crate::fold::fold_rules;
 use crate::form::Form;
+use crate::lists::{Standing, after_each_rule};
 use crate::normalize::canonical_time::normalize_time_rules;
 use crate::outside::Outside;
 use crate::rules::day::DaySelector;
@@ -20,6 +21,17 @@ pub fn fold_line(form: Form, line: &str) -> String {
 pub fn day_line(form: Form, line: &str) -> String {
     answer(form, line, |rules| {
         to_hex(&write_sheet(form, &day_of_all(rules)))
+    })
+}
+
+/// `DIFFERENT LONGEST` after each drained rule of a sheet in hex, a comma between two, or why the sheet is outside the Rust: how many lists
+/// differ, the empty one aside, and how many entries the longest has.
+pub fn lists_line(form: Form, line: &str) -> String {
+    let told = |standing: &Standing| format!("{} {}", standing.different, standing.longest);
+
+    answer(form, line, |rules| {
+        let after_each: Vec<String> = after_each_rule(rules).iter().map(told).collect();
+        after_each.join(",")
     })
 }
 

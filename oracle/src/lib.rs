@@ -1,8 +1,8 @@
 //! The Rust oracle's library: the source under docs/src, compiled here unchanged and in place, behind packed sheets.
 //!
 //! This file is the crate root that docs/src expects: it names the modules and re-exports that the source reaches by `crate::`. Ours
-//! are `answer`, `bits`, `fold`, `form`, `numbering`, `outside`, `sheet_reader`, `sheet_writer`, the helpers in `display` and the tests
-//! in `readings`. The program `oracle` answers lines by it; the crate in scale/ holds the archive against it.
+//! are `answer`, `bits`, `fold`, `form`, `lists`, `numbering`, `outside`, `sheet_reader`, `sheet_writer`, the helpers in `display` and the
+//! tests in `readings`. The program `oracle` answers lines by it; the crate in scale/ holds the archive against it.
 
 extern crate alloc;
 
@@ -19,6 +19,7 @@ pub mod bits;
 mod display;
 pub mod fold;
 pub mod form;
+pub mod lists;
 mod numbering;
 pub mod outside;
 #[cfg(test)]

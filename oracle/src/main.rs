@@ -4,7 +4,9 @@
 //! - `oracle`: `DRAINED EMITTED LEFT RESULTHEX`, the counts of rules drained, emitted and left, and the result sheet, or in its place
 //!   `items MOST` where the form's counts can't carry it, the most items of a sort that one of its rules has;
 //! - `oracle --days`: `RESULTHEX`, the canonical day of all the sheet's rules taken as one list, as rules without day items;
-//! - in either mode `outside REASON` where the sheet stands for no value of the Rust (see `outside.rs`).
+//! - `oracle --lists`: `DIFFERENT LONGEST` after each drained rule, a comma between two: how many lists differ, the empty one aside, and how
+//!   many entries the longest has;
+//! - in each mode `outside REASON` where the sheet stands for no value of the Rust (see `outside.rs`).
 //!
 //! With `--form 2` in front the sheets and the results are of form 2, else of form 1.
 
@@ -17,7 +19,7 @@ use std::thread;
 
 fn main() -> ExitCode {
     let Some((form, answer_line)) = arguments() else {
-        eprintln!("usage: oracle [--form 1|2] [--days] < sheets in hex, one a line");
+        eprintln!("usage: oracle [--form 1|2] [--days|--lists] < sheets in hex, one a line");
         return ExitCode::from(2);
     };
 
@@ -42,6 +44,7 @@ fn arguments() -> Option<(Form, fn(Form, &str) -> String)> {
     match rest {
         [] => Some((form, answer::fold_line)),
         [mode] if mode == "--days" => Some((form, answer::day_line)),
+        [mode] if mode == "--lists" => Some((form, answer::lists_line)),
         _ => None,
     }
 }

@@ -110,7 +110,7 @@ pub struct State {
 ///
 /// # Errors
 ///
-/// Any refusal by codes 1 to 7, 11 and, in form 1, 13, the first reason met. `out` is then unchanged.
+/// Any refusal by codes 1 to 7, 11, 14 and, in form 1, 13, the first reason met. `out` is then unchanged.
 pub fn fold(form: Form, sheet: &[u8], out: &mut [u8]) -> Result<Folded, Refusal> {
     let [code, drained, emitted, left, bytes, place, why] =
         numbers(|lent| archive::fold(form.number(), sheet, out, lent));
@@ -131,7 +131,7 @@ pub fn fold(form: Form, sheet: &[u8], out: &mut [u8]) -> Result<Folded, Refusal>
 ///
 /// # Errors
 ///
-/// Any refusal by codes 1 to 6, 8, 9 and 11, the first reason met.
+/// Any refusal by codes 1 to 6, 8, 9, 11 and 14, the first reason met.
 pub fn lookup(form: Form, sheet: &[u8], date: Date, minute: u16) -> Result<State, Refusal> {
     let moment = [
         date.year.into(),

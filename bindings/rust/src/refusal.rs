@@ -3,8 +3,8 @@
 use core::error::Error;
 use core::fmt::{Display, Formatter, Result};
 
-/// The first reason to refuse, in the order 1, 2 and 4 as met from the first bit on, then 3, 8, 11, 5, 6, 9, 10, 12, 13, 7. Bits and rules
-/// are counted from 0, bits from the most significant one on.
+/// The first reason to refuse, in the order 1, 2 and 4 as met from the first bit on, then 3, 8, 11, 5, then 6 and 14 rule by rule, 6 first at
+/// the same rule, then 9, 10, 12, 13, 7. Bits and rules are counted from 0, bits from the most significant one on.
 #[derive(Clone, Copy, Debug, PartialEq, Eq)]
 pub enum Refusal {
     /// 1: a field runs past the end.
@@ -66,10 +66,16 @@ pub enum Refusal {
     /// 13: a fold of form 1 where the result has more rules or items than form 1 can count: 65,535 rules, those left among them, or 1,023
     /// items of a sort in a rule. Moved to form 2, the sheet can be folded.
     PastCounts,
+    /// 14: a fold or a lookup where, after a drained rule, more than 512 lists that aren't empty stand at the points, each counted once. Lists
+    /// differ by the indexes of their rules.
+    ManyLists {
+        /// That rule's index.
+        rule: usize,
+    },
 }
 
 impl Refusal {
-    /// The refusal of a code from 1 to 13. The archive answers no other.
+    /// The refusal of a code from 1 to 14. The archive answers no other.
     pub(crate) fn of(code: u64, place: usize) -> Self {
         match code {
             1 => Self::PastEnd { bit: place },
@@ -85,11 +91,12 @@ impl Refusal {
             11 => Self::Overlap { rule: place },
             12 => Self::LongComment { rule: place },
             13 => Self::PastCounts,
+            14 => Self::ManyLists { rule: place },
             _ => unreachable!("the archive refuses by no code {code}"),
         }
     }
 
-    /// The code, 1 to 13.
+    /// The code, 1 to 14.
     #[must_use]
     pub fn code(self) -> u8 {
         match self {
@@ -106,6 +113,7 @@ impl Refusal {
             Self::Overlap { .. } => 11,
             Self::LongComment { .. } => 12,
             Self::PastCounts => 13,
+            Self::ManyLists { .. } => 14,
         }
     }
 
@@ -122,7 +130,8 @@ impl Refusal {
             | Self::NoRoom { needed: place }
             | Self::NoLine { rule: place }
             | Self::Overlap { rule: place }
-            | Self::LongComment { rule: place } => place,
+            | Self::LongComment { rule: place }
+            | Self::ManyLists { rule: place } => place,
             Self::NoDate | Self::Unsettled | Self::PastCounts => 0,
         }
     }
@@ -153,6 +162,7 @@ impl Display for Refusal {
                     "the result has more rules or items than form 1 can count"
                 )
             }
+            Self::ManyLists { rule } => write!(text, "rule {rule} makes the lists pass 512"),
         }
     }
 }

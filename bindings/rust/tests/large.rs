@@ -1,97 +1,10 @@
-//! Document 02's larger sheets: 256 rules and one more, and results at what form 1 can count, asked on a stack no longer than the crate says a
-//! call needs. The sheets are written bit by bit.
+//! Document 02's larger sheets: 256 rules and one more, and results at what form 1 can count.
 
-use std::fmt::Write;
-use std::thread;
+#[path = "common/rules.rs"]
+mod rules;
 
-use hours::{Date, Folded, Form, Reason, Refusal, STACK, convert, fold, line, lookup, write_back};
-
-const PAINT: u8 = 0xC3;
-
-/// Bits as digits.
-fn bits(width: usize, value: usize) -> String {
-    format!("{value:0width$b}")
-}
-
-/// Lowest and highest value of weekdays, weeks, months and years.
-const DIMENSIONS: [(usize, usize); 4] = [(0, 6), (1, 53), (1, 12), (1900, 9999)];
-
-/// A day item from start to end, of a dimension by its number.
-fn item(dimension: usize, start: usize, end: usize) -> String {
-    match dimension {
-        0 => [
-            "0",
-            &bits(3, start),
-            &bits(3, end),
-            &bits(16, 0),
-            &bits(10, 0x3FF),
-        ]
-        .concat(),
-        1 => [bits(6, start), bits(6, end), bits(8, 1)].concat(),
-        2 => [bits(2, 0), bits(4, start), bits(4, end)].concat(),
-        _ => [bits(14, start), bits(14, end), bits(16, 1)].concat(),
-    }
-}
-
-/// Operator and kind, comment, items of the four dimensions, and spans from minute to minute.
-#[derive(Clone, Default)]
-struct Rule {
-    operator: usize,
-    kind: usize,
-    comment: usize,
-    days: [Vec<String>; 4],
-    spans: Vec<(usize, usize)>,
-}
-
-impl Rule {
-    fn bits(&self, form: Form) -> String {
-        let (comment, count) = match form {
-            Form::One => (16, 10),
-            Form::Two => (24, 12),
-        };
-        let [weekdays, weeks, months, years] = &self.days;
-        let days = [years, months, weeks, weekdays];
-
-        let mut text = [bits(2, self.operator), bits(2, self.kind)].concat();
-        text += &bits(comment, self.comment);
-        days.iter()
-            .for_each(|items| text += &bits(count, items.len()));
-        text += &bits(count, self.spans.len());
-        days.iter().for_each(|items| text += &items.concat());
-        for (start, end) in &self.spans {
-            write!(text, "0{start:012b}0{end:012b}00").expect("a string takes all");
-        }
-        text
-    }
-}
-
-fn sheet(form: Form, rules: &[Rule]) -> Vec<u8> {
-    let head = match form {
-        Form::One => bits(16, rules.len()),
-        Form::Two => ["0010", &bits(24, rules.len())].concat(),
-    };
-    let mut text = head + &rules.iter().map(|rule| rule.bits(form)).collect::<String>();
-    text += &"0".repeat(text.len().next_multiple_of(8) - text.len());
-
-    (0..text.len() / 8)
-        .map(|byte| u8::from_str_radix(&text[8 * byte..8 * byte + 8], 2).expect("eight bits"))
-        .collect()
-}
-
-fn open() -> Rule {
-    Rule {
-        spans: vec![(600, 1080)],
-        ..Rule::default()
-    }
-}
-
-/// Fallback, so that it is left.
-fn stopper() -> Rule {
-    Rule {
-        operator: 2,
-        ..open()
-    }
-}
+use hours::{Date, Form, Reason, Refusal, convert, line, lookup, write_back};
+use rules::{DIMENSIONS, PAINT, Rule, counts, folded, item, open, sheet, stopper};
 
 /// One day on so many years, no two of them neighbours, sixteen to a rule.
 fn years_apart(count: usize) -> Vec<Rule> {
@@ -107,77 +20,69 @@ fn years_apart(count: usize) -> Vec<Rule> {
     years.chunks(16).map(rule).collect()
 }
 
-/// 4,096 boxes of which no two are alike, each a group of sixteen rules; of the first one so many less, since their hours are closed there.
-fn groups_of_sixteen(less: usize) -> Vec<Rule> {
-    let mut rules = Vec::new();
-    let mut closed = Rule {
-        kind: 1,
-        ..Rule::default()
-    };
+/// Intervals of weekdays, weeks, months and years.
+const SHAPE: [usize; 4] = [1, 16, 10, 16];
 
-    for (dimension, intervals) in [4, 8, 8, 16].into_iter().enumerate() {
+/// In each dimension the intervals whose number has the bit as chosen, single values from the lowest on and the rest as the last; nothing
+/// where a dimension has no such interval.
+fn days_with(bit: usize, choice: usize) -> Option<Rule> {
+    let mut rule = Rule::default();
+
+    for (dimension, intervals) in SHAPE.into_iter().enumerate() {
         let (lowest, highest) = DIMENSIONS[dimension];
-        closed.days[dimension].push(item(dimension, lowest, lowest));
-        for start in lowest..lowest + intervals {
-            let is_last = start + 1 == lowest + intervals;
-            let mut rule = Rule::default();
-            rule.days[dimension].push(item(
-                dimension,
-                start,
-                if is_last { highest } else { start },
-            ));
-            rules.push(rule);
+        let is_set = choice >> dimension & 1;
+        let chosen = (0..intervals).filter(|number| number >> bit & 1 == is_set);
+        let items: Vec<String> = chosen
+            .map(|number| (number + 1 == intervals, lowest + number))
+            .map(|(is_last, start)| item(dimension, start, if is_last { highest } else { start }))
+            .collect();
+
+        match items.len() {
+            0 => return None,
+            all if all == intervals => {}
+            _ => rule.days[dimension] = items,
         }
     }
-    rules.resize(rules.len() + 12, Rule::default());
+    Some(rule)
+}
+
+/// 2,560 boxes by 510 lists, of which no two that differ in one dimension alone have the same, so that each is a group: 65,536 rules. In the
+/// first one so many are less, since their hours are closed there.
+///
+/// For each bit of an interval's number and each choice of dimensions, odd in count, a rule is on the boxes where the bit is set in just
+/// these: in each box two of the sixteen on average. Four more rules are in all months' intervals but the last, twenty everywhere.
+fn many_groups(less: usize) -> Vec<Rule> {
+    let odd = |choice: &usize| choice.count_ones() % 2 == 1;
+    let choices = (0..4).flat_map(|bit| (0..16).filter(odd).map(move |choice| (bit, choice)));
+    let mut rules: Vec<Rule> = choices
+        .filter_map(|(bit, choice)| days_with(bit, choice))
+        .collect();
+    let mut but_the_last = Rule::default();
+    but_the_last.days[2].push(item(2, 1, 9));
+    rules.extend(vec![but_the_last; 4]);
+    rules.resize(rules.len() + 20, Rule::default());
 
     for (number, rule) in rules.iter_mut().enumerate() {
         rule.operator = 1;
         rule.comment = 1 + number;
         rule.spans = vec![(24 * number, 24 * number + 20)];
     }
-    closed.spans = rules
-        .iter()
-        .rev()
-        .take(less)
-        .flat_map(|rule| rule.spans.clone())
-        .collect();
-    rules.push(closed);
+    rules.push(closed_in_the_first(&rules[rules.len() - less..]));
     rules
 }
 
-/// The fold with just enough room, after one with a byte less and one with none were refused.
-fn folded(form: Form, rules: Vec<Rule>) -> Result<(Folded, Vec<u8>), Refusal> {
-    let asking = move || {
-        let sheet = sheet(form, &rules);
-        let needed = match fold(form, &sheet, &mut []) {
-            Err(Refusal::NoRoom { needed }) => needed,
-            Err(refusal) => {
-                let mut out = vec![PAINT; 1 << 16];
-                assert_eq!(fold(form, &sheet, &mut out), Err(refusal));
-                assert!(out.iter().all(|byte| *byte == PAINT));
-                return Err(refusal);
-            }
-            Ok(_) => panic!("a sheet has bytes"),
-        };
-
-        let mut out = vec![PAINT; needed];
-        let short = fold(form, &sheet, &mut out[1..]);
-        assert_eq!(short, Err(Refusal::NoRoom { needed }));
-        assert!(out.iter().all(|byte| *byte == PAINT));
-        fold(form, &sheet, &mut out).map(|folded| (folded, out))
+/// The hours of these rules closed in the first box of weeks, months and years.
+fn closed_in_the_first(rules: &[Rule]) -> Rule {
+    let mut closed = Rule {
+        kind: 1,
+        spans: rules.iter().flat_map(|rule| rule.spans.clone()).collect(),
+        ..Rule::default()
     };
 
-    let thread = thread::Builder::new().stack_size(STACK).spawn(asking);
-    thread
-        .expect("a thread can be started")
-        .join()
-        .expect("it is answered")
-}
-
-/// Drained, emitted and left, and why.
-fn counts(done: &Folded) -> ([usize; 3], Option<Reason>) {
-    ([done.drained, done.emitted, done.left], done.why)
+    for (dimension, (lowest, _)) in DIMENSIONS.into_iter().enumerate().skip(1) {
+        closed.days[dimension].push(item(dimension, lowest, lowest));
+    }
+    closed
 }
 
 #[test]
@@ -198,18 +103,18 @@ fn form_1_counts_1023_items_and_form_2_more() {
 
 #[test]
 fn form_1_counts_65535_rules_and_form_2_more() {
-    let rules = |less, left| [groups_of_sixteen(less), vec![stopper(); left]].concat();
+    let rules = |less, left| [many_groups(less), vec![stopper(); left]].concat();
 
     for (less, left) in [(1, 0), (2, 1)] {
         let (done, result) = folded(Form::One, rules(less, left)).expect("it is folded");
-        assert_eq!(counts(&done).0, [49, 65_536 - less, left]);
+        assert_eq!(counts(&done).0, [41, 65_536 - less, left]);
         assert_eq!(result[..2], [0xFF, 0xFF]);
     }
     for (less, left) in [(0, 0), (1, 1)] {
         let refused = folded(Form::One, rules(less, left)).map(|(done, _)| done);
         assert_eq!(refused, Err(Refusal::PastCounts));
         let (done, result) = folded(Form::Two, rules(less, left)).expect("it is folded");
-        assert_eq!(counts(&done).0, [49, 65_536 - less, left]);
+        assert_eq!(counts(&done).0, [41, 65_536 - less, left]);
         assert_eq!(result[..4], [0x20, 0x10, 0x00, result[3]]);
     }
 }

@@ -1,4 +1,4 @@
-//! Document 01's worked days in form 1, their lines by 02, a stopped fold for each of its reasons, and a refusal by each code but 12 and 13. The sheets of
+//! Document 01's worked days in form 1, their lines by 02, a stopped fold for each of its reasons, and a refusal by each code but 12 to 14. The sheets of
 //! the days are those of crates/definition/specs/Worked.antt.
 
 mod common;

@@ -1,10 +1,11 @@
 -- A box's list is lent to `canonical_time` as a part of all lists: what that call requires, and that the words which come back are the box's.
-use mathlib.Core.Path.{_≡_, sym, ap, _∙_, subst}
-use mathlib.Core.List.{List}
-use Prim.Native.Nat.{ℕ, _+_, _-_, _*_, _≤_}
+use mathlib.Core.Path.{_≡_, refl, sym, ap, _∙_, subst}
+use mathlib.Core.List.{List, _∷_, map}
+use Prim.Native.Nat.{ℕ, zero, suc, _+_, _-_, _*_, _≤_}
 use native.Mathlib.Omega.{arith}
 use lib.ListN.{length, take, drop, getD}
 use lib.Seq.{sets}
+use Rattle.laws.specs.Lists.{from}
 use Rattle.definition.specs.Day.{day}
 use Rattle.words.specs.Words.{part}
 use Rattle.day_flat.specs.Day.{flat, listRules}
@@ -14,8 +15,20 @@ use Rattle.tables.specs.Sizes.{listPlaces, listLimit}
 use Rattle.tables.specs.Lists.{listOf}
 use Rattle.tables.proofs.Lists.{list-length}
 use Rattle.box_day.specs.Boxes.{Scratch}
-use Rattle.list_memory.proofs.Lists.{list-part}
 
+-- ## A box's list is what stands behind its count
+part-map : (s : List ℕ) (at k n : ℕ) → map (λ j. getD s (at + j) 0) (from k n) ≡ part s (at + k) n
+unfolding part from
+part-map s at k zero = refl
+part-map s at k (suc n) = ap (getD s (at + k) 0 ∷_) (part-map s at (suc k) n ∙ ap (λ j. part s j n) (let z : at + suc k ≡ at + k + 1 = omega arith in z))
+
+list-part : (lists : List ℕ) (box : ℕ) → listOf lists box ≡ part lists (box * listPlaces + 1) (getD lists (box * listPlaces) 0)
+unfolding listOf
+list-part lists box =
+    part-map lists (box * listPlaces + 1) 0 (getD lists (box * listPlaces) 0)
+    ∙ ap (λ j. part lists j (getD lists (box * listPlaces) 0)) (let z : box * listPlaces + 1 + 0 ≡ box * listPlaces + 1 = omega arith in z)
+
+-- ## It is folded
 module _ (states counts spans lists : List ℕ) (room box : ℕ) (ready : Ready states counts spans lists room box) (count : ℕ) (c : count ≡ getD lists (box * listPlaces) 0) where
   abbrev slice : List ℕ
   slice = take (box * listPlaces + 1 + count - (box * listPlaces + 1)) (drop (box * listPlaces + 1) lists)

@@ -6,9 +6,9 @@ use native.Mathlib.Omega.{arith}
 use Rattle.box_day.specs.Boxes.{Scratch}
 use Rattle.tables.specs.Days.{Ready}
 
-pub ready-kept : (states counts spans lists : List ℕ) (box : ℕ → ℕ) (known room room′ : ℕ) → room′ ≡ room
-    → ((r : ℕ) → r < known → Ready states counts spans lists room (box r)) → (r : ℕ) → r < known → Ready states counts spans lists room′ (box r)
-ready-kept states counts spans lists box known room room′ e h r l = subst (λ n. Ready states counts spans lists n (box r)) (sym e) (h r l)
+pub ready-kept : (states counts spans lists : List ℕ) (boxes room room′ : ℕ) → room′ ≡ room
+    → ((i : ℕ) → i < boxes → Ready states counts spans lists room i) → (i : ℕ) → i < boxes → Ready states counts spans lists room′ i
+ready-kept states counts spans lists boxes room room′ e h i l = subst (λ n. Ready states counts spans lists n i) (sym e) (h i l)
 
 pub scratch-kept : (a b c d e a′ b′ c′ d′ e′ : ℕ) → a′ ≡ a → b′ ≡ b → c′ ≡ c → d′ ≡ d → e′ ≡ e → Scratch a b c d e → Scratch a′ b′ c′ d′ e′
 scratch-kept a b c d e a′ b′ c′ d′ e′ ea eb ec ed ee s = record {

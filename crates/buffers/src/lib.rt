@@ -1,7 +1,7 @@
-// Scratch arrays: for the words of a day and for folding a box's list, as large as the limits allow, and for what a fold notes of each box. Each
+// Scratch arrays: for the words of a day and for folding a list, as large as the limits allow, and for what a fold notes of days and boxes. Each
 // array is made in a function of its own, so that a proof knows its length from the contract and never looks at the array.
 ghost use mathlib.Core.Path.{_≡_};
-ghost use lib.ListN.{length, getD};
+ghost use lib.ListN.{length};
 
 // A day of a list of 32 rules: 64 words for each rule, and one.
 pub fn words() -> [u64; 2049]
@@ -30,30 +30,17 @@ pub fn ends() -> [u64; 1026]
     [0u64; 1026]
 }
 
-// The number of each box's day, for up to 64 boxes, and for as many as there may be.
-pub fn few_day_numbers() -> [u16; 64]
-    ensures { λ r. ⌜ 64 ≡ length r ⌝ }
-{
-    [0u16; 64]
-}
-
-pub fn day_numbers() -> [u16; 4096]
-    ensures { λ r. ⌜ 4096 ≡ length r ⌝ }
-{
-    [0u16; 4096]
-}
-
-// A class for each box's day and one for the empty day, which has none.
+// A class for each list's day and one for the empty day, for up to 64 lists, and for as many as are held.
 pub fn few_day_classes() -> [u8; 65]
-    ensures { λ r. ⌜ (65 ≡ length r) × (getD r 0 0 ≡ 0) ⌝ }
+    ensures { λ r. ⌜ 65 ≡ length r ⌝ }
 {
     [0u8; 65]
 }
 
-pub fn day_classes() -> [u8; 4097]
-    ensures { λ r. ⌜ (4097 ≡ length r) × (getD r 0 0 ≡ 0) ⌝ }
+pub fn day_classes() -> [u8; 513]
+    ensures { λ r. ⌜ 513 ≡ length r ⌝ }
 {
-    [0u8; 4097]
+    [0u8; 513]
 }
 
 // A mark for each interval of four dimensions: with at most 64 boxes there are at most 67, with 4,096 at most 4,099.

@@ -1,1 +1,1 @@
-pub mod Known
+pub mod Days

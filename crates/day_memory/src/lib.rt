@@ -1,20 +1,32 @@
-// Looks for a day among the days of the lists met before: where the hash is the same, that list is folded again and the words are compared.
-// `find_day` has more than twelve parameters: the scratch of a day is six slices (`other`, `span_states`, `span_codes`, `strokes`,
+// Looks for the day of a list among the days of the lists before: where the hash is the same, that list is folded again and the words are
+// compared. `find_day` has more than twelve parameters: the scratch of a day is six slices (`other`, `span_states`, `span_codes`, `strokes`,
 // `minute_cuts`, `interval_states`), the rules' times are three, and the language lends no struct of slices.
 use box_day::same_day;
-use casts::u16_to_usize;
-use memory::Found;
-use memory::next_place;
 ghost use mathlib.Core.Path.{_≡_};
-ghost use Prim.Native.Nat.{ℕ, _*_, _≤_, _<_};
-ghost use lib.ListN.{length};
+ghost use Prim.Native.Nat.{ℕ, suc, _≤_, _<_};
+ghost use lib.ListN.{length, getD};
 ghost use Rattle.words.specs.Words.{part};
-ghost use Rattle.memory.specs.Rows.{memoryPlaces, boxAt, hashOf};
 ghost use Rattle.box_day.specs.Boxes.{Scratch};
-ghost use Rattle.tables.specs.Days.{boxWords, Ready};
-ghost use Rattle.day_memory.specs.Known.{DaysHashed, SameWords};
+ghost use Rattle.tables.specs.Days.{boxWords, Ready, numberWords};
+ghost use Rattle.day_memory.specs.Days.{FirstSame, hashOf, DaysHashed};
 
-// Looks for a day's words among the first `known_count` rows: answers the box of a row whose day has the same words, or that there is none.
+// The first place from `next` up to `end`, excluded, that has a hash; or `end` where none has.
+fn next_place(hashes: &[u16], hash: u16, next: usize, end: usize) -> usize
+    requires { ⌜ (next ≤ end) × (end ≤ length (now hashes)) ⌝ }
+    ensures { λ r. ⌜ (next ≤ r) × (r ≤ end) × ((k : ℕ) → next ≤ k → k < r → getD (now (hashes .entry)) k 0 ≡ hash → ⊥) ⌝ }
+{
+    let mut place = next;
+    while place < end {
+        if hashes[place] == hash {
+            return place;
+        }
+        place += 1;
+    }
+    place
+}
+
+// The number of the day of the list at a place, whose words stand in `words`: that of the first list that has it, this one's own where no list
+// before has it, and 0 where there are no words.
 pub fn find_day(
     words: &[u64],
     other: &mut [u64],
@@ -27,24 +39,26 @@ pub fn find_day(
     span_counts: &[u8],
     spans: &[u64],
     lists: &[u16],
-    memory: &[u16],
+    hashes: &[u16],
     word_count: usize,
     day_hash: u16,
-    known_count: usize,
-) -> Found
-    requires { ⌜ ((r : ℕ) → r < «known_count»
-        → Ready (now states) (now «span_counts») (now spans) (now lists) (length (now other)) (boxAt (now memory) r)) ⌝ }
+    place: usize,
+) -> usize
+    requires { ⌜ ((i : ℕ) → i < place → Ready (now states) (now «span_counts») (now spans) (now lists) (length (now other)) i) ⌝ }
     requires { ⌜ Scratch (length (now «span_states»)) (length (now «span_codes»)) (length (now strokes)) (length (now «minute_cuts»))
         (length (now «interval_states»)) ⌝ }
-    requires { ⌜ («known_count» * memoryPlaces ≤ length (now memory)) × («word_count» ≤ length (now words)) ⌝ }
-    requires { ⌜ («day_hash» ≡ hashOf (part (now words) 0 «word_count»))
-        × DaysHashed (boxWords (now states) (now «span_counts») (now spans) (now lists)) (now memory) «known_count» ⌝ }
-    ensures { λ r. ⌜ SameWords (boxWords (now (states .entry)) (now («span_counts» .entry)) (now (spans .entry)) (now (lists .entry)))
-        (now (memory .entry)) (part (now (words .entry)) 0 «word_count») «known_count» r ⌝ }
+    requires { ⌜ («word_count» ≤ length (now words)) × (place < length (now hashes)) ⌝ }
+    requires { ⌜ (part (now words) 0 «word_count» ≡ boxWords (now states) (now «span_counts») (now spans) (now lists) place)
+        × («day_hash» ≡ hashOf (boxWords (now states) (now «span_counts») (now spans) (now lists) place))
+        × DaysHashed (boxWords (now states) (now «span_counts») (now spans) (now lists)) (now hashes) place ⌝ }
+    ensures { λ r. ⌜ FirstSame (numberWords (now (states .entry)) (now («span_counts» .entry)) (now (spans .entry)) (now (lists .entry)))
+        (boxWords (now (states .entry)) (now («span_counts» .entry)) (now (spans .entry)) (now (lists .entry)) place) (suc place) r ⌝ }
 {
-    let mut row = next_place(memory, memory::DAY_HASH, day_hash, known_count, 0);
-    while row < known_count {
-        let box_index = u16_to_usize(memory[row * memory::MEMORY_PLACES]);
+    if word_count == 0 {
+        return 0;
+    }
+    let mut before = next_place(hashes, day_hash, 0, place);
+    while before < place {
         if same_day(
             words,
             other,
@@ -57,12 +71,12 @@ pub fn find_day(
             span_counts,
             spans,
             lists,
-            box_index,
+            before,
             word_count,
         ) {
-            return Found::At(box_index);
+            return before + 1;
         }
-        row = next_place(memory, memory::DAY_HASH, day_hash, known_count, row + 1);
+        before = next_place(hashes, day_hash, before + 1, place);
     }
-    Found::Nothing
+    place + 1
 }

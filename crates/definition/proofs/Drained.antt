@@ -1,23 +1,24 @@
 -- DRAINED AND LEFT: the rules before the first stopper are the sheet's first rules, and none of them stops; with the rules left they are all
--- rules. And how they are judged: 11 where a rule overlaps, 5 where there are too many boxes, 6 where a list is too long, else fine. Rests on the
+-- rules. And how they are judged: 11 where a rule overlaps, 5 where there are too many boxes, 6 or 14 where a rule is refused for its lists, else fine. Rests on the
 -- definition alone.
 use mathlib.Core.Path.{_≡_, refl}
 use mathlib.Core.Bool.{Bool, true, false, cond}
 use mathlib.Core.List.{List, [], _∷_}
-use mathlib.Core.Option.{Option, some, none}
+use mathlib.Core.Option.{Option, some, none, Option·map}
 use Prim.Native.Nat.{ℕ, zero, suc, _+_, _≤_, _<_}
 use native.Mathlib.Omega.{arith}
 use lib.ListN.{length, drop, getD}
 use borrow.Author.Tests.{lt-ltb, le-ltb, ltb-false}
 use lib.Dec.{ltb}
-use Rattle.definition.specs.Field.{daysTwice, manyBoxes, longList}
+use Rattle.definition.specs.Field.{daysTwice, manyBoxes}
 use Rattle.definition.specs.Rule.{Rule, noRule}
 use Rattle.definition.specs.Sheet.{Limits}
 use Rattle.definition.specs.Stop.{stops, drained, left}
-use Rattle.definition.specs.Point.{dimensions, firstTooLong}
+use Rattle.definition.specs.Point.{dimensions}
+use Rattle.definition.specs.Lists.{firstRefused}
 use Rattle.definition.specs.Overlap.{firstOverlap}
 use Rattle.definition.specs.Box.{boxCount}
-use Rattle.definition.specs.Fold.{Drained, fine, over, orElse, atRule, judged, drain}
+use Rattle.definition.specs.Fold.{Drained, fine, over, orElse, asMet, judged, drain}
 
 -- ## The drained rules
 pub drained-fewer : (rs : List Rule) → length (drained rs) ≤ length rs
@@ -65,9 +66,13 @@ both-fine : (a b : Drained) → orElse a b ≡ fine → (a ≡ fine) × (b ≡ f
 both-fine fine b h = (refl, h)
 both-fine (over c p) b h = absurd (refused-not-fine c p h)
 
-none-at : (c : ℕ) (o : Option ℕ) → atRule c o ≡ fine → o ≡ none
-none-at c none h = refl
-none-at c (some k) h = absurd (refused-not-fine c k h)
+none-met : (o : Option (ℕ × ℕ)) → asMet o ≡ fine → o ≡ none
+none-met none h = refl
+none-met (some m) h = absurd (refused-not-fine (m .0) (m .1) h)
+
+none-twice : (c : ℕ) (o : Option ℕ) → asMet (Option·map (λ k. (c, k)) o) ≡ fine → o ≡ none
+none-twice c none h = refl
+none-twice c (some k) h = absurd (refused-not-fine c k h)
 
 module _ (limits : Limits) (rs : List Rule) where
   pub drain-twice : (k : ℕ) → firstOverlap rs ≡ some k → drain limits rs ≡ over daysTwice k
@@ -80,22 +85,22 @@ module _ (limits : Limits) (rs : List Rule) where
     drain-many h = let e = lt-ltb (limits .boxes) (boxCount dimensions rs) h in rw (apart, e, judged) refl
 
     module _ (few : boxCount dimensions rs ≤ limits .boxes) where
-      pub drain-long : (k : ℕ) → firstTooLong (limits .entries) rs ≡ some k → drain limits rs ≡ over longList k
+      pub drain-lists : (c k : ℕ) → firstRefused limits rs ≡ some (c, k) → drain limits rs ≡ over c k
       unfolding drain judged
-      drain-long k h = let e = le-ltb (limits .boxes) (boxCount dimensions rs) few in rw (apart, e, h, judged) refl
+      drain-lists c k h = let e = le-ltb (limits .boxes) (boxCount dimensions rs) few in rw (apart, e, h, judged) refl
 
-      pub drain-fine : firstTooLong (limits .entries) rs ≡ none → drain limits rs ≡ fine
+      pub drain-fine : firstRefused limits rs ≡ none → drain limits rs ≡ fine
       unfolding drain judged
       drain-fine h = let e = le-ltb (limits .boxes) (boxCount dimensions rs) few in rw (apart, e, h, judged) refl
 
   -- and what fine says
-  pub fine-drain : drain limits rs ≡ fine → (firstOverlap rs ≡ none) × (boxCount dimensions rs ≤ limits .boxes) × (firstTooLong (limits .entries) rs ≡ none)
+  pub fine-drain : drain limits rs ≡ fine → (firstOverlap rs ≡ none) × (boxCount dimensions rs ≤ limits .boxes) × (firstRefused limits rs ≡ none)
   unfolding drain judged
   fine-drain h =
       let boxes = boxCount dimensions rs in
-      let j = both-fine (atRule daysTwice (firstOverlap rs)) _ h in
-      let k = both-fine (cond (ltb (limits .boxes) boxes) (over manyBoxes boxes) fine) (atRule longList (firstTooLong (limits .entries) rs)) (j .1) in
-      (none-at daysTwice (firstOverlap rs) (j .0), within (ltb (limits .boxes) boxes) refl (k .0), none-at longList (firstTooLong (limits .entries) rs) (k .1))
+      let j = both-fine (asMet (Option·map (λ k. (daysTwice, k)) (firstOverlap rs))) _ h in
+      let k = both-fine (cond (ltb (limits .boxes) boxes) (over manyBoxes boxes) fine) (asMet (firstRefused limits rs)) (j .1) in
+      (none-twice daysTwice (firstOverlap rs) (j .0), within (ltb (limits .boxes) boxes) refl (k .0), none-met (firstRefused limits rs) (k .1))
     where
       within : (b : Bool) → ltb (limits .boxes) (boxCount dimensions rs) ≡ b → cond b (over manyBoxes (boxCount dimensions rs)) fine ≡ fine
           → boxCount dimensions rs ≤ limits .boxes

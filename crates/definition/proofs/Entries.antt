@@ -11,9 +11,10 @@ use lib.ListN.{length, length-append, length-map}
 use Rattle.laws.specs.Lists.{keep, All, Mem}
 use Rattle.laws.proofs.Lists.{All-map}
 use Rattle.laws.proofs.Tests.{exact-eqb}
+use Rattle.laws.proofs.Distinct.{distinct-count}
 use Rattle.grid.specs.Group.{Group, groups}
 use Rattle.grid.specs.Cut.{coordinates, asRuns}
-use Rattle.grid.proofs.Distinct.{values, groups-distinct, groups-values, distinct-count}
+use Rattle.grid.proofs.Distinct.{values, groups-distinct, groups-values}
 use Rattle.definition.specs.Rule.{State, closed, sameState, Span, Rule}
 use Rattle.definition.specs.Day.{Stated, Entry, Day, simple, stated, flattened, runOf, afterRun, painting, joinGroup, byState, grouped, stateClasses, minuteBounds, painted, asEntry, paintedEntries, sortedEntry, dayOf, entryOf, day}
 use Rattle.definition.proofs.Same.{exact-state}

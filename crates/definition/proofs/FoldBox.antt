@@ -1,37 +1,42 @@
 -- THE FOLD OVER POINTS IS THE FOLD OVER BOXES, for all lawful rules, and so for every sheet. Rests on grid's law that points are boxes, and on
 -- the same law of days and of overlaps.
-use mathlib.Core.Path.{_≡_, refl, sym, ap, ap₂, _∙_}
+use mathlib.Core.Path.{_≡_, refl, ap, ap₂, _∙_}
 use mathlib.Core.List.{List, [], _∷_, _++_, map, flatMap}
 use mathlib.Core.Bool.{Bool, true, false, cond}
-use Prim.Native.Nat.{ℕ, zero, suc, _+_, _*_, _<_}
+use mathlib.Core.Option.{Option}
+use Prim.Native.Nat.{ℕ, suc, _+_, _*_, _<_}
 use native.Mathlib.Omega.{arith}
-use lib.Dec.{ltb}
+use lib.Dec.{eqb, ltb}
 use lib.ListN.{length, take}
-use lib.Seq.{take-length}
-use Rattle.laws.specs.Lists.{from, firstOf, onlyIf, count, All}
-use Rattle.laws.proofs.Lists.{All-map}
+use Rattle.laws.specs.Lists.{from, firstOf, count, filled, All}
+use Rattle.laws.specs.Tests.{sameList}
+use Rattle.laws.proofs.Lists.{All-map, All-take}
+use Rattle.laws.proofs.Tests.{exact-eqb, exact-list}
 use Rattle.laws.proofs.Spread.{flatMap-all}
-use Rattle.grid.specs.Group.{somewhere, groups}
+use Rattle.grid.specs.Group.{Map, somewhere, groups}
 use Rattle.grid.specs.Cut.{Range, sameRange, holds, starts, asJoined}
 use Rattle.grid.proofs.Cut.{Inside, Marks}
+use Rattle.grid.proofs.Values.{values-counted}
 use Rattle.grid.proofs.Box.{Proper, Within, SameMarks, somewhere-boxes, groups-boxes}
 use Rattle.definition.specs.Rule.{Rule}
 use Rattle.definition.specs.Field.{Read, got, refused}
 use Rattle.definition.specs.Sheet.{Form, Limits, decode}
 use Rattle.definition.specs.Range.{ranges}
 use Rattle.definition.specs.Stop.{stops, drained}
-use Rattle.definition.specs.Point.{Dimension, dimensions, allBounds, points, selector, combinations, after, listFrom, listAt, tooLong, firstTooLong}
+use Rattle.definition.specs.Point.{Dimension, dimensions, allBounds, points, selector, combinations, listAt}
+use Rattle.definition.specs.Lists.{indexesAt, listCount, tooLong, refusedAt, firstRefused}
 use Rattle.definition.specs.Box.{allRanges}
 use Rattle.definition.specs.Day.{day}
 use Rattle.definition.specs.Group.{sameDay, dayAt, dayClasses, pages, folded, rulesOf}
 use Rattle.definition.specs.Fold.{judged, drain, foldRules, fold}
-use Rattle.definition.specs.OverBoxes.{foldOverBoxes, cutRanges, ruleBoxes, firstTooLongOverBoxes, pagesOverBoxes, foldedOverBoxes}
+use Rattle.definition.specs.OverBoxes.{foldOverBoxes, cutRanges, ruleBoxes, listCountOverBoxes, firstRefusedOverBoxes, drainOverBoxes, pagesOverBoxes, foldedOverBoxes}
 use Rattle.definition.proofs.Bits.{Bytes}
 use Rattle.definition.proofs.SheetRead.{encode-decoded}
 use Rattle.definition.proofs.Same.{exact-day}
 use Rattle.definition.proofs.DayBox.{day-intervals}
 use Rattle.definition.proofs.Lawful.{Lawful, LawfulIn, ranges-inside, rules-lawful}
 use Rattle.definition.proofs.Overlap.{first-overlap-ends}
+use Rattle.definition.proofs.Points.{Alike, list-alike, indexes-alike}
 
 pub bounds-proper : Proper allBounds
 bounds-proper = omega arith
@@ -85,27 +90,44 @@ marks-split (d ∷ ds) r rs (x ∷ p) (y ∷ q) h =
     let l = marks-split ds r rs p q (h .1) in
     ((k .0, l .0), (k .1, l .1))
 
-pub list-marks : (l rs : List Rule) (n : ℕ) (p q : List ℕ) → SameMarks (cutRanges rs) p q → listFrom l (take n rs) p ≡ listFrom l (take n rs) q
-unfolding listFrom
-list-marks l rs zero p q h = refl
-list-marks l [] (suc n) p q h = refl
-list-marks l (r ∷ rs) (suc n) p q h =
-    let k = marks-split dimensions r rs p q h in
-    ap (λ c. listFrom (after r c l) (take n rs) p) (combinations-marks (selector dimensions r) p q (k .0))
-    ∙ list-marks (after r (combinations (selector dimensions r) q) l) rs n p q (k .1)
+marks-alike : (rs : List Rule) (p q : List ℕ) → SameMarks (cutRanges rs) p q → Alike rs p q
+marks-alike [] p q h = tt
+marks-alike (r ∷ rs) p q h = let k = marks-split dimensions r rs p q h in (combinations-marks (selector dimensions r) p q (k .0), marks-alike rs p q (k .1))
+
+-- after the first n rules, by rules and by indexes; and after all
+pub list-marks : (rs : List Rule) (n : ℕ) (p q : List ℕ) → SameMarks (cutRanges rs) p q → listAt (take n rs) p ≡ listAt (take n rs) q
+list-marks rs n p q h = list-alike [] (take n rs) p q (All-take _ n rs (marks-alike rs p q h))
+
+pub indexes-marks : (rs : List Rule) (n : ℕ) (p q : List ℕ) → SameMarks (cutRanges rs) p q → indexesAt (take n rs) p ≡ indexesAt (take n rs) q
+indexes-marks rs n p q h = indexes-alike 0 [] (take n rs) p q (All-take _ n rs (marks-alike rs p q h))
 
 pub list-all : (rs : List Rule) (p q : List ℕ) → SameMarks (cutRanges rs) p q → listAt rs p ≡ listAt rs q
-list-all rs p q h = ap (λ z. listFrom [] z p) (sym (take-length rs)) ∙ list-marks [] rs (length rs) p q h ∙ ap (λ z. listFrom [] z q) (take-length rs)
+list-all rs p q h = list-alike [] rs p q (marks-alike rs p q h)
 
 module _ (rs : List Rule) (h : All Lawful rs) where
-  -- code 6
-  pub long-boxes : (limit : ℕ) → firstTooLong limit rs ≡ firstTooLongOverBoxes limit rs
-  unfolding firstTooLong firstTooLongOverBoxes tooLong
-  long-boxes limit = ap (λ (t : ℕ → Bool). firstOf (λ k. onlyIf (t k) k) (from 0 (length rs))) (λ i k. same k i)
-    where
-      same : (k : ℕ) → somewhere points (tooLong limit rs k) ≡ somewhere (ruleBoxes rs) (λ is. tooLong limit rs k (starts is))
-      same k = somewhere-boxes allBounds bounds-proper (cutRanges rs) (lawful-within rs h) (tooLong limit rs k)
-          (λ p q m. ap (λ l. ltb limit (length l)) (list-marks [] rs (suc k) p q m))
+  -- a test that each point answers as its box does
+  some-box : (t : Map ℕ Bool) → ((p q : List ℕ) → SameMarks (cutRanges rs) p q → t p ≡ t q) → somewhere points t ≡ somewhere (ruleBoxes rs) (λ is. t (starts is))
+  some-box t by = somewhere-boxes allBounds bounds-proper (cutRanges rs) (lawful-within rs h) t by
+
+  -- 6 and 14
+  long-boxes : (limit k : ℕ) → somewhere points (tooLong limit rs k) ≡ somewhere (ruleBoxes rs) (λ is. tooLong limit rs k (starts is))
+  unfolding tooLong
+  long-boxes limit k = some-box (tooLong limit rs k) (λ p q m. ap (λ l. ltb limit (length l)) (list-marks rs (suc k) p q m))
+
+  pub count-boxes : (n : ℕ) → listCount rs n ≡ listCountOverBoxes rs n
+  unfolding listCount listCountOverBoxes
+  count-boxes n =
+      values-counted (exact-list exact-eqb) filled points (indexesAt (take n rs)) (ruleBoxes rs) (λ is. indexesAt (take n rs) (starts is))
+      (λ w. some-box (λ p. sameList eqb w (indexesAt (take n rs) p)) (λ p q m. ap (sameList eqb w) (indexes-marks rs n p q m)))
+
+  refused-boxes : (limits : Limits) → firstRefused limits rs ≡ firstRefusedOverBoxes limits rs
+  unfolding firstRefused firstRefusedOverBoxes
+  refused-boxes limits =
+      ap (λ (t : ℕ → Option (ℕ × ℕ)). firstOf t (from 0 (length rs))) (λ i k. ap₂ (refusedAt limits k) (long-boxes (limits .entries) k) (count-boxes (suc k)) i)
+
+  pub drain-boxes : (limits : Limits) → drain limits rs ≡ drainOverBoxes limits rs
+  unfolding drain drainOverBoxes
+  drain-boxes limits = ap₂ (judged limits rs) (first-overlap-ends rs h) (refused-boxes limits)
 
   -- the groups
   pub pages-boxes : pages rs ≡ pagesOverBoxes rs
@@ -131,7 +153,7 @@ drained-all P (r ∷ rs) h = go (stops r) refl (drained-all P rs (h .1))
 
 -- THE FOLD OF A SHEET OVER POINTS IS ITS FOLD OVER BOXES
 pub fold-boxes : (form : Form) (limits : Limits) (room : ℕ) (s : List ℕ) → Bytes s → fold form limits room s ≡ foldOverBoxes form limits room s
-unfolding fold foldOverBoxes drain
+unfolding fold foldOverBoxes
 fold-boxes form limits room s h = go (decode form limits s) refl
   where
     go : (r : Read (List Rule)) → decode form limits s ≡ r → fold form limits room s ≡ foldOverBoxes form limits room s
@@ -139,4 +161,4 @@ fold-boxes form limits room s h = go (decode form limits s) refl
     go (got rs q) e =
         let k = drained-all Lawful rs (rules-lawful form limits rs (encode-decoded form limits s h rs q e .0)) in
         rw (e, fold, foldOverBoxes) (ap₂ (λ j page. foldRules form limits room rs j page)
-        (ap₂ (judged limits (drained rs)) (first-overlap-ends (drained rs) k) (long-boxes (drained rs) k (limits .entries))) (folded-boxes (drained rs) k))
+        (drain-boxes (drained rs) k limits) (folded-boxes (drained rs) k))

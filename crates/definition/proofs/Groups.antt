@@ -4,26 +4,26 @@ use mathlib.Core.Path.{_≡_, refl, sym, ap, _∙_, subst}
 use mathlib.Core.List.{List, [], _∷_, map}
 use mathlib.Core.Option.{none}
 use mathlib.Core.Bool.{Bool, true, false, cond, true≢false}
-use Prim.Native.Nat.{ℕ, suc, _≤_, _<_}
+use Prim.Native.Nat.{ℕ, suc, _≤_}
 use native.Mathlib.Omega.{arith}
-use lib.Dec.{eqb, ltb}
-use lib.ListN.{length, take, length-map}
-use lib.Seq.{take-length}
-use borrow.Author.Tests.{ltb-false}
-use Rattle.laws.specs.Lists.{from, onlyIf, All, Mem, OnNone}
-use Rattle.laws.proofs.Lists.{All-map, firstOf-none}
+use lib.Dec.{eqb}
+use lib.ListN.{length, length-map}
+use Rattle.laws.specs.Lists.{All}
+use Rattle.laws.proofs.Lists.{All-map}
 use Rattle.laws.proofs.Tests.{exact-eqb}
-use Rattle.laws.proofs.Numbers.{Mem-from}
-use Rattle.grid.specs.Group.{Group, inside, somewhere, clear, groups}
+use Rattle.grid.specs.Group.{Group, inside, clear, groups}
 use Rattle.grid.specs.Cut.{asRuns}
 use Rattle.grid.proofs.Part.{groups-each}
-use Rattle.grid.proofs.Value.{pop-inside, clear-value, somewhere-none}
+use Rattle.grid.proofs.Value.{pop-inside, clear-value}
 use Rattle.grid.proofs.Cover.{found, Separate, groups-found, groups-separate}
 use Rattle.definition.specs.Rule.{Rule}
-use Rattle.definition.specs.Point.{points, listFrom, listAt, tooLong, firstTooLong}
+use Rattle.definition.specs.Sheet.{Limits}
+use Rattle.definition.specs.Point.{points, listAt}
+use Rattle.definition.specs.Lists.{firstRefused}
 use Rattle.definition.specs.Day.{Day}
 use Rattle.definition.specs.Group.{sameDay, dayAt, dayClasses, Page, pages, asRules, rulesOf}
 use Rattle.definition.proofs.Same.{exact-day}
+use Rattle.definition.proofs.Lists.{short-lists}
 use Rattle.definition.proofs.Entries.{day-entries}
 
 pub classes-empty : All (λ ok. ok [] ≡ false) dayClasses
@@ -66,28 +66,6 @@ module _ (rs : List Rule) where
       runs [] k = tt
       runs (g ∷ gs) k = (k .0, runs gs (k .1))
 
-  -- with no rule too long, every point's list keeps the limit
-  pub short-lists : (limit : ℕ) → firstTooLong limit rs ≡ none → (p : List ℕ) → inside eqb points p ≡ true → length (listAt rs p) ≤ limit
-  unfolding firstTooLong tooLong
-  short-lists limit h p i = go rs refl
-    where
-      none-at : (k : ℕ) → k < length rs → onlyIf (somewhere points (tooLong limit rs k)) k ≡ none
-      none-at k l = subst (OnNone ((j : ℕ) → Mem j (from 0 (length rs)) → onlyIf (somewhere points (tooLong limit rs j)) j ≡ none)) h
-          (firstOf-none (λ j. onlyIf (somewhere points (tooLong limit rs j)) j) (from 0 (length rs))) k (Mem-from k 0 (length rs) (omega arith) (omega arith))
-
-      nowhere : (k : ℕ) (b : Bool) → somewhere points (tooLong limit rs k) ≡ b → onlyIf b k ≡ none → b ≡ false
-      nowhere k true e n = let z : _≡_ {A = ℕ} 0 1 = cc in absurd (omega arith)
-      nowhere k false e n = refl
-
-      go : (qs : List Rule) → rs ≡ qs → length (listAt rs p) ≤ limit
-      go [] e = subst (λ l. length (listAt l p) ≤ limit) (sym e) (unfold listFrom in omega arith)
-      go (q ∷ qs) e =
-          let n : length rs ≡ suc (length qs) = ap length e in
-          let k = nowhere (length qs) (somewhere points (tooLong limit rs (length qs))) refl (none-at (length qs) (omega arith)) in
-          let t : ltb limit (length (listAt (take (suc (length qs)) rs) p)) ≡ false = somewhere-none exact-eqb points (tooLong limit rs (length qs)) k p i in
-          let w : take (suc (length qs)) rs ≡ rs = ap (λ m. take m rs) (sym n) ∙ take-length rs in
-          ltb-false limit (length (listAt rs p)) (ap (λ l. ltb limit (length (listAt l p))) (sym w) ∙ t)
-
   rules-length : (g : Page) → length (rulesOf g) ≡ length (g .0)
   unfolding rulesOf
   rules-length g = length-map (asRules (g .0)) _ ∙ go (g .0)
@@ -97,8 +75,8 @@ module _ (rs : List Rule) where
       go (e ∷ d) = ap suc (length-map d _)
 
   -- A GROUP HAS AT MOST 33 RULES: one more than the limit of a list
-  pub group-rules : (limit : ℕ) → firstTooLong limit rs ≡ none → All (λ g. length (rulesOf g) ≤ suc limit) (pages rs)
+  pub group-rules : (limits : Limits) → firstRefused limits rs ≡ none → All (λ g. length (rulesOf g) ≤ suc (limits .entries)) (pages rs)
   unfolding dayAt
-  group-rules limit h =
-      All-map (λ g k. subst (_≤ suc limit) (sym (rules-length g)) k) (pages rs)
-      (pages-each (λ d. length d ≤ suc limit) (omega arith) (λ p i. omega (arith, day-entries (listAt rs p), short-lists limit h p i)))
+  group-rules limits h =
+      All-map (λ g k. subst (_≤ suc (limits .entries)) (sym (rules-length g)) k) (pages rs)
+      (pages-each (λ d. length d ≤ suc (limits .entries)) (omega arith) (λ p i. omega (arith, day-entries (listAt rs p), short-lists limits rs h p i)))

@@ -12,6 +12,8 @@ pub mod Carried
 pub mod Overlap
 pub mod Once
 pub mod Points
+pub mod Lists
+pub mod ListCounts
 pub mod FoldBox
 pub mod DayHolds
 pub mod Entries
@@ -31,6 +33,7 @@ pub mod WorkedLines
 pub mod WorkedDates
 pub mod WorkedForms
 pub mod WorkedCounts
+pub mod WorkedLists
 pub mod Drained
 pub mod Why
 pub mod FoldCases

@@ -82,11 +82,11 @@ module _ (before : List Rule) (r : Rule) where
         ∙ sym (map-append (λ k. getD all k noRule) (e .0) (length before ∷ [])),
   )
 
-  next : (l : List Rule) (n : ℕ) → n ≤ 1 → InTurn noRule before l → InTurn noRule all (after r n l)
+  next : (l : List Rule) (n : ℕ) → n ≤ 1 → InTurn noRule before l → InTurn noRule all (after (replaces r) r n l)
   unfolding after
   next l n few e = go n few (replaces r) refl
     where
-      go : (n : ℕ) → n ≤ 1 → (b : Bool) → replaces r ≡ b → InTurn noRule all (after r n l)
+      go : (n : ℕ) → n ≤ 1 → (b : Bool) → replaces r ≡ b → InTurn noRule all (after (replaces r) r n l)
       go zero m true t = rw (t, after) (stays l e)
       go zero m false t = rw (t, after) (subst (InTurn noRule all) (sym (append-nil l)) (stays l e))
       go (suc zero) m true t = rw (t, after) (added [] ([], tt, refl))
@@ -98,8 +98,8 @@ unfolding listFrom
 turns p before [] l h e = subst (λ q. InTurn noRule q l) (sym (append-nil before)) e
 turns p before (r ∷ rs) l h e =
     let n = combinations (selector dimensions r) p in
-    subst (λ q. InTurn noRule q (listFrom (after r n l) rs p)) (append-assoc before (r ∷ []) rs)
-    (turns p (before ++ (r ∷ [])) rs (after r n l) (h .1) (next before r l n (h .0) e))
+    subst (λ q. InTurn noRule q (listFrom (after (replaces r) r n l) rs p)) (append-assoc before (r ∷ []) rs)
+    (turns p (before ++ (r ∷ [])) rs (after (replaces r) r n l) (h .1) (next before r l n (h .0) e))
 
 -- NO RULE TWICE
 pub list-in-turn : (rs : List Rule) (p : List ℕ) → All (λ r. combinations (selector dimensions r) p ≤ 1) rs → InTurn noRule rs (listAt rs p)

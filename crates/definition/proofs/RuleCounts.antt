@@ -247,7 +247,7 @@ module _ (form : Form) (limits : Limits) where
           rule-count-fits rs fits,
           rest .1,
           length-append (flatMap rulesOf (pages ds)) (left rs),
-          flatMap-length rulesOf (suc (limits .entries)) (pages ds) (group-rules ds (limits .entries) (d .2)),
+          flatMap-length rulesOf (suc (limits .entries)) (pages ds) (group-rules ds limits (d .2)),
           mul-le-mul-right (suc (limits .entries)) (pages-count ds lawful),
           mul-le-mul-right (suc (limits .entries)) (d .1),
         );
@@ -257,6 +257,6 @@ module _ (form : Form) (limits : Limits) where
             (All-map (λ R l. omega (arith, l, d .1, roomy .items-room)) (g .1) k) b)
             (pages ds) (pages-few ds lawful)
             (All-map (λ g k. All-map (λ x l. omega (arith, l, roomy .spans-room)) (g .0) k) (pages ds)
-            (pages-brief (limits .entries) (limits .spans) ds (d .2) spans))))
+            (pages-brief limits (limits .spans) ds (d .2) spans))))
             (rest .0);
       }

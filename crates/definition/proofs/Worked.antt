@@ -8,20 +8,21 @@ use borrow.Author.Tests.{ltb-true}
 use Rattle.laws.proofs.Flags.{split-and}
 use Rattle.laws.proofs.Lists.{every-all}
 use Rattle.laws.proofs.Tests.{exact-eqb, exact-list}
-use Rattle.laws.specs.Lists.{All, from, firstOf, every, anyOf, anyPair, firstIndex, count, keep}
+use Rattle.laws.specs.Lists.{All, from, firstOf, every, anyOf, anyPair, firstIndex, count, keep, distinct}
 use Rattle.laws.specs.Tests.{sameList, sameOption}
-use Rattle.grid.specs.Group.{size, somewhere, agree, grow, pop, clear, takeOut, sweepFor, sweep, groups}
+use Rattle.grid.specs.Group.{size, pointsOf, somewhere, agree, grow, pop, clear, takeOut, sweepFor, sweep, groups}
 use Rattle.grid.specs.Cut.{cutAt, cuts, between, intervals, boxes, glue, joined}
 use Rattle.definition.specs.Field.{bits, number, sheetBits, bytes, packed, fieldAt, readField, readAll, field, noBits, _then_, via, tagged, several}
 use Rattle.definition.specs.Rule.{notAbove, insertSpan, sorted, sameTime}
 use Rattle.definition.specs.Sheet.{yearRange, monthdayOf, monthdayRange, weekRange, weekdayOf, weekDayRange, timeOf, time, repeatsOf, repeatsLayout, span, title, counts, head, body, rule, opening, rules, firstSet, ended, decode, encode}
 use Rattle.definition.specs.Range.{split, ranges}
 use Rattle.definition.specs.Stop.{stops, firstThatApplies, reason, drained, left, why}
-use Rattle.definition.specs.Point.{selector, combinations, after, listFrom, tooLong}
+use Rattle.definition.specs.Point.{selector, combinations, after, listFrom}
+use Rattle.definition.specs.Lists.{indexesFrom, tooLong}
 use Rattle.definition.specs.Box.{boxCount}
 use Rattle.definition.specs.Day.{simple, flattened, runOf, afterRun, painting, joinGroup, byState, grouped, lastOver}
 use Rattle.definition.specs.Group.{itemsOf, laidOver, rulesOf}
-use Rattle.definition.specs.OverBoxes.{paintedOverIntervals, dayOverIntervals, overlapsOverEnds, firstOverlapOverEnds, firstTooLongOverBoxes, pagesOverBoxes, foldedOverBoxes, foldOverBoxes}
+use Rattle.definition.specs.OverBoxes.{paintedOverIntervals, dayOverIntervals, overlapsOverEnds, firstOverlapOverEnds, listCountOverBoxes, firstRefusedOverBoxes, drainOverBoxes, pagesOverBoxes, foldedOverBoxes, foldOverBoxes}
 use Rattle.definition.specs.Sheet.{form1, sheetLimits}
 use Rattle.definition.specs.Fold.{numbers, judged, manyItems, passesCounts, fitted, carried, foldRules}
 use Rattle.definition.specs.Worked.{Case, cases, room, Worked}
@@ -36,12 +37,12 @@ agrees c =
     sameList eqb (numbers f) (c .answer) && (sameList eqb (f .result) (c .written) && every (λ b. ltb b 256) (c .sheet))
 
 computed : (every agrees cases ≡ true) × (every agrees overlapCases ≡ true)
-unfolding agrees flatMap from firstOf every anyOf anyPair firstIndex count keep sameList sameOption size somewhere agree grow pop clear takeOut sweepFor sweep groups
+unfolding agrees flatMap from firstOf every anyOf anyPair firstIndex count keep distinct sameList sameOption size pointsOf somewhere agree grow pop clear takeOut sweepFor sweep groups
     cutAt cuts between intervals boxes glue joined bits number sheetBits bytes packed fieldAt readField readAll field noBits _then_ via tagged several
     notAbove insertSpan sorted sameTime yearRange monthdayOf monthdayRange weekRange weekdayOf weekDayRange timeOf time repeatsOf repeatsLayout span
-    title counts head body rule opening rules firstSet ended decode encode split ranges stops firstThatApplies reason drained left why selector combinations after listFrom tooLong boxCount
+    title counts head body rule opening rules firstSet ended decode encode split ranges stops firstThatApplies reason drained left why selector combinations after listFrom indexesFrom tooLong boxCount
     simple flattened runOf afterRun painting joinGroup byState grouped lastOver itemsOf laidOver rulesOf judged manyItems passesCounts fitted carried foldRules paintedOverIntervals
-    dayOverIntervals overlapsOverEnds firstOverlapOverEnds firstTooLongOverBoxes pagesOverBoxes foldedOverBoxes foldOverBoxes
+    dayOverIntervals overlapsOverEnds firstOverlapOverEnds listCountOverBoxes firstRefusedOverBoxes drainOverBoxes pagesOverBoxes foldedOverBoxes foldOverBoxes
 computed = (refl, refl)
 
 pub are-bytes : (s : List ℕ) → every (λ b. ltb b 256) s ≡ true → Bytes s

@@ -8,20 +8,21 @@ use lib.Dec.{eqb, ltb}
 use Rattle.laws.proofs.Flags.{split-and}
 use Rattle.laws.proofs.Lists.{every-all}
 use Rattle.laws.proofs.Tests.{exact-eqb, exact-list, exact-pair}
-use Rattle.laws.specs.Lists.{All, from, firstOf, every, anyOf, anyPair, firstIndex, count, keep}
+use Rattle.laws.specs.Lists.{All, from, firstOf, every, anyOf, anyPair, firstIndex, count, keep, distinct}
 use Rattle.laws.specs.Tests.{sameList, samePair, sameOption}
-use Rattle.grid.specs.Group.{size, somewhere, agree, grow, pop, clear, takeOut, sweepFor, sweep, groups}
+use Rattle.grid.specs.Group.{size, pointsOf, somewhere, agree, grow, pop, clear, takeOut, sweepFor, sweep, groups}
 use Rattle.grid.specs.Cut.{cutAt, cuts, between, intervals, boxes, glue, joined}
 use Rattle.definition.specs.Field.{bits, number, sheetBits, bytes, packed, unlawful, fieldAt, readField, readAll, field, noBits, _then_ as _thenBits_, via, tagged, several as severalBits}
 use Rattle.definition.specs.Rule.{sameTime}
 use Rattle.definition.specs.Sheet.{Form, sheetLimits, weekdayOf, weekDayRange, timeOf, time, repeatsOf, repeatsLayout, span, title, counts, head, body, rule, opening, rules, firstSet, ended, decode, encode}
 use Rattle.definition.specs.Range.{split, ranges}
 use Rattle.definition.specs.Stop.{stops, drained, left, why}
-use Rattle.definition.specs.Point.{selector, combinations, after, listFrom, tooLong}
+use Rattle.definition.specs.Point.{selector, combinations, after, listFrom}
+use Rattle.definition.specs.Lists.{indexesFrom, tooLong}
 use Rattle.definition.specs.Box.{boxCount}
 use Rattle.definition.specs.Day.{simple, flattened, painting, grouped, lastOver}
 use Rattle.definition.specs.Group.{itemsOf, laidOver, rulesOf}
-use Rattle.definition.specs.OverBoxes.{paintedOverIntervals, dayOverIntervals, overlapsOverEnds, firstOverlapOverEnds, firstTooLongOverBoxes, pagesOverBoxes, foldedOverBoxes, foldOverBoxes}
+use Rattle.definition.specs.OverBoxes.{paintedOverIntervals, dayOverIntervals, overlapsOverEnds, firstOverlapOverEnds, listCountOverBoxes, firstRefusedOverBoxes, drainOverBoxes, pagesOverBoxes, foldedOverBoxes, foldOverBoxes}
 use Rattle.definition.specs.Fold.{Folded, numbers, refusal, writtenInto, judged, manyItems, passesCounts, fitted, carried, foldRules, fold, writeBack}
 use Rattle.definition.specs.Lookup.{lookup}
 use Rattle.definition.specs.Text.{ascii, digits, decimalIn, word, padded, plain, named, _then_, of, unless, only, several}
@@ -62,12 +63,12 @@ agrees : Case → Bool
 agrees c = samePair (sameList eqb) (sameList eqb) (computes (c .entry) (c .form) (c .sheet)) (c .answer, c .written) && every (λ b. ltb b 256) (c .sheet)
 
 computed : every agrees cases ≡ true
-unfolding agrees computes foldInBoxes flatMap from firstOf every anyOf anyPair firstIndex count keep sameList sameOption size somewhere agree grow pop clear
+unfolding agrees computes foldInBoxes flatMap from firstOf every anyOf anyPair firstIndex count keep distinct sameList sameOption size pointsOf somewhere agree grow pop clear
     takeOut sweepFor sweep groups cutAt cuts between intervals boxes glue joined bits number sheetBits bytes packed fieldAt readField readAll field noBits
     _thenBits_ via tagged severalBits sameTime weekdayOf weekDayRange timeOf time repeatsOf repeatsLayout span title counts head body rule opening rules
-    firstSet ended decode encode split ranges stops drained left why selector combinations after listFrom tooLong boxCount simple flattened painting grouped
+    firstSet ended decode encode split ranges stops drained left why selector combinations after listFrom indexesFrom tooLong boxCount simple flattened painting grouped
     lastOver itemsOf laidOver rulesOf judged manyItems passesCounts fitted carried foldRules paintedOverIntervals dayOverIntervals overlapsOverEnds firstOverlapOverEnds
-    firstTooLongOverBoxes pagesOverBoxes foldedOverBoxes foldOverBoxes ascii digits decimalIn word padded plain named _then_ of unless only several item
+    listCountOverBoxes firstRefusedOverBoxes drainOverBoxes pagesOverBoxes foldedOverBoxes foldOverBoxes ascii digits decimalIn word padded plain named _then_ of unless only several item
     weekdayText clock spanText stateText part ruleText lineOf line wordless firstWordless writtenInto showRules showLine writeBack lookup firstLongComment
     convertRules convert formNamed inForm writeBackIn showLineIn lookupIn convertIn
 computed = refl

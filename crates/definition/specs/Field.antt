@@ -88,6 +88,10 @@ longComment = 12
 abbrev pub pastCounts : ℕ
 pastCounts = 13
 
+-- fold and lookup (02, M-108): too many lists stand at points after a drained rule
+abbrev pub manyLists : ℕ
+manyLists = 14
+
 -- ## Readings
 -- a value and the bit after it, or a refusal: its code and its place
 pub data Read (A : Type 0) : Type 0 where

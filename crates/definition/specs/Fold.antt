@@ -1,20 +1,21 @@
 -- 01, "Numbers of the answer": "The fold answers code, drained, emitted (folded rules only), left (rules copied), bytes written, place. On a
 -- refusal every number but code and place is 0." Order: "1, 2 and 4 as met from the first bit on; then 3, 8, 5, 6, 9, 7", and 02's 11 "after
--- 8, before 5", 13 "after 9, before 7". "On code 0 the result stands at the front of the buffer and later bytes are unchanged." "The rules left are copied bit by bit after them."
+-- 8, before 5", 14 "in the old place of 6", 13 "after 9, before 7". "On code 0 the result stands at the front of the buffer and later bytes are unchanged." "The rules left are copied bit by bit after them."
 -- 02, M-107: "A fold written as form 1 may now need more rules or ranges than its counts can carry; form 2 always can."
 -- 02, M-105: why the fold stopped "passes through the drain into the fold's answer as a seventh number, 0 on refusals".
 use mathlib.Core.List.{List, [], _∷_, _++_}
-use mathlib.Core.Option.{Option, none, some}
+use mathlib.Core.Option.{Option, none, some, Option·map}
 use mathlib.Core.Bool.{Bool, true, false, cond, _||_}
 use Prim.Native.Nat.{ℕ}
 use lib.Dec.{ltb}
 use lib.ListN.{length, drop}
 use Rattle.laws.specs.Lists.{anyOf}
-use Rattle.definition.specs.Field.{got, refused, daysTwice, manyBoxes, longList, pastCounts, noRoom}
+use Rattle.definition.specs.Field.{got, refused, daysTwice, manyBoxes, pastCounts, noRoom}
 use Rattle.definition.specs.Rule.{Rule}
 use Rattle.definition.specs.Sheet.{Form, Limits, mostRules, mostItems, decode, encode}
 use Rattle.definition.specs.Stop.{drained, left, why}
-use Rattle.definition.specs.Point.{dimensions, firstTooLong}
+use Rattle.definition.specs.Point.{dimensions}
+use Rattle.definition.specs.Lists.{firstRefused}
 use Rattle.definition.specs.Overlap.{firstOverlap}
 use Rattle.definition.specs.Box.{boxCount}
 use Rattle.definition.specs.Group.{folded}
@@ -62,7 +63,7 @@ writtenInto room result = elim (ltb room (length result)) [
   | false ↦ record { code = 0; bytes = length result; place = 0; result = result }
 ]
 
--- ## Draining, with 11, 5 and 6
+-- ## Draining, with 11, 5, 6 and 14
 -- the drained rules pass, or they are refused: code and place
 pub data Drained : Type 0 where
   fine : Drained
@@ -73,20 +74,20 @@ abbrev pub orElse : Drained → Drained → Drained
 orElse fine d = d
 orElse (over c p) d = over c p
 
--- refused at a rule, if there is one
-abbrev pub atRule : ℕ → Option ℕ → Drained
-atRule c none = fine
-atRule c (some k) = over c k
+-- refused with a code and its place, if there are any
+abbrev pub asMet : Option (ℕ × ℕ) → Drained
+asMet none = fine
+asMet (some m) = over (m .0) (m .1)
 
--- 11: `overlap` is the first rule with days typed twice; then 5: boxes over the limit, the place their number; then 6: `long` is the first rule
--- after which some point's list is too long
-unfoldable pub judged : Limits → List Rule → Option ℕ → Option ℕ → Drained
-judged limits rs overlap long =
+-- 11: `overlap` is the first rule with days typed twice; then 5: boxes over the limit, the place their number; then 6 and 14: `met` is the first
+-- of them that was met, rule by rule, and its rule
+unfoldable pub judged : Limits → List Rule → Option ℕ → Option (ℕ × ℕ) → Drained
+judged limits rs overlap met =
     let boxes = boxCount dimensions rs in
-    orElse (atRule daysTwice overlap) (orElse (cond (ltb (limits .boxes) boxes) (over manyBoxes boxes) fine) (atRule longList long))
+    orElse (asMet (Option·map (λ k. (daysTwice, k)) overlap)) (orElse (cond (ltb (limits .boxes) boxes) (over manyBoxes boxes) fine) (asMet met))
 
 unfoldable pub drain : Limits → List Rule → Drained
-drain limits rs = judged limits rs (firstOverlap rs) (firstTooLong (limits .entries) rs)
+drain limits rs = judged limits rs (firstOverlap rs) (firstRefused limits rs)
 
 -- ## 13: what a form's counts can carry
 -- the five counts of a rule

@@ -4,6 +4,7 @@ pub mod Sheet
 pub mod Range
 pub mod Stop
 pub mod Point
+pub mod Lists
 pub mod Overlap
 pub mod Box
 pub mod Day
@@ -24,3 +25,4 @@ pub mod WorkedDates
 pub mod WorkedReasons
 pub mod WorkedForms
 pub mod WorkedCounts
+pub mod WorkedLists

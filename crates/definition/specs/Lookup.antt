@@ -1,6 +1,6 @@
 -- 01, "State lookup": "Takes a sheet, a year, month, day and minute (0 to 1439); gives kind and comment of the last covering span in that
 -- point's list, else Closed and 0. .. It answers code, kind, comment and the table's place; refused, kind and comment are 0."
--- Refusals: 1 to 4, then 8, 11 (02, M-101), 5, 6, 9. 9: "a rule is left, or the point's list holds a non-simple span".
+-- Refusals: 1 to 4, then 8, 11 (02, M-101), 5, 6 and 14 (M-108), 9. 9: "a rule is left, or the point's list holds a non-simple span".
 use mathlib.Core.List.{List, [], _∷_, map}
 use mathlib.Core.Bool.{Bool, true, false, _&&_, _||_, not}
 use Prim.Native.Nat.{ℕ}

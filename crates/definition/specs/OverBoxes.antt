@@ -3,21 +3,22 @@
 use mathlib.Core.List.{List, [], _∷_, _++_, map, flatMap}
 use mathlib.Core.Option.{Option}
 use mathlib.Core.Bool.{Bool, _&&_}
-use Prim.Native.Nat.{ℕ}
+use Prim.Native.Nat.{ℕ, suc}
 use lib.Dec.{ltb}
-use lib.ListN.{length}
-use Rattle.laws.specs.Lists.{from, firstOf, onlyIf, anyOf, anyPair, firstIndex}
-use Rattle.grid.specs.Group.{Set, groups, somewhere}
+use lib.ListN.{length, take}
+use Rattle.laws.specs.Lists.{from, firstOf, anyOf, anyPair, firstIndex}
+use Rattle.grid.specs.Group.{Set, pointsOf, groups, somewhere}
 use Rattle.grid.specs.Cut.{Range, sameRange, boxes, starts, asJoined}
 use Rattle.definition.specs.Rule.{closed, sameState, Rule}
 use Rattle.definition.specs.Field.{got, refused}
 use Rattle.definition.specs.Sheet.{Form, Limits, decode}
 use Rattle.definition.specs.Stop.{drained}
-use Rattle.definition.specs.Point.{dimensions, allBounds, selector, listAt, tooLong}
+use Rattle.definition.specs.Point.{dimensions, allBounds, selector, listAt}
+use Rattle.definition.specs.Lists.{indexesAt, distinctLists, tooLong, refusedAt}
 use Rattle.definition.specs.Box.{allRanges}
 use Rattle.definition.specs.Day.{Stated, Day, entryOf, flattened, minutesOf, minuteBounds, painted, painting, grouped, sortedEntry, asEntry, stateClasses}
 use Rattle.definition.specs.Group.{sameDay, dayClasses, Page, rulesOf}
-use Rattle.definition.specs.Fold.{Folded, refusal, judged, foldRules}
+use Rattle.definition.specs.Fold.{Folded, refusal, Drained, judged, foldRules}
 
 -- ## A day
 abbrev pub spanRanges : List Stated → List (List Range)
@@ -49,8 +50,15 @@ cutRanges rs = map (allRanges rs) dimensions
 abbrev pub ruleBoxes : List Rule → Set Range
 ruleBoxes rs = boxes allBounds (cutRanges rs)
 
-unfoldable pub firstTooLongOverBoxes : ℕ → List Rule → Option ℕ
-firstTooLongOverBoxes limit rs = firstOf (λ k. onlyIf (somewhere (ruleBoxes rs) (λ is. tooLong limit rs k (starts is))) k) (from 0 (length rs))
+unfoldable pub listCountOverBoxes : List Rule → ℕ → ℕ
+listCountOverBoxes rs n = length (distinctLists (map (λ is. indexesAt (take n rs) (starts is)) (pointsOf (ruleBoxes rs))))
+
+unfoldable pub firstRefusedOverBoxes : Limits → List Rule → Option (ℕ × ℕ)
+firstRefusedOverBoxes limits rs =
+    firstOf (λ k. refusedAt limits k (somewhere (ruleBoxes rs) (λ is. tooLong (limits .entries) rs k (starts is))) (listCountOverBoxes rs (suc k))) (from 0 (length rs))
+
+unfoldable pub drainOverBoxes : Limits → List Rule → Drained
+drainOverBoxes limits rs = judged limits rs (firstOverlapOverEnds rs) (firstRefusedOverBoxes limits rs)
 
 unfoldable pub pagesOverBoxes : List Rule → List Page
 pagesOverBoxes rs = map asJoined (groups sameDay sameRange [] dayClasses (ruleBoxes rs) (λ is. dayOverIntervals (listAt rs (starts is))))
@@ -61,7 +69,5 @@ foldedOverBoxes rs = flatMap rulesOf (pagesOverBoxes rs)
 unfoldable pub foldOverBoxes : Form → Limits → ℕ → List ℕ → Folded
 foldOverBoxes form limits room sheet = elim (decode form limits sheet) [
   | refused c p ↦ refusal c p
-  | got rs q ↦ foldRules form limits room rs
-      (judged limits (drained rs) (firstOverlapOverEnds (drained rs)) (firstTooLongOverBoxes (limits .entries) (drained rs)))
-      (foldedOverBoxes (drained rs))
+  | got rs q ↦ foldRules form limits room rs (drainOverBoxes limits (drained rs)) (foldedOverBoxes (drained rs))
 ]

@@ -3,13 +3,12 @@
 -- for each combination of one covering range per dimension, so overlaps append repeatedly." Since 02's M-101 such rules are refused: proofs/Once
 -- shows that a rule of a sheet that is not refused covers a point at most once.
 use mathlib.Core.List.{List, [], _∷_, _++_, map, flatMap}
-use mathlib.Core.Option.{Option}
 use mathlib.Core.Bool.{Bool, true, false, _&&_, not, cond}
-use Prim.Native.Nat.{ℕ, suc, _*_}
-use lib.Dec.{eqb, ltb}
-use lib.ListN.{length, take, replicate}
-use Rattle.laws.specs.Lists.{from, firstOf, onlyIf, count}
-use Rattle.grid.specs.Group.{Set, somewhere}
+use Prim.Native.Nat.{ℕ, _*_}
+use lib.Dec.{eqb}
+use lib.ListN.{replicate}
+use Rattle.laws.specs.Lists.{count}
+use Rattle.grid.specs.Group.{Set}
 use Rattle.grid.specs.Cut.{Range, holds, coordinates}
 use Rattle.definition.specs.Rule.{weekdayBounds, weekBounds, monthBounds, yearBounds, Operator, Normal, Additional, Fallback, Kind, Open, Closed, Unknown, MonthdayRange, months, monthsOf, dated, WeekDayRange, fixedDays, holiday, Rule}
 use Rattle.definition.specs.Range.{Ends, ranges}
@@ -129,23 +128,15 @@ isClosed Unknown = false
 abbrev pub replaces : Rule → Bool
 replaces r = isNormal (r .operator) && not (isClosed (r .state .kind))
 
--- the list l after a rule that covers the point n times
-unfoldable pub after : Rule → ℕ → List Rule → List Rule
-after r n l = elim (replaces r) [ true ↦ cond (eqb n 0) l (r ∷ []) | false ↦ l ++ replicate n r ]
+-- the list l after a rule that covers the point n times; x stands in lists for the rule
+unfoldable pub after : {A : Type 0} → Bool → A → ℕ → List A → List A
+after replacing x n l = elim replacing [ true ↦ cond (eqb n 0) l (x ∷ []) | false ↦ l ++ replicate n x ]
 
 -- l after some rules, one after the other
 unfoldable pub listFrom : List Rule → List Rule → List ℕ → List Rule
 listFrom l [] p = l
-listFrom l (r ∷ rs) p = listFrom (after r (combinations (selector dimensions r) p) l) rs p
+listFrom l (r ∷ rs) p = listFrom (after (replaces r) r (combinations (selector dimensions r) p) l) rs p
 
 -- the list at a point
 abbrev pub listAt : List Rule → List ℕ → List Rule
 listAt rs p = listFrom [] rs p
-
--- is the list at p too long after rule k?
-unfoldable pub tooLong : ℕ → List Rule → ℕ → List ℕ → Bool
-tooLong limit rs k p = ltb limit (length (listAt (take (suc k) rs) p))
-
--- Code 6, "some point's list passes 32 entries after a drained rule": the first such rule's index, from 0
-unfoldable pub firstTooLong : ℕ → List Rule → Option ℕ
-firstTooLong limit rs = firstOf (λ k. onlyIf (somewhere points (tooLong limit rs k)) k) (from 0 (length rs))

@@ -23,13 +23,15 @@ pub record Form : Type 0 where
   pub comment : ℕ
   pub itemCount : ℕ
 
--- the most rules of a sheet; the most items of each sort and spans of a rule; the most boxes; the most entries of a point's list
+-- the most rules of a sheet; the most items of each sort and spans of a rule; the most boxes; the most entries of a point's list; the most
+-- distinct lists over all points
 pub record Limits : Type 0 where
   pub rules : ℕ
   pub items : ℕ
   pub spans : ℕ
   pub boxes : ℕ
   pub entries : ℕ
+  pub lists : ℕ
 
 -- "Rule count 16 bits", "comment 16; five counts of 10 each"
 abbrev pub form1 : Form
@@ -56,13 +58,15 @@ mostRules form = 2 ^ form .ruleCount - 1
 abbrev pub mostItems : Form → ℕ
 mostItems form = 2 ^ form .itemCount - 1
 
--- 02, M-107: "Limits go to 256 rules and 4,096 boxes in both forms; items, spans and list length stay."
+-- 02, M-107: "Limits go to 256 rules and 4,096 boxes in both forms; items, spans and list length stay." M-108: "The limit is 512 distinct non-empty
+-- lists over all points".
 abbrev pub sheetLimits : Limits
-sheetLimits = record { rules = 256; items = 16; spans = 16; boxes = 4096; entries = 32 }
+sheetLimits = record { rules = 256; items = 16; spans = 16; boxes = 4096; entries = 32; lists = 512 }
 
--- the limits of 01, which all sheets stored before were held to: "64 rules, 16 items of each sort, 16 spans", and of its table 1,024 boxes, 32 entries
+-- the limits of 01, which all sheets stored before were held to: "64 rules, 16 items of each sort, 16 spans", and of its table 1,024 boxes, 32 entries.
+-- 01 has no limit of lists: there are no more of them than boxes
 abbrev pub formerLimits : Limits
-formerLimits = record { rules = 64; items = 16; spans = 16; boxes = 1024; entries = 32 }
+formerLimits = record { rules = 64; items = 16; spans = 16; boxes = 1024; entries = 32; lists = 1024 }
 
 -- ## Items
 -- "Start above end is lawful everywhere."

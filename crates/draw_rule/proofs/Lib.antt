@@ -1,5 +1,4 @@
 pub mod Walk
 pub mod Run
 pub mod Covering
-pub mod Drawing
 pub mod Meaning

@@ -1,32 +1,34 @@
--- The boxes of the last dimension that a range covers stand side by side where the dimension's cuts rise. Rests on paving's laws of columns.
+-- The boxes of the last dimension that a range covers stand side by side where the dimension's cuts rise; and the boxes, and the ranges, that a
+-- walk has passed, with one more. Rests on paving's laws of columns.
 use mathlib.Core.Path.{_≡_, refl, sym, ap, ap₂, _∙_}
-use mathlib.Core.Bool.{Bool, true, false}
-use mathlib.Core.List.{List, _∷_, flatMap}
-use Prim.Native.Nat.{ℕ, zero, suc, _+_, _-_, _*_, _≤_, _<_, _/_}
+use mathlib.Core.Bool.{true, false}
+use mathlib.Core.List.{List, [], _∷_, _++_, flatMap}
+use Prim.Native.Nat.{ℕ, zero, suc, _+_, _-_, _*_, _≤_, _<_}
 use native.Mathlib.Omega.{arith}
 use lib.ListN.{getD}
 use borrow.Author.Tests.{lt-ltb, le-ltb}
 use Rattle.laws.specs.Lists.{from}
+use Rattle.laws.proofs.Numbers.{from-append}
+use Rattle.laws.proofs.Spread.{flatMap-last}
 use Rattle.paving.specs.Grid.{sizeOf, Node}
 use Rattle.paving.proofs.Room.{from-cons, from-end}
 use Rattle.tables.specs.Search.{Rising, PlaceOf}
-use Rattle.draw_rule.specs.Update.{covered, overColumns, overRanges, leaves, leavesOf, Drawn, drawOne, drawAll}
-use Rattle.tables.specs.Sizes.{rangePlaces, listPlaces}
+use Rattle.draw_rule.specs.Update.{covered, overColumns, overRanges, leaves, leavesOf}
+use Rattle.tables.specs.Sizes.{rangePlaces}
 use Rattle.tables.proofs.Narrowing.{rising-le}
-use Rattle.draw_rule.proofs.Walk.{covers-yes, covers-no, columns-skip, draw-append}
+use Rattle.draw_rule.proofs.Walk.{covers-yes, covers-no, columns-skip}
 
--- ## Boxes side by side
-module _ (rule : ℕ) (replaces : Bool) (node end : ℕ) (s : Drawn) where
-  pub boxes-more : (s₁ : Drawn) → node < end → s₁ ≡ drawOne rule replaces s node → drawAll rule replaces s₁ (from (node + 1) (end - (node + 1))) ≡ drawAll rule replaces s (from node (end - node))
-  unfolding drawAll
-  boxes-more s₁ h a = rw (from-cons node end h, a)
+-- ## Boxes passed
+pub boxes-none : (first : ℕ) → from first (first - first) ≡ []
+unfolding from
+boxes-none first = let z : first - first ≡ 0 = omega arith in ap (from first) z
 
-  pub boxes-end : end ≤ node → s ≡ drawAll rule replaces s (from node (end - node))
-  unfolding drawAll
-  boxes-end h = rw (from-end node end h)
+pub boxes-more : (first box : ℕ) → first ≤ box → from first (box + 1 - first) ≡ from first (box - first) ++ (box ∷ [])
+unfolding from
+boxes-more first box h = let e : box + 1 - first ≡ box - first + 1 = omega arith in ap (from first) e ∙ sym (from-append first (box - first) 1 box (omega arith))
 
--- a node's boxes have room
-pub boxes-in : (len : ℕ) (sizes : List ℕ) (node width x : ℕ) → width ≡ getD sizes 0 0 → x ≤ width → Node (len / listPlaces) sizes 1 node → (node * width + x) * listPlaces ≤ len
+-- a node's boxes are there
+pub boxes-in : (len : ℕ) (sizes : List ℕ) (node width x : ℕ) → width ≡ getD sizes 0 0 → x ≤ width → Node len sizes 1 node → node * width + x ≤ len
 unfolding sizeOf
 boxes-in len sizes node width x e h r =
     let a : node * width + x ≤ (node + 1) * width = omega arith in
@@ -66,37 +68,33 @@ module _ (sizes counts rows cuts ranges : List ℕ) (node width r : ℕ) (e : wi
     not-above k b m =
         omega (arith, high, z .reached (omega arith), rising-le cuts first (first + width) rise end (first + k) (omega (arith, a .from-first, z .from-first)) (omega arith) (omega arith))
 
-    range-boxes : overColumns sizes counts rows cuts ranges 0 (leaves sizes counts rows cuts ranges 0) node r 0 ≡ from (node * width + (begin - first)) (end - first - (begin - first))
+    pub range-boxes : overColumns sizes counts rows cuts ranges 0 (leaves sizes counts rows cuts ranges 0) node r 0
+        ≡ from (node * width + (begin - first)) (node * width + (end - first) - (node * width + (begin - first)))
     range-boxes =
+        let many : end - first - (begin - first) ≡ node * width + (end - first) - (node * width + (begin - first)) = omega arith in
         side-by-side (begin - first) (end - first) (omega (arith, z .from-first)) (omega (arith, z .to-end))
         (λ k m. sym (covers-no rows cuts ranges 0 r k first q (omega (arith, low, a .below (first + k) (omega arith) (omega arith)))))
         (λ k b m. sym (covers-yes rows cuts ranges 0 r k first q (not-below k (omega (arith, a .from-first)) (omega (arith, z .to-end))))
         ∙ lt-ltb (getD cuts (first + k) 0) (getD ranges (0 * rangePlaces + 2 * r + 1) 0) (omega (arith, high, z .below (first + k) (omega (arith, a .from-first)) (omega arith))))
         (λ k b m. sym (covers-yes rows cuts ranges 0 r k first q (not-below k (omega (arith, a .from-first, z .from-first)) m))
         ∙ le-ltb (getD cuts (first + k) 0) (getD ranges (0 * rangePlaces + 2 * r + 1) 0) (not-above k b m))
+        ∙ ap (from (node * width + (begin - first))) many
 
-    pub range-drawn : (rule : ℕ) (replaces : Bool) (s s₁ : Drawn)
-        → s₁ ≡ drawAll rule replaces s (from (node * width + (begin - first)) (node * width + (end - first) - (node * width + (begin - first))))
-        → s₁ ≡ drawAll rule replaces s (overColumns sizes counts rows cuts ranges 0 (leaves sizes counts rows cuts ranges 0) node r 0)
-    range-drawn rule replaces s s₁ d =
-        let many : node * width + (end - first) - (node * width + (begin - first)) ≡ end - first - (begin - first) = omega arith in
-        d ∙ ap (λ n. drawAll rule replaces s (from (node * width + (begin - first)) n)) many ∙ ap (drawAll rule replaces s) (sym range-boxes)
-
--- ## The ranges
+-- ## Ranges passed
 module _ (sizes counts rows cuts ranges : List ℕ) (node : ℕ) where
-  abbrev pub rangesFrom : ℕ → List ℕ
-  rangesFrom r = overRanges sizes counts rows cuts ranges 0 (leaves sizes counts rows cuts ranges 0) node r
+  -- the boxes of the ranges from one up to another
+  unfoldable pub rangesTo : ℕ → ℕ → List ℕ
+  rangesTo first range = flatMap (λ r. overColumns sizes counts rows cuts ranges 0 (leaves sizes counts rows cuts ranges 0) node r 0) (from first (range - first))
 
-  module _ (rule : ℕ) (replaces : Bool) (count : ℕ) (e : count ≡ getD counts 0 0) (s : Drawn) where
-    pub ranges-more : (r : ℕ) (s₁ : Drawn) → r < count → s₁ ≡ drawAll rule replaces s (overColumns sizes counts rows cuts ranges 0 (leaves sizes counts rows cuts ranges 0) node r 0)
-        → drawAll rule replaces s₁ (rangesFrom (r + 1)) ≡ drawAll rule replaces s (rangesFrom r)
-    unfolding overRanges flatMap
-    ranges-more r s₁ h a = rw (from-cons r (getD counts 0 0) (omega arith), draw-append, ← a)
+  pub ranges-none : (first : ℕ) → rangesTo first first ≡ []
+  unfolding rangesTo flatMap
+  ranges-none first = rw (boxes-none first)
 
-    pub ranges-end : (r : ℕ) → count ≤ r → s ≡ drawAll rule replaces s (rangesFrom r)
-    unfolding overRanges flatMap drawAll
-    ranges-end r h = rw (from-end r (getD counts 0 0) (omega arith))
+  pub ranges-more : (first range : ℕ) → first ≤ range
+      → rangesTo first (range + 1) ≡ rangesTo first range ++ overColumns sizes counts rows cuts ranges 0 (leaves sizes counts rows cuts ranges 0) node range 0
+  unfolding rangesTo
+  ranges-more first range h = rw (boxes-more first range h) (flatMap-last _ (from first (range - first)) range)
 
-    pub ranges-drawn : (rest : ℕ) (s₁ : Drawn) → s₁ ≡ drawAll rule replaces s (rangesFrom (count - rest)) → s₁ ≡ drawAll rule replaces s (leavesOf sizes counts rows cuts ranges 1 node rest)
-    unfolding leavesOf
-    ranges-drawn rest s₁ h = h ∙ ap (λ n. drawAll rule replaces s (rangesFrom (n - rest))) e
+  pub ranges-all : (count rest : ℕ) → count ≡ getD counts 0 0 → leavesOf sizes counts rows cuts ranges 1 node rest ≡ rangesTo (count - rest) count
+  unfolding leavesOf overRanges rangesTo
+  ranges-all count rest e = rw e

@@ -1,18 +1,18 @@
--- One lemma for each return of `update`, `update_columns` and `draw`: s stands for the lists and the flag before, s₁ after the first call, s₂
--- after the second. Rests on paving's laws of columns.
+-- The covered boxes below a node, put together as `update` and `update_columns` walk over them: one lemma for each return. Rests on paving's
+-- laws of columns.
 use mathlib.Core.Path.{_≡_, refl, ap}
-use mathlib.Core.Bool.{Bool, true, false}
+use mathlib.Core.Bool.{Bool, false}
 use mathlib.Core.List.{List, [], _∷_, _++_, flatMap}
-use Prim.Native.Nat.{ℕ, zero, suc, _+_, _-_, _*_, _≤_, _<_, _/_}
+use Prim.Native.Nat.{ℕ, zero, suc, _+_, _-_, _*_, _≤_, _<_}
 use native.Mathlib.Omega.{arith}
 use lib.Dec.{ltb}
-use lib.ListN.{length, getD, set}
+use lib.ListN.{length, getD}
 use borrow.Author.Count.{below-more}
-use borrow.Author.Tests.{lt-ltb, le-ltb, le-leb, lt-leb}
+use borrow.Author.Tests.{le-leb, lt-leb}
 use Rattle.paving.specs.Grid.{Node}
-use Rattle.paving.proofs.Room.{from-cons, from-end, node-in}
-use Rattle.draw_rule.specs.Update.{Lawful, covered, NextCovered, overColumns, overRanges, leaves, leavesOf, Drawn, drawn, drawOne, drawAll}
-use Rattle.tables.specs.Sizes.{rangePlaces, listPlaces, listLimit}
+use Rattle.paving.proofs.Room.{from-cons, from-end}
+use Rattle.draw_rule.specs.Update.{Lawful, covered, NextCovered, overColumns, overRanges, leaves, leavesOf}
+use Rattle.tables.specs.Sizes.{rangePlaces}
 use Rattle.tables.specs.Cuts.{cutOf}
 use Rattle.tables.specs.Ranges.{rangeOf, countOf}
 use Rattle.tables.specs.Search.{Rising}
@@ -63,63 +63,38 @@ unfolding countOf
 count-few sizes counts rows cuts ranges h zero k = omega arith
 count-few sizes counts rows cuts ranges h (suc i) k = omega (arith, h .count i (omega arith))
 
-pub list-in : (len : ℕ) (sizes : List ℕ) (l node : ℕ) → Node (len / listPlaces) sizes l node → node * listPlaces + listPlaces ≤ len
-list-in len sizes l node r = omega (arith, node-in (len / listPlaces) sizes l node r)
-
-pub node-len : (len m : ℕ) (sizes : List ℕ) (l node : ℕ) → m ≡ len → Node (len / listPlaces) sizes l node → Node (m / listPlaces) sizes l node
+pub node-len : (len m : ℕ) (sizes : List ℕ) (l node : ℕ) → m ≡ len → Node len sizes l node → Node m sizes l node
 node-len len m sizes l node e r = rw e r
 
 pub node-at : (len : ℕ) (sizes : List ℕ) (l k node : ℕ) → l ≡ k → Node len sizes l node → Node len sizes k node
 node-at len sizes l k node e r = rw e at r
 
--- ## A rule at a box
-module _ (rule : ℕ) (replaces : Bool) (lists : List ℕ) (over : Bool) (node : ℕ) where
-  pub draw-replaces : replaces ≡ true → drawn (set (set lists (node * listPlaces + 1) rule) (node * listPlaces) 1) over ≡ drawOne rule replaces (drawn lists over) node
-  unfolding drawOne
-  draw-replaces e = rw e
-
-  pub draw-appends : (w : ℕ) → replaces ≡ false → getD lists (node * listPlaces) 0 < listLimit → w ≡ getD lists (node * listPlaces) 0
-      → drawn (set (set lists (node * listPlaces + 1 + w) rule) (node * listPlaces) (getD lists (node * listPlaces) 0 + 1)) over ≡ drawOne rule replaces (drawn lists over) node
-  unfolding drawOne
-  draw-appends w e h q = rw (e, lt-ltb (getD lists (node * listPlaces) 0) listLimit h, q)
-
-  pub draw-full : replaces ≡ false → listLimit ≤ getD lists (node * listPlaces) 0 → drawn lists true ≡ drawOne rule replaces (drawn lists over) node
-  unfolding drawOne
-  draw-full e h = rw (e, le-ltb (getD lists (node * listPlaces) 0) listLimit h)
-
 -- ## The walks
-pub draw-append : (rule : ℕ) (replaces : Bool) (s : Drawn) (xs ys : List ℕ) → drawAll rule replaces s (xs ++ ys) ≡ drawAll rule replaces (drawAll rule replaces s xs) ys
-unfolding drawAll
-draw-append rule replaces s [] ys = refl
-draw-append rule replaces s (x ∷ xs) ys = draw-append rule replaces (drawOne rule replaces s x) xs ys
-
 module _ (sizes counts rows cuts ranges : List ℕ) where
   pub all-ranges : (i node : ℕ) → leavesOf sizes counts rows cuts ranges i node (countOf counts i) ≡ leaves sizes counts rows cuts ranges i node
   unfolding leavesOf leaves countOf
   all-ranges zero node = refl
   all-ranges (suc i) node = let e : getD counts i 0 - getD counts i 0 ≡ 0 = omega arith in ap (overRanges sizes counts rows cuts ranges i (leaves sizes counts rows cuts ranges i) node) e
 
-  module _ (rule : ℕ) (replaces : Bool) (left node : ℕ) (s : Drawn) where
-    pub out-leaf : (rest : ℕ) (s₁ : Drawn) → left ≡ 0 → s₁ ≡ drawOne rule replaces s node → s₁ ≡ drawAll rule replaces s (leavesOf sizes counts rows cuts ranges left node rest)
-    unfolding drawAll leavesOf
-    out-leaf rest s₁ e h = rw e h
+  module _ (left node rest : ℕ) where
+    pub out-leaf : left ≡ 0 → leavesOf sizes counts rows cuts ranges left node rest ≡ node ∷ []
+    unfolding leavesOf
+    out-leaf e = rw e
 
-    pub out-none : (i rest : ℕ) → left ≡ suc i → rest ≡ 0 → s ≡ drawAll rule replaces s (leavesOf sizes counts rows cuts ranges left node rest)
-    unfolding drawAll leavesOf overRanges flatMap
-    out-none i rest e z = rw (e, z, from-end (getD counts i 0 - 0) (getD counts i 0) (omega arith))
-
-    pub out-last : (rest : ℕ) (s₁ : Drawn) → left ≡ 1 → s₁ ≡ drawAll rule replaces s (leavesOf sizes counts rows cuts ranges 1 node rest)
-        → s₁ ≡ drawAll rule replaces s (leavesOf sizes counts rows cuts ranges left node rest)
-    out-last rest s₁ e h = rw e h
-
-    pub out-ranges : (i rest count : ℕ) (s₁ s₂ : Drawn) → left ≡ suc i → (rest ≡ 0 → ⊥) → rest ≤ count → count ≡ getD counts i 0
-        → s₁ ≡ drawAll rule replaces s (overColumns sizes counts rows cuts ranges i (leaves sizes counts rows cuts ranges i) node (count - rest) 0)
-        → s₂ ≡ drawAll rule replaces s₁ (leavesOf sizes counts rows cuts ranges left node (rest - 1))
-        → s₂ ≡ drawAll rule replaces s (leavesOf sizes counts rows cuts ranges left node rest)
+    pub out-none : (i : ℕ) → left ≡ suc i → rest ≡ 0 → leavesOf sizes counts rows cuts ranges left node rest ≡ []
     unfolding leavesOf overRanges flatMap
-    out-ranges i rest count s₁ s₂ e f l c h k =
+    out-none i e z = rw (e, z, from-end (getD counts i 0 - 0) (getD counts i 0) (omega arith))
+
+    pub out-last : left ≡ 1 → leavesOf sizes counts rows cuts ranges left node rest ≡ leavesOf sizes counts rows cuts ranges 1 node rest
+    out-last e = rw e
+
+    pub out-ranges : (i count : ℕ) → left ≡ suc i → (rest ≡ 0 → ⊥) → rest ≤ count → count ≡ getD counts i 0
+        → leavesOf sizes counts rows cuts ranges left node rest
+        ≡ overColumns sizes counts rows cuts ranges i (leaves sizes counts rows cuts ranges i) node (count - rest) 0 ++ leavesOf sizes counts rows cuts ranges left node (rest - 1)
+    unfolding leavesOf overRanges flatMap
+    out-ranges i count e f l c =
         let m : getD counts i 0 - (rest - 1) ≡ getD counts i 0 - rest + 1 = omega arith in
-        rw (e, from-cons (getD counts i 0 - rest) (getD counts i 0) (omega arith), draw-append, ← (rw c at h), ← m) (rw e at k)
+        rw (e, from-cons (getD counts i 0 - rest) (getD counts i 0) (omega arith), c, m)
 
   -- the columns before the first that is covered add nothing
   pub columns-skip : (i : ℕ) (below : ℕ → List ℕ) (node width r x y : ℕ) → width ≡ getD sizes i 0 → x ≤ y → y ≤ width → ((k : ℕ) → x ≤ k → k < y → covered rows cuts ranges i r k ≡ false)
@@ -131,18 +106,16 @@ module _ (sizes counts rows cuts ranges : List ℕ) where
       go zero p l q = let z : p ≡ y = omega arith in rw z refl
       go (suc n) p l q = rw (from-cons p (getD sizes i 0) (omega arith), passed p l (omega arith)) (go n (p + 1) (omega arith) (omega arith))
 
-  module _ (rule : ℕ) (replaces : Bool) (i node width r x y : ℕ) (e : width ≡ getD sizes i 0) (found : NextCovered rows cuts ranges i r width x y) (s : Drawn) where
+  module _ (i node width r x y : ℕ) (e : width ≡ getD sizes i 0) (found : NextCovered rows cuts ranges i r width x y) where
     skip : overColumns sizes counts rows cuts ranges i (leaves sizes counts rows cuts ranges i) node r x ≡ overColumns sizes counts rows cuts ranges i (leaves sizes counts rows cuts ranges i) node r y
     skip = columns-skip i (leaves sizes counts rows cuts ranges i) node width r x y e (found .from-first) (found .to-end) (found .passed)
 
-    pub out-end : width ≤ y → s ≡ drawAll rule replaces s (overColumns sizes counts rows cuts ranges i (leaves sizes counts rows cuts ranges i) node r x)
-    unfolding drawAll overColumns flatMap
+    pub out-end : width ≤ y → overColumns sizes counts rows cuts ranges i (leaves sizes counts rows cuts ranges i) node r x ≡ []
+    unfolding overColumns flatMap
     out-end h = rw (skip, from-end y (getD sizes i 0) (omega arith))
 
-    pub out-in : (rest : ℕ) (s₁ s₂ : Drawn) → y < width → rest ≡ countOf counts i
-        → s₁ ≡ drawAll rule replaces s (leavesOf sizes counts rows cuts ranges i (node * width + y) rest)
-        → s₂ ≡ drawAll rule replaces s₁ (overColumns sizes counts rows cuts ranges i (leaves sizes counts rows cuts ranges i) node r (y + 1))
-        → s₂ ≡ drawAll rule replaces s (overColumns sizes counts rows cuts ranges i (leaves sizes counts rows cuts ranges i) node r x)
+    pub out-in : (rest : ℕ) → y < width → rest ≡ countOf counts i
+        → overColumns sizes counts rows cuts ranges i (leaves sizes counts rows cuts ranges i) node r x
+        ≡ leavesOf sizes counts rows cuts ranges i (node * width + y) rest ++ overColumns sizes counts rows cuts ranges i (leaves sizes counts rows cuts ranges i) node r (y + 1)
     unfolding overColumns flatMap
-    out-in rest s₁ s₂ h c a k =
-        rw (skip, from-cons y (getD sizes i 0) (omega arith), draw-append, found .reached h, ← all-ranges i (node * getD sizes i 0 + y), ← (rw (c, e) at a)) k
+    out-in rest h c = rw (skip, from-cons y (getD sizes i 0) (omega arith), found .reached h, c, e, all-ranges i (node * getD sizes i 0 + y))

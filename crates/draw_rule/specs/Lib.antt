@@ -1,2 +1,1 @@
 pub mod Update
-pub mod Boxes

@@ -1,13 +1,13 @@
--- A rule drawn over the boxes of a grid: the boxes that its ranges cover, once for each combination, and what a box's list becomes.
+-- The boxes of a grid that a rule's ranges cover, once for each combination of one covering range per dimension.
 use mathlib.Core.Path.{_≡_}
 use mathlib.Core.Bool.{Bool, true, false, cond}
 use mathlib.Core.List.{List, [], _∷_, flatMap}
 use Prim.Native.Nat.{ℕ, zero, suc, _+_, _-_, _*_, _≤_, _<_}
-use lib.Dec.{ltb}
-use lib.ListN.{length, getD, set}
-use Rattle.laws.specs.Lists.{from}
+use lib.Dec.{eqb}
+use lib.ListN.{length, getD}
+use Rattle.laws.specs.Lists.{from, anyOf}
 use Rattle.grid.specs.Cut.{holds}
-use Rattle.tables.specs.Sizes.{listLimit, listPlaces, rangePlaces}
+use Rattle.tables.specs.Sizes.{rangePlaces}
 use Rattle.tables.specs.Cuts.{cutOf, RowsRise}
 use Rattle.tables.specs.Ranges.{rangeOf}
 
@@ -52,23 +52,6 @@ module _ (sizes counts rows cuts ranges : List ℕ) where
   leavesOf zero node rest = node ∷ []
   leavesOf (suc i) node rest = overRanges i (leaves i) node (getD counts i 0 - rest)
 
--- ## The lists
--- all lists, and whether one was too long
-pub record Drawn : Type 0 where
-  pub lists : List ℕ
-  pub over : Bool
-
-abbrev pub drawn : List ℕ → Bool → Drawn
-drawn lists over = record { lists = lists; over = over }
-
--- a rule at a box: it replaces the list, or it stands at its end, where there is room
-unfoldable pub drawOne : ℕ → Bool → Drawn → ℕ → Drawn
-drawOne rule replaces s node =
-    let count = getD (s .lists) (node * listPlaces) 0 in
-    cond replaces (drawn (set (set (s .lists) (node * listPlaces + 1) rule) (node * listPlaces) 1) (s .over))
-    (cond (ltb count listLimit) (drawn (set (set (s .lists) (node * listPlaces + 1 + count) rule) (node * listPlaces) (count + 1)) (s .over)) (drawn (s .lists) true))
-
--- at some boxes, one after the other
-unfoldable pub drawAll : ℕ → Bool → Drawn → List ℕ → Drawn
-drawAll rule replaces s [] = s
-drawAll rule replaces s (node ∷ nodes) = drawAll rule replaces (drawOne rule replaces s node) nodes
+  -- does the rule cover a box, of all four dimensions?
+  unfoldable pub coveredBox : ℕ → Bool
+  coveredBox box = anyOf (eqb box) (leaves 4 0)

@@ -1,17 +1,20 @@
-// Update: a rule drawn over the boxes that its ranges cover, once for each combination of one covering range per dimension.
-// The walk over a rule's ranges and the walk into a box's columns call each other; a box's list is its count and its rules' numbers.
-// The parameters are many since the language lends no struct of slices: lists, sizes, counts, row starts, cuts and ranges are a slice each.
+// A rule drawn over the boxes that its ranges cover. Each is drawn where it is met, so that a rule costs what it covers: the walk over a rule's
+// ranges and the walk into a box's columns call each other, and come to a box once for each combination of one covering range per dimension.
+// The parameters are many since the language lends no struct of slices: cells, lists, memo, sizes, counts, row starts, cuts and ranges are a
+// slice each.
 mod last;
 
 use casts::u16_to_usize;
+use list_store::Drawn;
 use tables::RANGE_PLACES;
 ghost use mathlib.Core.Path.{_≡_};
-ghost use Prim.Native.Nat.{suc, _+_, _-_, _*_, _≤_, _<_, _/_};
+ghost use Prim.Native.Nat.{suc, _+_, _*_, _≤_, _<_};
 ghost use lib.ListN.{length, getD};
 ghost use Rattle.paving.specs.Grid.{Node};
-ghost use Rattle.draw_rule.specs.Update.{Lawful, covered, NextCovered, leaves, leavesOf, overColumns, drawn, drawAll};
-ghost use Rattle.tables.specs.Sizes.{rangePlaces, listPlaces};
+ghost use Rattle.tables.specs.Sizes.{rangePlaces};
 ghost use Rattle.tables.specs.Ranges.{countOf};
+ghost use Rattle.list_store.specs.Draw.{Making, Walked, Ready, Drew};
+ghost use Rattle.draw_rule.specs.Update.{Lawful, covered, NextCovered, leaves, leavesOf, overColumns, coveredBox};
 
 // Whether a range covers a column.
 fn covers(
@@ -70,8 +73,10 @@ fn count_of(range_counts: &[u16], dims_left: usize) -> usize
 }
 
 // Draws a rule over the boxes below a box, for the last `ranges_left` ranges of the first dimension left.
-pub fn update(
+fn update(
+    cells: &mut [u16],
     lists: &mut [u16],
+    memo: &mut [u16],
     sizes: &[u16],
     range_counts: &[u16],
     row_starts: &[u16],
@@ -79,26 +84,31 @@ pub fn update(
     ranges: &[u16],
     rule: u16,
     replaces: bool,
-    overflowed: bool,
+    before: usize,
+    drawn: Drawn,
     dims_left: usize,
     box_index: usize,
     ranges_left: usize,
-) -> bool
+) -> Drawn
+    requires { ⌜ Making (now cells) (now lists) (now memo) rule before (drawn .used) ⌝ }
     requires { ⌜ Lawful (now sizes) (now «range_counts») (now «row_starts») (now cuts) (now ranges) ⌝ }
-    requires { ⌜ Node (length (now lists) / listPlaces) (now sizes) «dims_left» «box_index» ⌝ }
+    requires { ⌜ Node (length (now cells)) (now sizes) «dims_left» «box_index» ⌝ }
     requires { ⌜ «ranges_left» ≤ countOf (now «range_counts») «dims_left» ⌝ }
-    ensures { λ r. ⌜ drawn (now (lists .exit)) r ≡ drawAll rule replaces (drawn (now (lists .entry)) overflowed)
+    ensures { λ r. ⌜ Walked (now (cells .entry)) (now (lists .entry)) (drawn .used) (drawn .overflowed)
+        (now (cells .exit)) (now (lists .exit)) (now (memo .exit)) (r .used) (r .overflowed) rule replaces before
         (leavesOf (now (sizes .entry)) (now («range_counts» .entry)) (now («row_starts» .entry)) (now (cuts .entry)) (now (ranges .entry)) «dims_left» «box_index» «ranges_left») ⌝ }
 {
     if dims_left == 0 {
-        return last::draw(lists, rule, replaces, overflowed, box_index);
+        return list_store::draw(cells, lists, memo, rule, replaces, before, drawn, box_index);
     }
     if ranges_left == 0 {
-        return overflowed;
+        return drawn;
     }
     if dims_left == 1 {
         return last::draw_ranges(
+            cells,
             lists,
+            memo,
             sizes,
             range_counts,
             row_starts,
@@ -106,15 +116,18 @@ pub fn update(
             ranges,
             rule,
             replaces,
-            overflowed,
+            before,
+            drawn,
             box_index,
             ranges_left,
         );
     }
     let dimension = dims_left - 1;
     let count = u16_to_usize(range_counts[dimension]);
-    let overflowed = update_columns(
+    let drawn = update_columns(
+        cells,
         lists,
+        memo,
         sizes,
         range_counts,
         row_starts,
@@ -122,14 +135,17 @@ pub fn update(
         ranges,
         rule,
         replaces,
-        overflowed,
+        before,
+        drawn,
         dimension,
         box_index,
         count - ranges_left,
         0,
     );
     update(
+        cells,
         lists,
+        memo,
         sizes,
         range_counts,
         row_starts,
@@ -137,7 +153,8 @@ pub fn update(
         ranges,
         rule,
         replaces,
-        overflowed,
+        before,
+        drawn,
         dims_left,
         box_index,
         ranges_left - 1,
@@ -146,7 +163,9 @@ pub fn update(
 
 // The same below the columns of a box, from `column` on, that a range covers.
 fn update_columns(
+    cells: &mut [u16],
     lists: &mut [u16],
+    memo: &mut [u16],
     sizes: &[u16],
     range_counts: &[u16],
     row_starts: &[u16],
@@ -154,16 +173,19 @@ fn update_columns(
     ranges: &[u16],
     rule: u16,
     replaces: bool,
-    overflowed: bool,
+    before: usize,
+    drawn: Drawn,
     dimension: usize,
     box_index: usize,
     range: usize,
     column: usize,
-) -> bool
+) -> Drawn
+    requires { ⌜ Making (now cells) (now lists) (now memo) rule before (drawn .used) ⌝ }
     requires { ⌜ Lawful (now sizes) (now «range_counts») (now «row_starts») (now cuts) (now ranges) ⌝ }
-    requires { ⌜ Node (length (now lists) / listPlaces) (now sizes) (suc dimension) «box_index» ⌝ }
+    requires { ⌜ Node (length (now cells)) (now sizes) (suc dimension) «box_index» ⌝ }
     requires { ⌜ (range < getD (now «range_counts») dimension 0) × (column ≤ getD (now sizes) dimension 0) ⌝ }
-    ensures { λ r. ⌜ drawn (now (lists .exit)) r ≡ drawAll rule replaces (drawn (now (lists .entry)) overflowed)
+    ensures { λ r. ⌜ Walked (now (cells .entry)) (now (lists .entry)) (drawn .used) (drawn .overflowed)
+        (now (cells .exit)) (now (lists .exit)) (now (memo .exit)) (r .used) (r .overflowed) rule replaces before
         (overColumns (now (sizes .entry)) (now («range_counts» .entry)) (now («row_starts» .entry)) (now (cuts .entry)) (now (ranges .entry)) dimension
         (leaves (now (sizes .entry)) (now («range_counts» .entry)) (now («row_starts» .entry)) (now (cuts .entry)) (now (ranges .entry)) dimension) «box_index» range column) ⌝ }
 {
@@ -171,8 +193,10 @@ fn update_columns(
     let next = next_covered(row_starts, cuts, ranges, dimension, range, width, column);
     if next < width {
         let ranges_left = count_of(range_counts, dimension);
-        let overflowed = update(
+        let drawn = update(
+            cells,
             lists,
+            memo,
             sizes,
             range_counts,
             row_starts,
@@ -180,13 +204,16 @@ fn update_columns(
             ranges,
             rule,
             replaces,
-            overflowed,
+            before,
+            drawn,
             dimension,
             box_index * width + next,
             ranges_left,
         );
         update_columns(
+            cells,
             lists,
+            memo,
             sizes,
             range_counts,
             row_starts,
@@ -194,13 +221,58 @@ fn update_columns(
             ranges,
             rule,
             replaces,
-            overflowed,
+            before,
+            drawn,
             dimension,
             box_index,
             range,
             next + 1,
         )
     } else {
-        overflowed
+        drawn
     }
+}
+
+// Draws a rule over all boxes that its ranges cover. A box's list that has no room for it stays as it is, and the flag is set.
+pub fn draw_rule(
+    cells: &mut [u16],
+    lists: &mut [u16],
+    memo: &mut [u16],
+    sizes: &[u16],
+    range_counts: &[u16],
+    row_starts: &[u16],
+    cuts: &[u16],
+    ranges: &[u16],
+    rule: u16,
+    replaces: bool,
+    used: usize,
+) -> Drawn
+    requires { ⌜ Ready (now cells) (now lists) (now memo) rule used ⌝ }
+    requires { ⌜ Lawful (now sizes) (now «range_counts») (now «row_starts») (now cuts) (now ranges) ⌝ }
+    requires { ⌜ Node (length (now cells)) (now sizes) 4 0 ⌝ }
+    ensures { λ r. ⌜ Drew (now (cells .entry)) (now (lists .entry)) (now (cells .exit)) (now (lists .exit)) (now (memo .exit))
+        (coveredBox (now (sizes .entry)) (now («range_counts» .entry)) (now («row_starts» .entry)) (now (cuts .entry)) (now (ranges .entry))) rule replaces used (r .used) (r .overflowed) ⌝ }
+{
+    let weekday_ranges = u16_to_usize(range_counts[3]);
+    let none = Drawn {
+        used: used,
+        overflowed: false,
+    };
+    update(
+        cells,
+        lists,
+        memo,
+        sizes,
+        range_counts,
+        row_starts,
+        cuts,
+        ranges,
+        rule,
+        replaces,
+        used,
+        none,
+        4,
+        0,
+        weekday_ranges,
+    )
 }

@@ -1,2 +1,6 @@
-pub mod Drawing
-pub mod Listed
+pub mod Settling
+pub mod Tables
+pub mod Stepping
+pub mod Going
+pub mod Places
+pub mod Told

@@ -2,7 +2,7 @@
 -- groups' and that pages are read back.
 use mathlib.Core.Path.{_≡_, sym, _∙_, subst}
 use mathlib.Core.List.{List}
-use Prim.Native.Nat.{ℕ, _*_, _≤_}
+use Prim.Native.Nat.{ℕ, suc, _*_, _≤_}
 use native.Mathlib.Omega.{arith}
 use lib.ListN.{length}
 use lib.Seq.{sets}
@@ -13,39 +13,37 @@ use Rattle.definition.specs.Rule.{Rule}
 use Rattle.definition.specs.Sheet.{Form}
 use Rattle.paving.specs.Grid.{sizeOf, axes}
 use Rattle.paving.specs.Sweep.{groupsFrom}
-use Rattle.number_boxes.specs.Boxes.{DaysNumbered}
-use Rattle.tables.specs.Days.{boxWords}
+use Rattle.number_lists.specs.Numbered.{DaysNumbered}
+use Rattle.tables.specs.Days.{numberWords}
 use Rattle.paving_pages.specs.Pages.{groupsNumbers}
 use Rattle.paving_pages.proofs.Enough.{pages-few}
 use Rattle.tables.specs.Rules.{AllCommented, RuleTimes}
-use Rattle.tables.specs.Lists.{Boxed}
+use Rattle.tables.specs.Lists.{Renamed, BoxLists}
 use Rattle.tables.specs.Sizes.{dayRoom}
 use Rattle.tables.specs.Pages.{Paged, Counted}
 use Rattle.page_count.proofs.Reading.{text-counted}
 use Rattle.page_count.proofs.Rules.{text-rules}
 use Rattle.page_count.proofs.Ready.{text-ready}
 use Rattle.tables.proofs.Days.{fits-lawful}
-use Rattle.fold_pages.proofs.Numbered.{folded-found, found-few, found-parts, found-ready}
+use Rattle.fold_pages.proofs.Numbered.{empty-class, folded-found, found-few, found-parts, found-ready}
 
-module _ (states counts spans rows sizes cuts lists cells classes : List ℕ) (rs : List Rule) (tables : RuleTimes states counts spans rs)
-    (boxed : Boxed rows sizes cuts lists rs) (boxes : ℕ) (all : boxes ≡ sizeOf sizes 4)
-    (numbered : DaysNumbered (boxWords states counts spans lists) cells classes boxes) (each : length cells ≡ boxes) (pages₀ pages : List ℕ)
-    (roomy : 13 * boxes ≤ length pages₀) (laid : pages ≡ sets pages₀ 0 (groupsNumbers rows cuts sizes 4 (groupsFrom cells classes sizes 5 1 4)))
-    (stop : ℕ) (ends : stop ≡ length (groupsNumbers rows cuts sizes 4 (groupsFrom cells classes sizes 5 1 4))) where
+module _ (states counts spans rows sizes cuts lists cells numbers classes cells′ : List ℕ) (used : ℕ) (rs : List Rule) (tables : RuleTimes states counts spans rs)
+    (boxed : BoxLists rows sizes cuts cells lists used rs) (numbered : DaysNumbered (numberWords states counts spans lists) numbers classes (suc used))
+    (renamed : Renamed cells numbers cells′ (length cells)) (pages₀ pages : List ℕ) (roomy : 13 * sizeOf sizes 4 ≤ length pages₀)
+    (laid : pages ≡ sets pages₀ 0 (groupsNumbers rows cuts sizes 4 (groupsFrom cells′ classes sizes 5 1 4))) (stop : ℕ)
+    (ends : stop ≡ length (groupsNumbers rows cuts sizes 4 (groupsFrom cells′ classes sizes 5 1 4))) where
   abbrev found : List (Group ℕ ℕ)
-  found = groupsFrom cells classes sizes 5 1 4
-
-  all-numbered : DaysNumbered (boxWords states counts spans lists) cells classes (sizeOf sizes 4)
-  all-numbered = subst (DaysNumbered (boxWords states counts spans lists) cells classes) all numbered
-
-  exact : length cells ≡ sizeOf sizes 4
-  exact = each ∙ all
+  found = groupsFrom cells′ classes sizes 5 1 4
 
   inside : length (groupsNumbers rows cuts sizes 4 found) ≤ length pages₀
-  inside = omega (arith, pages-few rows cuts cells classes sizes 5 1 (all-numbered .none))
+  inside =
+      omega (
+        arith,
+        pages-few rows cuts cells′ classes sizes 5 1 (empty-class states counts spans rows sizes cuts lists cells numbers classes cells′ used rs tables boxed numbered renamed),
+      )
 
   parts : All (λ g. Part (axes sizes 4) (g .1)) found
-  parts = found-parts cells classes sizes 5 1 4
+  parts = found-parts cells′ classes sizes 5 1 4
 
   -- the pages end where the groups' numbers do
   ended : Counted pages (length found) 0 stop
@@ -57,10 +55,10 @@ module _ (states counts spans rows sizes cuts lists cells classes : List ℕ) (r
   -- SO MANY PAGES as were counted
   pub pages-folded : (form : Form) → AllCommented form rs → (n : ℕ) → ((m : ℕ) → Counted pages m 0 stop → n ≡ m) → Paged form states counts spans lists pages n rs
   pages-folded form commented n counted = subst (λ m. Paged form states counts spans lists pages m rs) (sym (counted (length found) ended)) (record {
-    few = found-few states counts spans rows sizes cuts lists cells classes rs tables boxed all-numbered exact;
+    few = found-few states counts spans rows sizes cuts lists cells numbers classes cells′ used rs tables boxed numbered renamed;
     ready = text-ready rows sizes cuts rs (boxed .cut) (fits-lawful rs (tables .fits)) (boxed .few-boxes)
         form states counts spans lists pages₀ pages dayRoom found laid inside parts
-        (found-ready states counts spans rows sizes cuts lists cells classes rs tables boxed all-numbered exact form commented);
+        (found-ready states counts spans rows sizes cuts lists cells numbers classes cells′ used rs tables boxed numbered renamed form commented);
     rules = text-rules rows cuts sizes states counts spans lists pages₀ pages found laid inside parts
-        ∙ sym (folded-found states counts spans rows sizes cuts lists cells classes rs tables boxed all-numbered exact);
+        ∙ sym (folded-found states counts spans rows sizes cuts lists cells numbers classes cells′ used rs tables boxed numbered renamed);
   })

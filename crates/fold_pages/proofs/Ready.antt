@@ -1,5 +1,5 @@
--- EVERY BOX CAN BE FOLDED, and a sheet can carry its day: the rules of its list stand in the tables, its day has room, and what the tables hold
--- can be carried. Rests on the entries of tables and on the size of a day.
+-- EVERY LIST IN USE CAN BE FOLDED, and a sheet can carry its day: its rules stand in the tables, its day has room, and what the tables hold can
+-- be carried. Rests on the entries of tables and on the size of a day.
 use mathlib.Core.Path.{_≡_, refl, sym, subst}
 use mathlib.Core.Bool.{Bool, true, false}
 use mathlib.Core.List.{List, map}
@@ -22,15 +22,15 @@ use Rattle.words.specs.Words.{part}
 use Rattle.day_flat.specs.Day.{unflat}
 use Rattle.day_flat.proofs.Room.{day-room}
 use Rattle.tables.specs.Days.{FitsSpan, Carried, boxWords, Ready}
-use Rattle.paving.specs.Grid.{sizeOf, widthOf, Room}
-use Rattle.tables.specs.Lists.{listOf, Boxed}
+use Rattle.paving.specs.Grid.{sizeOf, widthOf, Node, Room}
+use Rattle.tables.specs.Lists.{listOf, BoxLists}
 use Rattle.tables.proofs.Lists.{list-length}
 use Rattle.paving_points.proofs.Boxes.{lawful-bounded}
 use Rattle.paving_pages.specs.Pages.{CutRows}
 use Rattle.paving_pages.proofs.Rules.{cut-rows}
 use Rattle.fold_pages.proofs.Carrying.{box-carried}
 use Rattle.tables.specs.Rules.{RuleTimes, Commented, AllCommented}
-use Rattle.tables.specs.Sizes.{dayRoom}
+use Rattle.tables.specs.Sizes.{listPlaces, listLimit, dayRoom}
 use Rattle.tables.proofs.Days.{fits-lawful}
 use Rattle.tables.proofs.Times.{entry-back}
 
@@ -63,30 +63,30 @@ module _ (states counts spans : List ℕ) (rs : List Rule) (tables : RuleTimes s
           let s : getD states r 0 ≡ 0 = List·getD-eq-default states 0 (omega (arith, l, tables .all-states)) in
           rw (s, counts-past r l) (pow-pos (form .comment), tt)
 
-  -- ## Boxes
-  module _ (rows sizes cuts lists : List ℕ) (boxed : Boxed rows sizes cuts lists rs) where
+  -- ## Lists
+  module _ (rows sizes cuts cells lists : List ℕ) (used : ℕ) (boxed : BoxLists rows sizes cuts cells lists used rs) where
     -- the rows are those that popping requires
     pub rows-cut : CutRows rows cuts sizes 4
     rows-cut =
         cut-rows rows sizes cuts rs dimensions (boxed .cut .cut-by) (lawful-bounded rs (fits-lawful rs (tables .fits)))
         (boxed .cut .all-rows) (omega (arith, boxed .cut .four)) (boxed .cut .inside)
 
-    short : (i : ℕ) → length (listOf lists i) ≤ 32
-    short i = omega (arith, list-length lists i, boxed .listed .short i)
-
-    pub box-ready : (i : ℕ) → i < sizeOf sizes 4 → Ready states counts spans lists dayRoom i
-    box-ready i l = record {
-      there = omega (arith, boxed .all-lists);
-      short = boxed .listed .short i;
-      tabled = record { named = λ j k. inside (getD (listOf lists i) j 0) (All-at _ (listOf lists i) 0 (boxed .listed .named i) j k); few = counts-few };
-      wordy = unfold boxWords in omega (arith, day-room states counts spans (listOf lists i) counts-few 0 (length (listOf lists i)), short i);
+    pub list-ready : (i : ℕ) → i < used → Ready states counts spans lists dayRoom i
+    list-ready i l = record {
+      there = omega (arith, boxed .stored .store .room);
+      short = short;
+      tabled = record { named = λ j k. inside (getD (listOf lists i) j 0) (All-at _ (listOf lists i) 0 (boxed .stored .earlier i l) j k); few = counts-few };
+      wordy = unfold boxWords in omega (arith, day-room states counts spans (listOf lists i) counts-few 0 (length (listOf lists i)), list-length lists i, short);
     }
       where
+        short : getD lists (i * listPlaces) 0 ≤ listLimit
+        short = boxed .stored .store .short i l
+
         inside : (x : ℕ) → x < length rs → (x < length states) × (x < length counts) × (x * 16 + 16 ≤ length spans)
         inside x h = (omega (arith, tables .all-states), omega (arith, tables .all-counts), omega (arith, tables .all-spans))
 
-    pub boxed-carried : (form : Form) → AllCommented form rs → (i : ℕ) → All (Carried form) (unflat (boxWords states counts spans lists i))
-    boxed-carried form commented i = box-carried form states counts spans counts-few (entries-fit form commented) lists i (boxed .listed .short i)
+    pub list-carried : (form : Form) → AllCommented form rs → (i : ℕ) → i < used → All (Carried form) (unflat (boxWords states counts spans lists i))
+    list-carried form commented i l = box-carried form states counts spans counts-few (entries-fit form commented) lists i (boxed .stored .store .short i l)
 
 -- ## Room to pop
 -- the intervals of all dimensions are hardly more than the boxes
@@ -98,9 +98,5 @@ width-few sizes (suc l) filled = go (getD sizes l 0) refl (width-few sizes l (λ
     go zero e k = absurd (omega (arith, filled l (omega arith)))
     go (suc n) e k = unfold sizeOf widthOf in rw e (omega (arith, le-mul-of-pos-right n (k .0)), omega (arith, le-mul-of-pos-right n (k .0)))
 
-pub boxes-room : (rows sizes cuts lists : List ℕ) (rs : List Rule) → Boxed rows sizes cuts lists rs → (cells marks : ℕ) → cells ≡ sizeOf sizes 4
-    → sizeOf sizes 4 + 3 ≤ marks → Room cells marks sizes 4 0 0
-boxes-room rows sizes cuts lists rs boxed cells marks e m = record {
-  column = record { dims = omega (arith, boxed .cut .four); filled = boxed .cut .filled; below = omega (arith, e) };
-  marked = omega (arith, width-few sizes 4 (boxed .cut .filled) .1);
-}
+pub boxes-room : (sizes : List ℕ) (cells marks : ℕ) → Node cells sizes 4 0 → sizeOf sizes 4 + 3 ≤ marks → Room cells marks sizes 4 0 0
+boxes-room sizes cells marks column m = record { column = column; marked = omega (arith, width-few sizes 4 (column .filled) .1) }

@@ -1,27 +1,20 @@
--- In one dimension no value comes twice among the groups, so there are no more of them than values to choose from. Rests on the
--- popped groups' laws.
+-- In one dimension no value comes twice among the groups. Rests on the popped groups' laws.
 use mathlib.Core.Path.{_≡_, refl, sym, ap, _∙_, subst}
 use mathlib.Core.List.{List, [], _∷_, _++_, map, map-append}
 use mathlib.Core.Logic.{_⊎_, inl, inr}
 use mathlib.Core.Option.{Option, none, some}
-use mathlib.Core.Bool.{Bool, true, false, not, cond, true≢false, false≢true}
-use Prim.Native.Nat.{ℕ, zero, suc, _≤_, _<_}
+use mathlib.Core.Bool.{Bool, true, false, cond, true≢false, false≢true}
+use Prim.Native.Nat.{ℕ, zero, suc}
 use native.Mathlib.Omega.{arith}
-use lib.ListN.{length}
-use Rattle.laws.specs.Lists.{firstOf, anyOf, keep, All, Mem, OnSome}
+use Rattle.laws.specs.Lists.{firstOf, anyOf, keep, All, Distinct, Mem, OnSome}
 use Rattle.laws.specs.Tests.{Exact}
 use Rattle.laws.proofs.Flags.{split-and, both-and, not-true}
-use Rattle.laws.proofs.Lists.{keep-less, All-map₂, All-append, OnSome-map, firstOf-from, Mem-keep, Mem-any, any-Mem}
+use Rattle.laws.proofs.Lists.{All-append, OnSome-map, firstOf-from, Mem-keep, Mem-any, any-Mem}
 use Rattle.grid.specs.Group.{Set, Map, at, Group, size, inside, agree, grow, pop, clear, takeOut, sweepFor, sweep, groups}
 use Rattle.grid.proofs.Part.{groups-each}
 use Rattle.grid.proofs.Value.{pop-agree, pop-inside, clear-value}
 
 -- ## In one dimension, each value once
--- no two of the listed values are the same
-abbrev pub Distinct : {W : Type 0} → (W → W → Bool) → List W → Type 0
-Distinct eq [] = Unit {0}
-Distinct eq (v ∷ vs) = All (λ u. eq u v ≡ false) vs × Distinct eq vs
-
 abbrev pub values : {A W : Type 0} → List (Group A W) → List W
 values = map (λ g. g .0)
 
@@ -156,24 +149,3 @@ module _ {A W : Type 0} {eq : W → W → Bool} (exact : Exact eq) {same : A →
           pick : (g .0 ≡ empty) ⊎ P (g .0) → P (g .0)
           pick (inl q) = absurd (true≢false (sym m ∙ ap ok q ∙ un))
           pick (inr p) = p
-
--- ## As many distinct values as there are to choose from, at most
-module _ {W : Type 0} {eq : W → W → Bool} (exact : Exact eq) where
-  others-fewer : (v : W) (L : List W) → Mem v L → length (keep (λ k. not (eq k v)) L) < length L
-  unfolding keep Mem
-  others-fewer v [] m = absurd m
-  others-fewer v (k ∷ L) (inl q) = rw (ap (λ u. eq u v) (sym q) ∙ exact .self v, keep) (omega (arith, keep-less (λ k. not (eq k v)) L))
-  others-fewer v (k ∷ L) (inr m) = pick (eq k v) refl (others-fewer v L m)
-    where
-      pick : (b : Bool) → eq k v ≡ b → length (keep (λ k. not (eq k v)) L) < length L → length (keep (λ k. not (eq k v)) (k ∷ L)) < suc (length L)
-      pick true e ih = rw (e, keep) (omega arith)
-      pick false e ih = rw (e, keep) (omega arith)
-
-  pub distinct-count : (vs K : List W) → Distinct eq vs → All (λ v. Mem v K) vs → length vs ≤ length K
-  distinct-count [] K d m = omega arith
-  distinct-count (v ∷ vs) K d m =
-      omega (
-        arith,
-        others-fewer v K (m .0),
-        distinct-count vs (keep (λ k. not (eq k v)) K) (d .1) (All-map₂ (λ u e k. Mem-keep (λ k. not (eq k v)) u K k (rw e)) vs (d .0) (m .1)),
-      )

@@ -13,3 +13,4 @@ pub mod Distinct
 pub mod Width
 pub mod Number
 pub mod Numbered
+pub mod Values

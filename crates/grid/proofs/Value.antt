@@ -9,7 +9,7 @@ use native.Mathlib.Omega.{arith}
 use Rattle.laws.specs.Lists.{firstOf, anyOf, keep, sum, All, Mem, Filled, OnSome, OnNone}
 use Rattle.laws.specs.Tests.{Exact}
 use Rattle.laws.proofs.Flags.{split-and, both-and}
-use Rattle.laws.proofs.Lists.{every-keep, every-at, OnSome-map, OnSome-firstOf, firstOf-from, firstOf-none, Mem-keep, Mem-any, any-Mem, any-none, sum-le, sum-less, sum-same}
+use Rattle.laws.proofs.Lists.{every-keep, every-at, OnSome-map, OnSome-firstOf, firstOf-from, firstOf-none, Mem-keep, Mem-any, any-Mem, any-none, any-some, sum-le, sum-less, sum-same}
 use Rattle.grid.specs.Group.{Set, Map, at, Group, size, somewhere, inside, agree, grow, pop, clear}
 
 module _ {A W : Type 0} {eq : W → W → Bool} (exact : Exact eq) (ok : W → Bool) where
@@ -184,6 +184,16 @@ module _ {A W : Type 0} (eq : W → W → Bool) {same : A → A → Bool} (exact
             subst (λ o. OnNone ((p : List A) → inside same Ds p ≡ true → ok (f (x ∷ p)) ≡ false) o) (h x (any-Mem exact-same x D (k .0))) (ih x) q (k .1)
       ]
       go (some g) h ih = tt
+
+-- what passes somewhere passes at a point
+pub somewhere-some : {A : Type 0} {same : A → A → Bool} → Exact same → (Ds : Set A) (t : Map A Bool) → somewhere Ds t ≡ true
+    → (p : List A) × (inside same Ds p ≡ true) × (t p ≡ true)
+unfolding somewhere inside
+somewhere-some exact [] t h = ([], refl, h)
+somewhere-some {A} {same} exact (D ∷ Ds) t h =
+    let k = any-some (λ x. somewhere Ds (at t x)) D h in
+    let m = somewhere-some exact Ds (at t (k .0)) (k .2) in
+    (k .0 ∷ m .0, both-and (anyOf (same (k .0)) D) (inside same Ds (m .0)) (Mem-any exact (k .0) D (k .1)) (m .1), m .2)
 
 -- where no point of a set passes, none does
 pub somewhere-none : {A : Type 0} {same : A → A → Bool} → Exact same → (Ds : Set A) (t : Map A Bool) → somewhere Ds t ≡ false

@@ -2,7 +2,7 @@
 -- "Class after class, while a point matches: take the first by weekday, week, month, year. Grow the year set to all years with
 -- that same list; then months good for all those years; then weeks; then weekdays. .. Empty the box; go on."
 -- The dimensions are a parameter: the fold has four of them, a painted day has one, the minutes.
-use mathlib.Core.List.{List, [], _∷_, _++_}
+use mathlib.Core.List.{List, [], _∷_, _++_, map, flatMap}
 use mathlib.Core.Option.{Option, none, some}
 use mathlib.Core.Bool.{Bool, true, false, _&&_, cond}
 use Prim.Native.Nat.{ℕ, zero, suc, _*_}
@@ -26,6 +26,11 @@ at f x p = f (x ∷ p)
 unfoldable pub size : {A : Type 0} → Set A → ℕ
 size [] = 1
 size (D ∷ Ds) = length D * size Ds
+
+-- these points, one after the other
+unfoldable pub pointsOf : {A : Type 0} → Set A → List (List A)
+pointsOf [] = [] ∷ []
+pointsOf (D ∷ Ds) = flatMap (λ x. map (x ∷_) (pointsOf Ds)) D
 
 -- does some point of the set pass?
 unfoldable pub somewhere : {A : Type 0} → Set A → Map A Bool → Bool

@@ -6,3 +6,4 @@ pub mod Spread
 pub mod Pairs
 pub mod Numbers
 pub mod Stores
+pub mod Distinct

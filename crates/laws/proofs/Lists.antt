@@ -102,6 +102,11 @@ unfolding anyOf
 any-same t u [] h = refl
 any-same t u (x ∷ xs) h = ap₂ _||_ (h .0) (any-same t u xs (h .1))
 
+pub any-map : {A B : Type 0} (t : B → Bool) (f : A → B) (xs : List A) → anyOf t (map f xs) ≡ anyOf (λ x. t (f x)) xs
+unfolding anyOf
+any-map t f [] = refl
+any-map t f (x ∷ xs) = ap (t (f x) ||_) (any-map t f xs)
+
 pub anyOf-append : {A : Type 0} (t : A → Bool) (xs ys : List A) → anyOf t (xs ++ ys) ≡ anyOf t xs || anyOf t ys
 unfolding anyOf
 anyOf-append t [] ys = refl
@@ -255,6 +260,12 @@ any-some {A} t (y ∷ D) h = go (t y) refl (any-some t D)
     go : (b : Bool) → t y ≡ b → (anyOf t D ≡ true → (x : A) × Mem x D × (t x ≡ true)) → (x : A) × Mem x (y ∷ D) × (t x ≡ true)
     go true e ih = (y, inl refl, e)
     go false e ih = let k = ih (rw e at h) in (k .0, inr (k .1), k .2)
+
+pub Mem-map : {A B : Type 0} (f : A → B) (x : A) (D : List A) → Mem x D → Mem (f x) (map f D)
+unfolding Mem
+Mem-map f x [] m = m
+Mem-map f x (y ∷ D) (inl e) = inl (ap f e)
+Mem-map f x (y ∷ D) (inr m) = inr (Mem-map f x D m)
 
 pub Mem-left : {A : Type 0} (x : A) (D E : List A) → Mem x D → Mem x (D ++ E)
 unfolding Mem

@@ -2,7 +2,7 @@
 use mathlib.Core.Path.{_≡_, refl, sym, ap, ap₂, _∙_}
 use mathlib.Core.List.{List, [], _∷_, _++_, map}
 use mathlib.Core.Bool.{Bool, true, false, true≢false}
-use mathlib.Core.Option.{none, some}
+use mathlib.Core.Option.{Option, none, some}
 use mathlib.Core.Logic.{_⊎_, inl, inr}
 use Prim.Native.Nat.{ℕ, zero, suc, _+_, _≤_, _<_}
 use native.Mathlib.Omega.{arith}
@@ -10,7 +10,7 @@ use lib.ListN.{length, getD}
 use lib.Dec.{eqb, ltb}
 use borrow.Author.Count.{below-more}
 use borrow.Author.Tests.{ne-eqb, eqb-true, eqb-false, ltb-true, ltb-false}
-use Rattle.laws.specs.Lists.{from, firstOf, onlyIf, every, anyOf, All, Rises, Mem}
+use Rattle.laws.specs.Lists.{from, firstOf, every, anyOf, All, Rises, Mem}
 use Rattle.laws.proofs.Flags.{not-true}
 use Rattle.laws.proofs.Tests.{exact-eqb}
 use Rattle.laws.proofs.Lists.{All-Mem, every-at, any-Mem, any-some, some-any}
@@ -122,20 +122,20 @@ unfolding from
 map-from f g s zero h = refl
 map-from f g s (suc n) h = ap₂ _∷_ (h s (omega arith) (omega arith)) (map-from f g (suc s) n (λ k l m. h k (omega arith) (omega arith)))
 
--- the first number that passes
-pub first-at : (t : ℕ → Bool) (k s n : ℕ) → s ≤ k → k < s + n → ((j : ℕ) → s ≤ j → j < k → t j ≡ false) → t k ≡ true → firstOf (λ j. onlyIf (t j) j) (from s n) ≡ some k
+-- the first number that has an answer
+pub first-at : {B : Type 0} (t : ℕ → Option B) (b : B) (k s n : ℕ) → s ≤ k → k < s + n → ((j : ℕ) → s ≤ j → j < k → t j ≡ none) → t k ≡ some b → firstOf t (from s n) ≡ some b
 unfolding firstOf from
-first-at t k s zero l m h e = absurd (omega arith)
-first-at t k s (suc n) l m h e = go (eqb s k) refl (first-at t k (suc s) n)
+first-at t b k s zero l m h e = absurd (omega arith)
+first-at t b k s (suc n) l m h e = go (eqb s k) refl (first-at t b k (suc s) n)
   where
-    go : (b : Bool) → eqb s k ≡ b → (suc s ≤ k → k < suc s + n → ((j : ℕ) → suc s ≤ j → j < k → t j ≡ false) → t k ≡ true → firstOf (λ j. onlyIf (t j) j) (from (suc s) n) ≡ some k)
-        → firstOf (λ j. onlyIf (t j) j) (from s (suc n)) ≡ some k
-    go true q ih = rw (ap t (eqb-true s k q) ∙ e, firstOf) (ap some (eqb-true s k q))
+    go : (q : Bool) → eqb s k ≡ q → (suc s ≤ k → k < suc s + n → ((j : ℕ) → suc s ≤ j → j < k → t j ≡ none) → t k ≡ some b → firstOf t (from (suc s) n) ≡ some b)
+        → firstOf t (from s (suc n)) ≡ some b
+    go true q ih = rw (ap t (eqb-true s k q) ∙ e, firstOf) refl
     go false q ih =
         let ne = eqb-false s k q in
-        rw (h s (omega arith) (omega (arith, ne)), firstOf) (ih (omega (arith, ne)) (omega arith) (λ j a b. h j (omega arith) b) e)
+        rw (h s (omega arith) (omega (arith, ne)), firstOf) (ih (omega (arith, ne)) (omega arith) (λ j a c. h j (omega arith) c) e)
 
-pub first-none : (t : ℕ → Bool) (s n : ℕ) → ((j : ℕ) → s ≤ j → j < s + n → t j ≡ false) → firstOf (λ j. onlyIf (t j) j) (from s n) ≡ none
+pub first-none : {B : Type 0} (t : ℕ → Option B) (s n : ℕ) → ((j : ℕ) → s ≤ j → j < s + n → t j ≡ none) → firstOf t (from s n) ≡ none
 unfolding firstOf from
 first-none t s zero h = refl
 first-none t s (suc n) h = rw (h s (omega arith) (omega arith), firstOf) (first-none t (suc s) n (λ j a b. h j (omega arith) (omega arith)))

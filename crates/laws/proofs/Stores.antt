@@ -1,10 +1,23 @@
--- Laws of rows laid over a list (`sets`): two rows, one behind the other, may be laid in either order. Rests on the kit's laws of lists.
+-- Laws of a store into a list (`set`) and of rows laid over one (`sets`): what each place holds then, and that two rows, one behind the other,
+-- may be laid in either order. Rests on the kit's laws of lists.
 use mathlib.Core.Path.{_≡_, refl, sym, ap, _∙_}
 use mathlib.Core.List.{List, [], _∷_, _++_}
+use mathlib.Core.Bool.{Bool, true, false}
 use Prim.Native.Nat.{ℕ, suc, _+_, _<_}
 use native.Mathlib.Omega.{arith}
-use lib.ListN.{length, set}
-use lib.Seq.{sets, set-comm}
+use lib.Dec.{eqb}
+use lib.ListN.{length, getD, set}
+use lib.Seq.{sets, set-comm, getD-set-same, getD-set-other}
+use borrow.Author.Tests.{eqb-true, eqb-false}
+
+-- what holds of the stored number at its place, and at every other place of what stood there, holds at each place
+pub set-each : {A : Type 0} (P : ℕ → A → Type 0) (s : List A) (i : ℕ) (v d : A) → i < length s → P i v → ((k : ℕ) → (k ≡ i → ⊥) → P k (getD s k d))
+    → (k : ℕ) → P k (getD (set s i v) k d)
+set-each P s i v d l here other k = go (eqb k i) refl
+  where
+    go : (b : Bool) → eqb k i ≡ b → P k (getD (set s i v) k d)
+    go true e = rw (eqb-true k i e, getD-set-same s i v d l) here
+    go false e = rw (getD-set-other s i k v d (eqb-false k i e)) (other k (eqb-false k i e))
 
 module _ {A : Type 0} where
   pub sets-append : (s : List A) (a : ℕ) (t u : List A) → sets s a (t ++ u) ≡ sets (sets s a t) (a + length t) u

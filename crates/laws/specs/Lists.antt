@@ -52,15 +52,30 @@ unfoldable pub keep : {A : Type 0} → (A → Bool) → List A → List A
 keep t [] = []
 keep t (x ∷ xs) = elim (t x) [ true ↦ x ∷ keep t xs | false ↦ keep t xs ]
 
+-- each element once, where it stands last
+unfoldable pub distinct : {A : Type 0} → (A → A → Bool) → List A → List A
+distinct same [] = []
+distinct same (x ∷ xs) = cond (anyOf (same x) xs) (distinct same xs) (x ∷ distinct same xs)
+
 -- a number for each element, summed
 unfoldable pub sum : {A : Type 0} → (A → ℕ) → List A → ℕ
 sum h [] = 0
 sum h (x ∷ xs) = h x + sum h xs
 
+-- has the list an element?
+abbrev pub filled : {A : Type 0} → List A → Bool
+filled [] = false
+filled (x ∷ xs) = true
+
 -- a fact of every element
 abbrev pub All : {A : Type 0} → (A → Type 0) → List A → Type 0
 All P [] = Unit {0}
 All P (x ∷ xs) = P x × All P xs
+
+-- no two of the elements are the same
+abbrev pub Distinct : {A : Type 0} → (A → A → Bool) → List A → Type 0
+Distinct same [] = Unit {0}
+Distinct same (x ∷ xs) = All (λ y. same y x ≡ false) xs × Distinct same xs
 
 -- the element of index k passes; it fails, if there is one; it passes and none before it does
 abbrev pub PassesAt : {A : Type 0} → (A → Bool) → List A → ℕ → Type 0

@@ -1,4 +1,5 @@
-// The tests of the limits, each in one place: how many rules, items and boxes a sheet may have, how many entries a list, how wide a field is,
+// The tests of the limits, each in one place: how many rules, items and boxes a sheet may have, how many entries a list, how many
+// lists there may be, how wide a field is,
 // which minutes a day has, and whether a buffer has room.
 ghost use mathlib.Core.Path.{_≡_};
 ghost use lib.Dec.{ltb, leb};
@@ -38,6 +39,13 @@ pub fn entry_allowed(count: u16) -> bool
     ensures { λ r. ⌜ r ≡ ltb count (sheetLimits .entries) ⌝ }
 {
     count < 32
+}
+
+// "512 distinct non-empty lists over all points"
+pub fn lists_over(count: usize) -> bool
+    ensures { λ r. ⌜ r ≡ ltb (sheetLimits .lists) count ⌝ }
+{
+    count > 512
 }
 
 // "a .. minute (0 to 1439)"

@@ -1,33 +1,34 @@
--- THE LOOKUP'S ANSWERS for a point: 11, 5, 6, 9 where a rule is left, and else the state by the point's list. Rests on the judgement by cases.
+-- THE LOOKUP'S ANSWERS for a point: 11, 5, 6, 14, 9 where a rule is left, and else the state by the point's list. Rests on the judgement by cases.
 use mathlib.Core.Path.{_≡_}
 use mathlib.Core.List.{List, [], _∷_}
 use mathlib.Core.Option.{some, none}
 use Prim.Native.Nat.{ℕ, _≤_, _<_}
 use native.Mathlib.Omega.{arith}
 use lib.ListN.{length}
-use Rattle.definition.specs.Field.{longList, unsettled}
+use Rattle.definition.specs.Field.{unsettled}
 use Rattle.definition.specs.Rule.{Rule}
 use Rattle.definition.specs.Sheet.{sheetLimits}
 use Rattle.definition.specs.Stop.{drained, left}
-use Rattle.definition.specs.Point.{dimensions, listAt, firstTooLong}
+use Rattle.definition.specs.Point.{dimensions, listAt}
+use Rattle.definition.specs.Lists.{firstRefused}
 use Rattle.definition.specs.Overlap.{firstOverlap}
 use Rattle.definition.specs.Box.{boxCount}
 use Rattle.definition.specs.Fold.{over, drain}
 use Rattle.definition.specs.Lookup.{Looked, refusal, stateAt}
-use Rattle.definition.proofs.Drained.{left-behind, drain-long, drain-fine}
+use Rattle.definition.proofs.Drained.{left-behind, drain-lists, drain-fine}
 use Rattle.lookup.specs.Looks.{lookAt}
 
 module _ (rs : List Rule) (p : List ℕ) (m : ℕ) (answer : Looked) where
-  -- 11, 5 and 6
+  -- 11, 5, 6 and 14
   pub rules-refused : (c q : ℕ) → drain sheetLimits (drained rs) ≡ over c q → answer ≡ refusal c q → answer ≡ lookAt rs p m
   unfolding lookAt
   rules-refused c q d h = rw (d, lookAt) h
 
   module _ (apart : firstOverlap (drained rs) ≡ none) (few : boxCount dimensions (drained rs) ≤ sheetLimits .boxes) where
-    pub list-refused : (k : ℕ) → firstTooLong (sheetLimits .entries) (drained rs) ≡ some k → answer ≡ refusal longList k → answer ≡ lookAt rs p m
-    list-refused k f h = rules-refused longList k (drain-long sheetLimits (drained rs) apart few k f) h
+    pub list-refused : (c k : ℕ) → firstRefused sheetLimits (drained rs) ≡ some (c, k) → answer ≡ refusal c k → answer ≡ lookAt rs p m
+    list-refused c k f h = rules-refused c k (drain-lists sheetLimits (drained rs) apart few c k f) h
 
-    module _ (short : firstTooLong (sheetLimits .entries) (drained rs) ≡ none) where
+    module _ (short : firstRefused sheetLimits (drained rs) ≡ none) where
       drawn : answer ≡ stateAt (left rs) (listAt (drained rs) p) m → answer ≡ lookAt rs p m
       unfolding lookAt
       drawn h = rw (drain-fine sheetLimits (drained rs) apart few short, lookAt) h

@@ -1,4 +1,4 @@
-// State lookup in a checked sheet: "kind and comment of the last covering span in that point's list, else Closed and 0". Refusals: 8, 11, 5, 6, 9.
+// State lookup in a checked sheet: "kind and comment of the last covering span in that point's list, else Closed and 0". Refusals: 8, 11, 5, 6, 14, 9.
 pub mod boxes;
 
 use answers::Answer;
@@ -76,7 +76,7 @@ fn look_moment_in(
                 cuts,
                 count - rules,
                 moment,
-                1024,
+                16,
             )
         }
         Judged::Refused(code, place) => lookup_refused(code, place),

@@ -1,23 +1,25 @@
-// From tables and cut dimensions to the result: a list for each box (6), pages of the folded rules, and these written before the rules that
-// are left (13, 7). The functions take the sheet, the buffer and each table of the stages before as a slice of its own, fifteen parameters at
-// most, since the language lends no struct of slices.
+// From tables and cut dimensions to the result: a list for each box (6, 14), pages of the folded rules, and these written before the rules that are
+// left (13, 7). The functions take the sheet, the buffer, each table of the stages before and each part of the store as a slice of its own, seventeen
+// parameters at most, since the language lends no struct of slices.
 use answers::Folded;
 use answers::fold_refused;
+use draw_rules::Listed;
 use draw_rules::draw_rules;
 use fold_pages::fold_pages;
 use fold_write::Left;
 use fold_write::emit;
 use forms::Form;
+use paving::place::size_of;
 ghost use mathlib.Core.List.{List};
 ghost use Prim.Native.Nat.{_*_, _≤_};
 ghost use lib.ListN.{length};
 ghost use Rattle.definition.specs.Rule.{Rule};
 ghost use Rattle.paving.specs.Grid.{sizeOf};
-ghost use Rattle.tables.specs.Lists.{Empty};
+ghost use Rattle.draw_rules.specs.Listing.{NoLists};
 ghost use Rattle.forms.specs.Form.{asForm};
 ghost use Rattle.normalize.specs.Folds.{Foldable, Folds};
 
-// Makes a list for each box and the pages, in the buffers that are lent; answers 6, or writes the result.
+// Makes a list for each box and the pages, in the store and the buffer that are lent; answers 6 or 14, or writes the result.
 fn fold_boxes_in(
     form: Form,
     sheet: &[u8],
@@ -32,17 +34,21 @@ fn fold_boxes_in(
     row_starts: &[u16],
     sizes: &[u16],
     cuts: &[u16],
+    cells: &mut [u16],
     lists: &mut [u16],
+    memo: &mut [u16],
     pages: &mut [u16],
 ) -> Folded
     requires { ⌜ ((rs : List Rule) × Foldable (asForm form) (now sheet) left (now states) (now «span_counts») (now spans) (now replacing)
         (now «range_counts») (now ranges) (now «row_starts») (now sizes) (now cuts) rs) ⌝ }
-    requires { ⌜ Empty (now lists) (sizeOf (now sizes) 4) × (13 * sizeOf (now sizes) 4 ≤ length (now pages)) ⌝ }
+    requires { ⌜ NoLists (now cells) (now lists) (now memo) (now sizes) × (13 * sizeOf (now sizes) 4 ≤ length (now pages)) ⌝ }
     ensures { λ r. ⌜ Folds (asForm form) (now (sheet .entry)) (now (out .entry)) r (now (out .exit)) ⌝ }
 {
     let rules = states.len();
     let listed = draw_rules(
+        cells,
         lists,
+        memo,
         row_starts,
         sizes,
         cuts,
@@ -51,34 +57,39 @@ fn fold_boxes_in(
         ranges,
         rules,
     );
-    if listed < rules {
-        return fold_refused(6, listed as u64);
+    match listed {
+        Listed::Refused(code, rule) => fold_refused(code, rule),
+        Listed::Held(used) => {
+            let count = fold_pages(
+                states,
+                span_counts,
+                spans,
+                lists,
+                used,
+                memo,
+                row_starts,
+                sizes,
+                cuts,
+                cells,
+                pages,
+            );
+            emit(
+                form,
+                sheet,
+                left,
+                out,
+                states,
+                span_counts,
+                spans,
+                lists,
+                pages,
+                count,
+            )
+        }
     }
-    let count = fold_pages(
-        states,
-        span_counts,
-        spans,
-        lists,
-        row_starts,
-        sizes,
-        cuts,
-        pages,
-    );
-    emit(
-        form,
-        sheet,
-        left,
-        out,
-        states,
-        span_counts,
-        spans,
-        lists,
-        pages,
-        count,
-    )
 }
 
-// Up to 16 boxes.
+// Up to 16 boxes, in a store of 33 places.
 fn fold_few_boxes(
     form: Form,
     sheet: &[u8],
@@ -99,8 +110,11 @@ fn fold_few_boxes(
     requires { ⌜ sizeOf (now sizes) 4 ≤ 16 ⌝ }
     ensures { λ r. ⌜ Folds (asForm form) (now (sheet .entry)) (now (out .entry)) r (now (out .exit)) ⌝ }
 {
-    let mut lists = [0u16; 528];
+    let mut cells = [0u16; 16];
+    let mut lists = [0u16; 1089];
+    let mut memo = [0u16; 34];
     let mut pages = [0u16; 208];
+    let boxes = size_of(sizes, 4);
     fold_boxes_in(
         form,
         sheet,
@@ -115,12 +129,14 @@ fn fold_few_boxes(
         row_starts,
         sizes,
         cuts,
+        &mut cells[..boxes],
         &mut lists,
+        &mut memo,
         &mut pages,
     )
 }
 
-// Up to 1,024 boxes.
+// Up to 1,024 boxes, in the store of 1,025 places.
 fn fold_some_boxes(
     form: Form,
     sheet: &[u8],
@@ -141,8 +157,11 @@ fn fold_some_boxes(
     requires { ⌜ sizeOf (now sizes) 4 ≤ 1024 ⌝ }
     ensures { λ r. ⌜ Folds (asForm form) (now (sheet .entry)) (now (out .entry)) r (now (out .exit)) ⌝ }
 {
-    let mut lists = [0u16; 33792];
+    let mut cells = [0u16; 1024];
+    let mut lists = [0u16; 33825];
+    let mut memo = [0u16; 1026];
     let mut pages = [0u16; 13312];
+    let boxes = size_of(sizes, 4);
     fold_boxes_in(
         form,
         sheet,
@@ -157,12 +176,14 @@ fn fold_some_boxes(
         row_starts,
         sizes,
         cuts,
+        &mut cells[..boxes],
         &mut lists,
+        &mut memo,
         &mut pages,
     )
 }
 
-// As many boxes as there may be.
+// As many boxes as there may be, in the same store.
 fn fold_many_boxes(
     form: Form,
     sheet: &[u8],
@@ -182,8 +203,11 @@ fn fold_many_boxes(
         (now «range_counts») (now ranges) (now «row_starts») (now sizes) (now cuts) rs) ⌝ }
     ensures { λ r. ⌜ Folds (asForm form) (now (sheet .entry)) (now (out .entry)) r (now (out .exit)) ⌝ }
 {
-    let mut lists = [0u16; 135168];
+    let mut cells = [0u16; 4096];
+    let mut lists = [0u16; 33825];
+    let mut memo = [0u16; 1026];
     let mut pages = [0u16; 53248];
+    let boxes = size_of(sizes, 4);
     fold_boxes_in(
         form,
         sheet,
@@ -198,7 +222,9 @@ fn fold_many_boxes(
         row_starts,
         sizes,
         cuts,
+        &mut cells[..boxes],
         &mut lists,
+        &mut memo,
         &mut pages,
     )
 }
@@ -227,7 +253,7 @@ pub fn fold_boxes(
     requires { ⌜ 1 ≤ room ⌝ }
     ensures { λ r. ⌜ Folds (asForm form) (now (sheet .entry)) (now (out .entry)) r (now (out .exit)) ⌝ }
 {
-    let boxes = paving::place::size_of(sizes, 4);
+    let boxes = size_of(sizes, 4);
     if room < boxes {
         return fold_boxes(
             form,

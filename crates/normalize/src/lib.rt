@@ -1,5 +1,5 @@
 // The fold of a checked sheet, stage after stage: the rules before the first stopper in tables and the dimensions cut at their ranges (11, 5), a
-// list for each box (6), pages of the folded rules, and these written before the rules that are left (13, 7). From normalize/mod.rs.
+// list for each box (6, 14), pages of the folded rules, and these written before the rules that are left (13, 7). From normalize/mod.rs.
 pub mod boxes;
 
 use answers::Folded;

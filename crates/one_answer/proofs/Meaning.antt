@@ -30,12 +30,13 @@ use Rattle.promises.specs.Conditions.{written, Accepted}
 use Rattle.promises.specs.Counts.{Nothing}
 use Rattle.promises.specs.ReadBack.{widest}
 use Rattle.promises.specs.Looking.{Tells}
+use Rattle.promises.specs.LargerSheets.{Stays}
 use Rattle.promises.proofs.Reading.{accepted-once}
 use Rattle.promises.proofs.Counts.{accepted-counts, counted-rules, refused-nothing}
 use Rattle.promises.proofs.Going.{folded-drained}
 use Rattle.promises.proofs.ReadBack.{fold-reads}
 use Rattle.promises.proofs.Looking.{lookup-says}
-use Rattle.promises.proofs.LargerSheets.{remain-lawful, raised-now}
+use Rattle.promises.proofs.LargerSheets.{remain-lawful, raised-now, never-many}
 use Rattle.hours.proofs.Entries.{in-named, in-none}
 use Rattle.hours.proofs.fold.Kinds as fold-kinds
 use Rattle.hours.proofs.fold.Reads as fold-contract
@@ -125,9 +126,11 @@ module _ (number : ℕ) (sheet out : List ℕ) (x : Folded × List ℕ) (p : Fol
       go (some form) e = (λ code. let means = accepted-in form e bytes code in (form, means .0, written (means .0), means .1), refused-in form e)
       go none e = (λ code. absurd (not-accepted e code), λ h. nothing-told e)
 
-  stored-folds : StoredTheorem number sheet out x
-  stored-folds form named rs a h =
-      let as-before = same form named ∙ remain-lawful form formerLimits sheetLimits raised-now sheet rs a .1 .same-fold (length out) h in
+  stored-folds : Bytes sheet → StoredTheorem number sheet out x
+  stored-folds bytes form named rs a h now-fine =
+      let stays : Stays (fold form formerLimits (length out) sheet .code) (fold form sheetLimits (length out) sheet .code)
+      = (h, never-many form formerLimits (omega arith) (length out) sheet bytes, λ z. now-fine (told-of _ (same form named) 0 ∙ z)) in
+      let as-before = same form named ∙ remain-lawful form formerLimits sheetLimits raised-now sheet rs a .1 .same-fold (length out) stays in
       (p .0 ∙ ap numbers as-before, buffer-of _ as-before)
 
   -- ## The lookup
@@ -150,7 +153,7 @@ fold-theorem κs a r e h = fold-means (a .0) (now (a .1 .0)) (now (a .1 .1 .0)) 
 
 -- AND OF A STORED SHEET
 pub stored-theorem : (κs : Lfts 2) (a : Dens κs fold-kinds.ps) (r : Folded) (e : AtExit (endedOf 2 fold-kinds.ps fold-kinds.r) κs)
-    → fold-contract.Learnt κs a r e → StoredTheorem (a .0) (now (a .1 .0)) (now (a .1 .1 .0)) (r, now (e .1 .1 .0))
+    → fold-contract.Learnt κs a r e → Bytes (now (a .1 .0)) → StoredTheorem (a .0) (now (a .1 .0)) (now (a .1 .1 .0)) (r, now (e .1 .1 .0))
 stored-theorem κs a r e h = stored-folds (a .0) (now (a .1 .0)) (now (a .1 .1 .0)) (r, now (e .1 .1 .0)) (fold-promised κs a r e h)
 
 -- THE THEOREM OF `hours::lookup`, beside a fold of the same sheet in the same form

@@ -1,7 +1,7 @@
 -- THE PROMISES IN ONE PIECE, of the entries themselves. Of the fold: what it leaves in the buffer, read again, means what the sheet means, in
 -- groups that share no point, with the same rules left, whatever minutes are chosen for spans that aren't simple; its numbers are counts, and
--- the last of them says why it stopped; and a stored sheet is folded as under 01's limits. Of the lookup: what it tells is what the rules in that buffer
--- say at that moment. Of the conversion: what it leaves in the buffer, converted back, is the sheet.
+-- the last of them says why it stopped; and a stored sheet that 14 doesn't refuse is folded as under 01's limits. Of the lookup: what it tells
+-- is what the rules in that buffer say at that moment. Of the conversion: what it leaves in the buffer, converted back, is the sheet.
 use mathlib.Core.Path.{_≡_}
 use mathlib.Core.List.{List}
 use mathlib.Core.Option.{some}
@@ -56,11 +56,11 @@ module _ (number : ℕ) (sheet out : List ℕ) (x : Folded × List ℕ) where
   FoldTheorem = (x .0 .code ≡ 0 → (form : Form) × (rs : List Rule) × (ws : List Rule) × FoldMeans form rs ws) × ((x .0 .code ≡ 0 → ⊥) → FoldNothing)
 
   -- ## The fold of a stored sheet, which 01's limits accepted
-  -- THE STATEMENT, where these didn't refuse it by 5: the numbers and the buffer are as under them
+  -- THE STATEMENT, where these didn't refuse it by 5 and it isn't refused by 14 now: the numbers and the buffer are as under them
   abbrev pub StoredTheorem : Type 0
   StoredTheorem = (form : Form) → formNamed number ≡ some form → (rs : List Rule) → Accepted form formerLimits sheet rs
       → let before = fold form formerLimits (length out) sheet in
-      (before .code ≡ 5 → ⊥) → (foldNumbers (x .0) ≡ numbers before) × (x .1 ≡ buffer (before .result) out)
+      (before .code ≡ 5 → ⊥) → (x .0 .code ≡ 14 → ⊥) → (foldNumbers (x .0) ≡ numbers before) × (x .1 ≡ buffer (before .result) out)
 
   -- ## The lookup in that sheet, of a date and a minute; a is its answer
   -- THE STATEMENT, where both are accepted: ws are the rules in the fold's buffer

@@ -11,8 +11,7 @@ use Rattle.laws.proofs.Spread.{flatMap-map}
 use Rattle.grid.specs.Group.{Set, Group}
 use Rattle.grid.proofs.Part.{Part}
 use Rattle.paving.specs.Grid.{axes}
-use Rattle.tables.specs.Days.{boxWords}
-use Rattle.number_boxes.proofs.InUse.{numberDay}
+use Rattle.tables.specs.Days.{boxWords, numberDay}
 use Rattle.tables.specs.Items.{overItems}
 use Rattle.tables.specs.Pages.{dayRules, pagesAt, pageRules, pagesRules}
 use Rattle.paving_pages.specs.Pages.{pageItems, groupsNumbers}

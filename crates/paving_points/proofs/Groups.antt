@@ -6,8 +6,7 @@ use mathlib.Core.List.{List, [], _∷_, map, flatMap}
 use Prim.Native.Nat.{ℕ, zero, suc, _+_, _≤_, _<_}
 use native.Mathlib.Omega.{arith}
 use lib.Dec.{eqb}
-use lib.ListN.{length, getD}
-use lib.Seq.{take-length}
+use lib.ListN.{getD}
 use Rattle.laws.specs.Lists.{from, keep, All}
 use Rattle.laws.proofs.Lists.{All-each}
 use Rattle.laws.proofs.Spread.{flatMap-map}
@@ -28,9 +27,8 @@ use Rattle.paving.specs.Grid.{axes, grid}
 use Rattle.paving.specs.Sweep.{classesFrom, groupsFrom}
 use Rattle.paving.proofs.Points.{blocks, Rising, Classed, groups-points}
 use Rattle.tables.specs.Cuts.{cutOf, CutBy, intervalAt}
-use Rattle.tables.specs.Lists.{listOf, Within, boxOf, startOf, Listed}
+use Rattle.tables.specs.Lists.{Within, boxOf, startOf}
 use Rattle.paving_points.specs.Paged.{runsOf, pageOf}
-use Rattle.tables.specs.Rules.{ruleAt}
 use Rattle.paving_points.proofs.Boxes.{Under, boxes-shown, Bounded, lawful-bounded, cuts-rise, cuts-points, box-marks}
 
 -- ## Marked intervals, joined
@@ -65,16 +63,15 @@ groups-paged dayOf cut sizes l up [] p = refl
 groups-paged dayOf cut sizes l up (g ∷ gs) p = ap₂ _∷_ (ap (λ R. (dayOf (g .0), R)) (set-runs cut sizes l up (g .1) (p .0))) (groups-paged dayOf cut sizes l up gs (p .1))
 
 -- ## The definition's pages
--- THE POPPED GROUPS ARE THE PAGES: where all rules are drawn, each cell numbers the day of its box's list, numbers in use name different days,
--- and the table of kinds tests them as the classes do
-pub pages-popped : (rows sizes table lists cells kinds : List ℕ) (rs : List Rule) → All Lawful rs → CutBy rows sizes table rs dimensions
-    → Listed sizes rows table lists rs (length rs)
+-- THE POPPED GROUPS ARE THE PAGES: where each cell numbers the day of its box's first point, numbers in use name different days, and the table of
+-- kinds tests them as the classes do
+pub pages-popped : (rows sizes table cells kinds : List ℕ) (rs : List Rule) → All Lawful rs → CutBy rows sizes table rs dimensions
     → (dayOf : ℕ → Day) (InUse : ℕ → Type 0) → ((u v : ℕ) → InUse u → InUse v → sameDay (dayOf u) (dayOf v) ≡ eqb u v) → dayOf 0 ≡ [] → InUse 0
     → getD kinds 0 0 ≡ 0 → Classed dayOf InUse kinds 1 dayClasses → ((j : ℕ) → InUse (getD cells j 0))
-    → ((p : List ℕ) → Within sizes 4 p → dayOf (getD cells (boxOf sizes 4 0 p) 0) ≡ day (map (ruleAt rs) (listOf lists (boxOf sizes 4 0 p))))
+    → ((p : List ℕ) → Within sizes 4 p → dayOf (getD cells (boxOf sizes 4 0 p) 0) ≡ day (listAt rs (startOf rows table 4 p)))
     → pages rs ≡ map (pageOf dayOf (cutOf rows table) 4) (groupsFrom cells kinds sizes 5 1 4)
 unfolding pages dayAt groupsFrom
-pages-popped rows sizes table lists cells kinds rs lawful cut listed dayOf InUse keeps z used empty classed cellsUsed shown =
+pages-popped rows sizes table cells kinds rs lawful cut dayOf InUse keeps z used empty classed cellsUsed shown =
     ap (λ D. map asRuns (groups sameDay eqb [] dayClasses D (dayAt rs))) (sym (cuts-points rows sizes table rs dimensions cut bounded))
     ∙ ap (map asRuns) (sym (groups-points dayOf InUse sameDay keeps [] z used (cutOf rows table) cells kinds sizes 5 1 4 up empty dayClasses (omega arith) classed (dayAt rs) cellsUsed
     (boxes-shown (cutOf rows table) sizes dayOf cells 4 0 (dayAt rs) same)))
@@ -88,5 +85,4 @@ pages-popped rows sizes table lists cells kinds rs lawful cut listed dayOf InUse
 
     same : (p q : List ℕ) → Within sizes 4 p → Under (cutOf rows table) 4 p q → dayOf (getD cells (boxOf sizes 4 0 p) 0) ≡ dayAt rs q
     same p q w u =
-        shown p w ∙ ap day (listed .list p w ∙ ap (λ z. listAt z (startOf rows table 4 p)) (take-length rs)
-        ∙ list-all rs (startOf rows table 4 p) q (box-marks rows sizes table rs dimensions cut bounded p q w u))
+        shown p w ∙ ap day (list-all rs (startOf rows table 4 p) q (box-marks rows sizes table rs dimensions cut bounded p q w u))

@@ -1,106 +1,83 @@
--- ALL RULES DRAWN: THE LIST AT EVERY POINT. Rests on what an update means, and on the points of a box.
-use mathlib.Core.Path.{_≡_, refl, sym, ap, ap₂, _∙_, subst}
-use mathlib.Core.Bool.{Bool, true, false}
-use mathlib.Core.Option.{some, none}
-use mathlib.Core.List.{List, [], _∷_, map}
-use Prim.Native.Nat.{ℕ, suc, _+_, _*_, _<_, _/_}
+-- FROM THE LISTS OF BOXES TO THOSE OF POINTS, where each box has the list of indexes at its first point: some box's list passes a test just where some
+-- point's does, and there are as many different ones over boxes as over points. Rests on the points of a box.
+use mathlib.Core.Path.{_≡_, sym, ap, _∙_}
+use mathlib.Core.Bool.{Bool, _||_}
+use mathlib.Core.List.{List, map}
+use Prim.Native.Nat.{ℕ, zero, suc, _+_, _*_}
+use native.Mathlib.Nat.{add-mul, mul-assoc}
 use native.Mathlib.Omega.{arith}
-use lib.Dec.{eqb, ltb}
-use borrow.Author.Tests.{eqb-true, eqb-false}
-use lib.ListN.{length, getD, take, length-map}
-use lib.Seq.{take-suc}
-use Rattle.laws.specs.Lists.{from, All}
-use Rattle.laws.proofs.Numbers.{first-at, first-none}
-use Rattle.grid.specs.Group.{somewhere}
-use Rattle.definition.specs.Rule.{Rule, noRule}
-use Rattle.definition.specs.Point.{dimensions, points, selector, combinations, replaces, after, listFrom, listAt, tooLong, firstTooLong}
-use Rattle.definition.proofs.FoldBox.{list-marks}
+use lib.Dec.{eqb}
+use lib.ListN.{length, getD, take}
+use Rattle.laws.specs.Lists.{from, anyOf, filled, All}
+use Rattle.laws.specs.Tests.{Exact, sameList}
+use Rattle.laws.proofs.Flags.{or-false}
+use Rattle.laws.proofs.Lists.{All-each, any-same, any-map, anyOf-append, Mem-any, any-Mem}
+use Rattle.laws.proofs.Numbers.{from-append}
+use Rattle.laws.proofs.Tests.{exact-eqb, exact-list}
+use Rattle.laws.proofs.Distinct.{distinct-same}
+use Rattle.grid.specs.Group.{pointsOf, somewhere}
+use Rattle.grid.proofs.Values.{any-points}
+use Rattle.definition.specs.Rule.{Rule}
+use Rattle.definition.specs.Point.{dimensions, points}
+use Rattle.definition.specs.Lists.{indexesAt, distinctLists, listCount}
+use Rattle.definition.proofs.FoldBox.{indexes-marks}
 use Rattle.definition.proofs.Lawful.{Lawful}
-use Rattle.definition.proofs.Points.{list-append}
-use Rattle.paving.specs.Grid.{Node}
-use Rattle.draw_rule.specs.Update.{leavesOf, Drawn, drawn, drawAll}
-use Rattle.tables.specs.Sizes.{listPlaces, listLimit}
-use Rattle.tables.specs.Ranges.{countOf, selectorOf}
-use Rattle.draw_rule.specs.Boxes.{afterNumber}
-use Rattle.tables.specs.Lists.{listOf, Within, boxOf, startOf, Listed}
-use Rattle.draw_rule.proofs.Meaning.{afterAt, update-rules, update-short, update-named, update-over, after-rules}
+use Rattle.paving.specs.Grid.{sizeOf, axes}
 use Rattle.tables.specs.Cuts.{cutOf, CutBy}
-use Rattle.tables.specs.Rules.{ruleAt}
+use Rattle.tables.specs.Lists.{Within, boxOf, startOf}
 use Rattle.paving_points.proofs.Boxes.{Under, somewhere-points, Bounded, lawful-bounded, cuts-rise, cuts-points, box-marks}
 
--- ## A rule more, at a point
-list-next : (rs : List Rule) (k : ℕ) (p : List ℕ) → k < length rs
-    → listAt (take (suc k) rs) p ≡ after (ruleAt rs k) (combinations (selector dimensions (ruleAt rs k)) p) (listAt (take k rs) p)
-unfolding listFrom
-list-next rs k p h = ap (λ z. listFrom [] z p) (take-suc rs k noRule h) ∙ list-append [] (take k rs) (ruleAt rs k ∷ []) p
+-- ## Boxes by their numbers and by their intervals
+-- n rows of S numbers each, one behind the other, from row s on
+any-rows : (t : ℕ → Bool) (a S s n : ℕ) → anyOf t (from (a + s * S) (n * S)) ≡ anyOf (λ x. anyOf t (from (a + x * S) S)) (from s n)
+unfolding anyOf from
+any-rows t a S s zero = ap (λ m. anyOf t (from (a + s * S) m)) (let z : 0 * S ≡ 0 = omega arith in z)
+any-rows t a S s (suc n) =
+    let size : suc n * S ≡ S + n * S = omega arith in
+    let next : a + s * S + S ≡ a + suc s * S = omega arith in
+    ap (λ m. anyOf t (from (a + s * S) m)) size ∙ ap (anyOf t) (sym (from-append (a + s * S) S (n * S) (a + suc s * S) next))
+    ∙ anyOf-append t (from (a + s * S) S) (from (a + suc s * S) (n * S)) ∙ ap (anyOf t (from (a + s * S) S) ||_) (any-rows t a S (suc s) n)
 
--- ## The lists
--- THE START: every list is empty
-pub listed-start : (sizes rows table lists : List ℕ) (rs : List Rule) → ((node : ℕ) → getD lists (node * listPlaces) 0 ≡ 0) → Listed sizes rows table lists rs 0
-unfolding listOf listFrom from
-listed-start sizes rows table lists rs h = record {
-  short = λ node. rw (h node) (omega arith);
-  named = λ node. subst (λ n. All (λ x. x < 0) (map (λ k. getD lists (node * listPlaces + 1 + k) 0) (from 0 n))) (sym (h node)) tt;
-  quiet = λ j l. absurd (omega arith);
-  list = λ p w. ap (λ n. map (ruleAt rs) (map (λ k. getD lists (boxOf sizes 4 0 p * listPlaces + 1 + k) 0) (from 0 n))) (h (boxOf sizes 4 0 p));
-}
+any-box : (t : ℕ → Bool) (sizes : List ℕ) (l node : ℕ) → anyOf t (from (node * sizeOf sizes l) (sizeOf sizes l)) ≡ somewhere (axes sizes l) (λ p. t (boxOf sizes l node p))
+unfolding anyOf from sizeOf axes somewhere boxOf
+any-box t sizes zero node = or-false (t (node * 1)) ∙ ap t (let z : node * 1 ≡ node = omega arith in z)
+any-box t sizes (suc i) node =
+    let n = getD sizes i 0 in
+    let S = sizeOf sizes i in
+    ap (λ m. anyOf t (from m (n * S))) (let z : node * (n * S) ≡ node * (n * S) + 0 * S = omega arith in z) ∙ any-rows t (node * (n * S)) S 0 n
+    ∙ any-same (λ x. anyOf t (from (node * (n * S) + x * S) S)) (λ x. somewhere (axes sizes i) (λ p. t (boxOf sizes i (node * n + x) p))) (from 0 n)
+    (All-each _ (λ x. ap (λ m. anyOf t (from m S)) (row x) ∙ any-box t sizes i (node * n + x)) (from 0 n))
+  where
+    row : (x : ℕ) → node * (getD sizes i 0 * sizeOf sizes i) + x * sizeOf sizes i ≡ (node * getD sizes i 0 + x) * sizeOf sizes i
+    row x = ap (_+ x * sizeOf sizes i) (sym (mul-assoc node (getD sizes i 0) (sizeOf sizes i))) ∙ sym (add-mul (node * getD sizes i 0) x (sizeOf sizes i))
 
--- rule k, drawn over all boxes from lists with no flag raised
-module _ (sizes counts rows table ranges lists : List ℕ) (rs : List Rule) (k : ℕ) (here : k < length rs) (before : Listed sizes rows table lists rs k)
-    (loaded : selectorOf counts ranges 4 ≡ selector dimensions (ruleAt rs k)) (below : Node (length lists / listPlaces) sizes 4 0)
-    (result : Drawn) (replacing : Bool) (r : replacing ≡ replaces (ruleAt rs k)) (rest : ℕ) (all : rest ≡ countOf counts 4)
-    (drawing : result ≡ drawAll k replacing (drawn lists false) (leavesOf sizes counts rows table ranges 4 0 rest)) where
-  drew : result ≡ drawAll k (replaces (ruleAt rs k)) (drawn lists false) (leavesOf sizes counts rows table ranges 4 0 (countOf counts 4))
-  drew = drawing ∙ ap₂ (λ b n. drawAll k b (drawn lists false) (leavesOf sizes counts rows table ranges 4 0 n)) r all
+-- ## Lists
+module _ (rows sizes table : List ℕ) (rs : List Rule) (lawful : All Lawful rs) (cut : CutBy rows sizes table rs dimensions) (n : ℕ) (f : ℕ → List ℕ)
+    (boxed : (p : List ℕ) → Within sizes 4 p → f (boxOf sizes 4 0 p) ≡ indexesAt (take n rs) (startOf rows table 4 p)) where
+  bounded : Bounded rs dimensions
+  bounded = lawful-bounded rs lawful
 
-  -- what the rule makes of a box's list
-  made : (p : List ℕ) → Within sizes 4 p → after (ruleAt rs k) (combinations (selectorOf counts ranges 4) (startOf rows table 4 p)) (map (ruleAt rs) (listOf lists (boxOf sizes 4 0 p)))
-      ≡ listAt (take (suc k) rs) (startOf rows table 4 p)
-  made p w =
-      ap₂ (λ S l. after (ruleAt rs k) (combinations S (startOf rows table 4 p)) l) loaded (before .list p w) ∙ sym (list-next rs k (startOf rows table 4 p) here)
+  each-point : (p q : List ℕ) → Within sizes 4 p → Under (cutOf rows table) 4 p q → f (boxOf sizes 4 0 p) ≡ indexesAt (take n rs) q
+  each-point p q w u = boxed p w ∙ indexes-marks rs n (startOf rows table 4 p) q (box-marks rows sizes table rs dimensions cut bounded p q w u)
 
-  -- a box's list after the rule, as numbers, is as long as the list at each of its points
-  abbrev long : List ℕ → Bool
-  long p = ltb listLimit (length (afterAt sizes counts rows table ranges k (replaces (ruleAt rs k)) lists 4 0 below (before .short) result drew p))
+  -- SOME LIST PASSES
+  pub some-list : (t : List ℕ → Bool) → anyOf (λ b. t (f b)) (from 0 (sizeOf sizes 4)) ≡ somewhere points (λ q. t (indexesAt (take n rs) q))
+  some-list t =
+      ap (λ m. anyOf (λ b. t (f b)) (from m (sizeOf sizes 4))) (let z : 0 ≡ 0 * sizeOf sizes 4 = omega arith in z) ∙ any-box (λ b. t (f b)) sizes 4 0
+      ∙ somewhere-points (cutOf rows table) sizes 4 (cuts-rise rows sizes table rs dimensions cut bounded) (λ p. t (f (boxOf sizes 4 0 p))) (λ q. t (indexesAt (take n rs) q))
+      (λ p q w u. ap t (each-point p q w u))
+      ∙ ap (λ D. somewhere D (λ q. t (indexesAt (take n rs) q))) (cuts-points rows sizes table rs dimensions cut bounded)
 
-  long-points : CutBy rows sizes table rs dimensions → Bounded rs dimensions → (p q : List ℕ) → Within sizes 4 p → Under (cutOf rows table) 4 p q
-      → long p ≡ tooLong listLimit rs k q
-  unfolding tooLong
-  long-points cut bounded p q w u =
-      let n = combinations (selectorOf counts ranges 4) (startOf rows table 4 p) in
-      let l = listOf lists (boxOf sizes 4 0 p) in
-      ap (ltb listLimit) (sym (length-map (afterNumber k (replaces (ruleAt rs k)) n l) (ruleAt rs)))
-      ∙ ap (λ z. ltb listLimit (length z))
-      (after-rules (ruleAt rs) k n l ∙ made p w ∙ list-marks [] rs (suc k) (startOf rows table 4 p) q (box-marks rows sizes table rs dimensions cut bounded p q w u))
-
-  -- THE FLAG: raised just where some point's list is too long after the rule
-  over-somewhere : All Lawful rs → CutBy rows sizes table rs dimensions → result .over ≡ somewhere points (tooLong listLimit rs k)
-  over-somewhere lawful cut =
-      let bounded = lawful-bounded rs lawful in
-      update-over sizes counts rows table ranges k (replaces (ruleAt rs k)) lists 4 0 below (before .short) result drew
-      ∙ somewhere-points (cutOf rows table) sizes 4 (cuts-rise rows sizes table rs dimensions cut bounded) long (tooLong listLimit rs k) (long-points cut bounded)
-      ∙ ap (λ D. somewhere D (tooLong listLimit rs k)) (cuts-points rows sizes table rs dimensions cut bounded)
-
-  -- THE STEP: where no list is too long, the lists are those of a rule more
-  pub listed-next : All Lawful rs → CutBy rows sizes table rs dimensions → result .over ≡ false → Listed sizes rows table (result .lists) rs (suc k)
-  listed-next lawful cut calm = record {
-    short = update-short sizes counts rows table ranges k (replaces (ruleAt rs k)) lists 4 0 below (before .short) result drew calm;
-    named = update-named sizes counts rows table ranges k (replaces (ruleAt rs k)) lists 4 0 below (before .short) result drew calm (before .named);
-    quiet = λ j l. until j l (eqb j k) refl;
-    list = λ p w. update-rules (ruleAt rs) sizes counts rows table ranges k lists 4 0 below (before .short) result drew calm p w ∙ made p w;
-  }
+  -- HOW MANY LISTS
+  pub lists-counted : length (distinctLists (map f (from 0 (sizeOf sizes 4)))) ≡ listCount rs n
+  unfolding listCount
+  lists-counted =
+      distinct-same exact filled (map f (from 0 (sizeOf sizes 4))) (map (indexesAt (take n rs)) (pointsOf points))
+      (λ w m _. any-Mem exact w (map (indexesAt (take n rs)) (pointsOf points)) (sym (both w) ∙ Mem-any exact w (map f (from 0 (sizeOf sizes 4))) m))
+      (λ w m _. any-Mem exact w (map f (from 0 (sizeOf sizes 4))) (both w ∙ Mem-any exact w (map (indexesAt (take n rs)) (pointsOf points)) m))
     where
-      until : (j : ℕ) → j < suc k → (b : Bool) → eqb j k ≡ b → somewhere points (tooLong listLimit rs j) ≡ false
-      until j l true e = rw (eqb-true j k e) (sym (over-somewhere lawful cut) ∙ calm)
-      until j l false e = before .quiet j (omega (arith, eqb-false j k e))
+      exact : Exact (sameList eqb)
+      exact = exact-list exact-eqb
 
-  -- THE REFUSAL: where one is, the rule is the definition's first
-  pub listed-over : All Lawful rs → CutBy rows sizes table rs dimensions → result .over ≡ true → firstTooLong listLimit rs ≡ some k
-  unfolding firstTooLong
-  listed-over lawful cut loud = first-at (λ j. somewhere points (tooLong listLimit rs j)) k 0 (length rs) (omega arith) (omega arith) (λ j l h. before .quiet j h)
-      (sym (over-somewhere lawful cut) ∙ loud)
-
--- THE END: after the last rule there is none
-pub listed-end : (sizes rows table lists : List ℕ) (rs : List Rule) → Listed sizes rows table lists rs (length rs) → firstTooLong listLimit rs ≡ none
-unfolding firstTooLong
-listed-end sizes rows table lists rs h = first-none (λ j. somewhere points (tooLong listLimit rs j)) 0 (length rs) (λ j l k. h .quiet j (omega arith))
+      both : (w : List ℕ) → anyOf (sameList eqb w) (map f (from 0 (sizeOf sizes 4))) ≡ anyOf (sameList eqb w) (map (indexesAt (take n rs)) (pointsOf points))
+      both w = any-map (sameList eqb w) f (from 0 (sizeOf sizes 4)) ∙ some-list (sameList eqb w) ∙ sym (any-points (sameList eqb w) points (indexesAt (take n rs)))

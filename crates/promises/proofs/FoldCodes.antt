@@ -8,7 +8,7 @@ use Prim.Native.Nat.{ℕ}
 use lib.Dec.{eqb, ltb}
 use lib.ListN.{length}
 use borrow.Author.Tests.{eqb-true, ltb-true, ltb-false, lt-ltb, le-ltb}
-use Rattle.definition.specs.Field.{Read, got, refused, daysTwice, manyBoxes, longList, pastCounts, noRoom}
+use Rattle.definition.specs.Field.{Read, got, refused, daysTwice, manyBoxes, longList, manyLists, pastCounts, noRoom}
 use Rattle.definition.specs.Rule.{Rule}
 use Rattle.definition.specs.Sheet.{Form, Limits, decode}
 use Rattle.definition.specs.Stop.{drained, left, why}
@@ -17,10 +17,10 @@ use Rattle.definition.specs.Box.{boxCount}
 use Rattle.definition.specs.Group.{folded}
 use Rattle.definition.specs.Fold.{Folded, refusal, fine, drain, fitted, fold}
 use Rattle.definition.proofs.FoldCases.{fold-refused, fold-over, fold-past, fold-carried}
-use Rattle.promises.specs.Conditions.{written, Accepted, DaysTwice, ManyBoxes, LongList, Foldable, PastCounts, Writable, WritingRows}
+use Rattle.promises.specs.Conditions.{written, Accepted, DaysTwice, ManyBoxes, LongList, ManyLists, Foldable, PastCounts, Writable, WritingRows}
 use Rattle.promises.specs.Codes.{result, FoldRows, FoldAnswers, FoldCodes}
 use Rattle.promises.proofs.Reading.{row, reading-rows, reading-told}
-use Rattle.promises.proofs.Draining.{drain-twice, drain-many, drain-long, drain-fine, DrainCases, drain-cases}
+use Rattle.promises.proofs.Draining.{drain-twice, drain-many, drain-long, drain-lists, drain-fine, DrainCases, drain-cases}
 use Rattle.promises.proofs.PastCounts.{more-past, PastCases, past-cases, none-past}
 
 -- the answer of an accepted fold, rs being the rules of the sheet
@@ -53,6 +53,9 @@ module _ (form : Form) (limits : Limits) (room : ℕ) (sheet : List ℕ) where
   long-answer : (p : ℕ) → LongList form limits sheet p → answer ≡ refusal longList p
   long-answer p (rs, ((a, o), l), h) = fold-over form limits room sheet rs (a .0) (a .1) longList p (drain-long limits (drained rs) p o l h)
 
+  lists-answer : (p : ℕ) → ManyLists form limits sheet p → answer ≡ refusal manyLists p
+  lists-answer p (rs, ((a, o), l), h) = fold-over form limits room sheet rs (a .0) (a .1) manyLists p (drain-lists limits (drained rs) p o l h)
+
   pub foldable-fine : (rs : List Rule) → Foldable form limits sheet rs → drain limits (drained rs) ≡ fine
   foldable-fine rs (((a, o), l), h) = drain-fine limits (drained rs) o l h
 
@@ -83,8 +86,8 @@ module _ (form : Form) (limits : Limits) (room : ℕ) (sheet : List ℕ) where
   outcome c p =
       reading-rows form limits sheet c p (λ e. inl (refused-answer c p e)) (row (eqb c daysTwice) (λ t k. at daysTwice t (twice-answer p k))
       (row (eqb c manyBoxes) (λ t k. at manyBoxes t (boxes-answer p k)) (row (eqb c longList) (λ t k. at longList t (long-answer p k))
-      (row (eqb c pastCounts) (λ t k. at pastCounts t (past-answer p k)) (row (eqb c noRoom) (λ t k. at noRoom t (room-answer p k))
-      (row (eqb c 0) (λ t k. inr (eqb-true c 0 t, k)) (λ k. absurd k)))))))
+      (row (eqb c manyLists) (λ t k. at manyLists t (lists-answer p k)) (row (eqb c pastCounts) (λ t k. at pastCounts t (past-answer p k))
+      (row (eqb c noRoom) (λ t k. at noRoom t (room-answer p k)) (row (eqb c 0) (λ t k. inr (eqb-true c 0 t, k)) (λ k. absurd k))))))))
     where
       at : (d : ℕ) → eqb c d ≡ true → answer ≡ refusal d p → (answer ≡ refusal c p) ⊎ ((c ≡ 0) × Done p)
       at d t e = inl (e ∙ ap (λ i. refusal i p) (sym (eqb-true c d t)))
@@ -126,7 +129,10 @@ module _ (form : Form) (limits : Limits) (room : ℕ) (sheet : List ℕ) where
       judge rs a (inr (o, inr (l, inl h))) =
           let k : LongList form limits sheet (h .0) = (rs, ((a, o), l), h .1) in
           tell (refusal longList (h .0)) (long-answer (h .0) k) k
-      judge rs a (inr (o, inr (l, inr h))) = counts rs (((a, o), l), h) (past-cases form (written rs))
+      judge rs a (inr (o, inr (l, inr (inl h)))) =
+          let k : ManyLists form limits sheet (h .0) = (rs, ((a, o), l), h .1) in
+          tell (refusal manyLists (h .0)) (lists-answer (h .0) k) k
+      judge rs a (inr (o, inr (l, inr (inr h)))) = counts rs (((a, o), l), h) (past-cases form (written rs))
 
       go : (r : Read (List Rule)) → decode form limits sheet ≡ r → FoldRows form limits sheet room (answer .code) (answer .place)
       go (refused c p) e = tell (refusal c p) (refused-answer c p e) (reading-told form limits sheet _ c p e)

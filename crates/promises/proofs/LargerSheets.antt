@@ -1,17 +1,20 @@
 -- LARGER SHEETS: what raised limits keep, and where 13 comes. Rests on the table of the fold, on how a sheet is read under raised limits, on the law that a
 -- form's counts can carry what the limits let come out, and on the law that a sheet and what it is converted to fold alike.
-use mathlib.Core.Path.{_≡_, refl, sym, ap, _∙_, subst}
+use mathlib.Core.Path.{_≡_, refl, sym, ap, _∙_}
 use mathlib.Core.List.{List}
 use mathlib.Core.Logic.{_⊎_, inl, inr}
 use mathlib.Core.Bool.{Bool, true, false, _&&_}
-use Prim.Native.Nat.{ℕ, _≤_}
+use mathlib.Core.Option.{Option, none, some}
+use Prim.Native.Nat.{ℕ, suc, _≤_, _<_}
 use native.Mathlib.Omega.{arith}
 use lib.Dec.{ltb}
-use Rattle.definition.specs.Field.{Read, got, refused, manyBoxes, field, _then_, via, tagged, several}
+use Rattle.definition.specs.Field.{Read, got, refused, manyBoxes, manyLists, field, _then_, via, tagged, several}
 use Rattle.definition.specs.Rule.{midnight24, Rule}
 use Rattle.definition.specs.Sheet.{Form, Limits, form1, form2, sheetLimits, formerLimits, title, counts, head, rule, opening, rules, decode, encode}
 use Rattle.definition.specs.Stop.{drained}
 use Rattle.definition.specs.Point.{dimensions}
+use Rattle.definition.specs.Lists.{firstRefused}
+use Rattle.definition.specs.Overlap.{firstOverlap}
 use Rattle.definition.specs.Box.{boxCount}
 use Rattle.definition.specs.Group.{folded}
 use Rattle.definition.specs.Date.{isDate}
@@ -19,15 +22,22 @@ use Rattle.definition.specs.Fold.{Drained, over, drain, fitted, carried, foldRu
 use Rattle.definition.specs.Show.{showLine}
 use Rattle.definition.specs.Lookup.{lookRules, lookup}
 use Rattle.definition.specs.Forms.{convertRules, convert}
+use Rattle.laws.proofs.Numbers.{at-most}
 use Rattle.definition.proofs.Faithful.{clash}
+use Rattle.definition.proofs.Lists.{refused-alike}
+use Rattle.definition.proofs.Drained.{drain-twice, drain-many, drain-lists, drain-fine}
+use Rattle.definition.proofs.Counts.{lists-count}
+use Rattle.definition.proofs.FoldBox.{drained-all}
+use Rattle.definition.proofs.Lawful.{Lawful, rules-lawful}
+use Rattle.definition.proofs.SheetRead.{encode-decoded}
 use Rattle.definition.proofs.RuleCounts.{Roomy, roomy2, roomy-former1, roomy-former2, counts-fit}
 use Rattle.definition.proofs.OtherForm.{holds2}
 use Rattle.definition.proofs.FoldCases.{fold-refused, fold-judged, fold-over}
-use Rattle.promises.specs.Conditions.{FirstLong, AllShort, written}
+use Rattle.promises.specs.Conditions.{written}
 use Rattle.promises.specs.Convert.{DoneOrHeld}
-use Rattle.promises.specs.LargerSheets.{NeverPast, Form2Can, OnlyInForm1, Raised, RaisedKeeps, RemainLawful, StoredSheets}
+use Rattle.promises.specs.LargerSheets.{NeverPast, NeverMany, Form2Can, OnlyInForm1, Raised, Stays, RaisedKeeps, RemainLawful, StoredSheets}
 use Rattle.promises.proofs.Reading.{met-read}
-use Rattle.promises.proofs.Draining.{drain-twice, drain-many, drain-long, drain-fine, DrainCases, drain-cases}
+use Rattle.promises.proofs.Lists.{counted-most}
 use Rattle.promises.proofs.PastCounts.{fits-none}
 use Rattle.promises.proofs.FoldCodes.{foldable-fine, fold-codes}
 use Rattle.promises.proofs.ReadBack.{same-bits}
@@ -66,27 +76,37 @@ only-in-form1 room sheet = record {
 
 -- ## Raised limits
 module _ (limits raised : Limits) (up : Raised limits raised) where
-  -- drained rules that 5 doesn't refuse are judged as before
-  judged-same : (ds : List Rule) → ((p : ℕ) → drain limits ds ≡ over manyBoxes p → ⊥) → drain raised ds ≡ drain limits ds
-  judged-same ds h = go (drain-cases limits ds)
-    where
-      few : boxCount dimensions ds ≤ limits .boxes → boxCount dimensions ds ≤ raised .boxes
-      few l = omega (arith, up .boxes-raised)
+  -- drained rules that 5 doesn't refuse are judged as before, where 14 refuses them neither before nor now
+  module _ (ds : List Rule) (h : (c p : ℕ) → drain limits ds ≡ over c p → (c ≡ manyBoxes → ⊥) × (c ≡ manyLists → ⊥)) (g : (p : ℕ) → drain raised ds ≡ over manyLists p → ⊥) where
+    module _ (t : firstOverlap ds ≡ none) (l : boxCount dimensions ds ≤ limits .boxes) where
+      few : boxCount dimensions ds ≤ raised .boxes
+      few = omega (arith, up .boxes-raised)
 
-      go : DrainCases limits ds → drain raised ds ≡ drain limits ds
-      go (inl (k, t)) = drain-twice raised ds k t ∙ sym (drain-twice limits ds k t)
-      go (inr (o, inl l)) = absurd (h _ (drain-many limits ds _ o l refl))
-      go (inr (o, inr (l, inl (k, f)))) =
-          drain-long raised ds k o (few l) (subst (λ n. FirstLong n ds k) (sym (up .entries-kept)) f) ∙ sym (drain-long limits ds k o l f)
-      go (inr (o, inr (l, inr s))) = drain-fine raised ds o (few l) (subst (λ n. AllShort n ds) (sym (up .entries-kept)) s) ∙ sym (drain-fine limits ds o l s)
+      -- 6 has its limit, and 14 comes in neither
+      same-refused : firstRefused raised ds ≡ firstRefused limits ds
+      same-refused =
+          refused-alike raised limits ds (up .entries-kept) (λ k e. g k (drain-lists raised ds t few manyLists k e))
+          (λ k e. h manyLists k (drain-lists limits ds t l manyLists k e) .1 refl)
 
-  look-same : (rs : List Rule) (y mo d m : ℕ) → ((lookRules limits rs y mo d m) .code ≡ manyBoxes → ⊥) → lookRules raised rs y mo d m ≡ lookRules limits rs y mo d m
+      by-lists : (o : Option (ℕ × ℕ)) → firstRefused limits ds ≡ o → drain raised ds ≡ drain limits ds
+      by-lists none e = drain-fine raised ds t few (same-refused ∙ e) ∙ sym (drain-fine limits ds t l e)
+      by-lists (some m) e = drain-lists raised ds t few (m .0) (m .1) (same-refused ∙ e) ∙ sym (drain-lists limits ds t l (m .0) (m .1) e)
+
+    judged-same : drain raised ds ≡ drain limits ds
+    judged-same = go (firstOverlap ds) refl (at-most (boxCount dimensions ds) (limits .boxes))
+      where
+        go : (o : Option ℕ) → firstOverlap ds ≡ o → (boxCount dimensions ds ≤ limits .boxes) ⊎ (limits .boxes < boxCount dimensions ds) → drain raised ds ≡ drain limits ds
+        go (some k) t b = drain-twice raised ds k t ∙ sym (drain-twice limits ds k t)
+        go none t (inl l) = by-lists t l (firstRefused limits ds) refl
+        go none t (inr l) = absurd (h manyBoxes _ (drain-many limits ds t l) .0 refl)
+
+  look-same : (rs : List Rule) (y mo d m : ℕ) → Stays ((lookRules limits rs y mo d m) .code) ((lookRules raised rs y mo d m) .code) → lookRules raised rs y mo d m ≡ lookRules limits rs y mo d m
   unfolding lookRules
   look-same rs y mo d m h = go (isDate y mo d && ltb m midnight24) refl
     where
       go : (b : Bool) → isDate y mo d && ltb m midnight24 ≡ b → lookRules raised rs y mo d m ≡ lookRules limits rs y mo d m
       go false e = rw (e, lookRules)
-      go true e = let k = judged-same (drained rs) (λ p z. h (rw (e, z, lookRules))) in rw (e, k, lookRules)
+      go true e = let k = judged-same (drained rs) (λ c p z. (λ q. h .0 (rw (e, z, lookRules) q), λ q. h .1 (rw (e, z, lookRules) q))) (λ p z. h .2 (rw (e, z, lookRules))) in rw (e, k, lookRules)
 
   -- bits don't depend on limits: judged rules are written as before, and so are converted ones
   writes-same : (form : Form) (room : ℕ) (rs : List Rule)
@@ -96,25 +116,27 @@ module _ (limits raised : Limits) (up : Raised limits raised) where
   writes-same form room rs = (λ j foldedRules. refl, refl)
 
   module _ (form : Form) (sheet : List ℕ) (same : decode form raised sheet ≡ decode form limits sheet) where
-    fold-same : (room : ℕ) → ((fold form limits room sheet) .code ≡ manyBoxes → ⊥) → fold form raised room sheet ≡ fold form limits room sheet
+    fold-same : (room : ℕ) → Stays ((fold form limits room sheet) .code) ((fold form raised room sheet) .code) → fold form raised room sheet ≡ fold form limits room sheet
     fold-same room h = go (decode form limits sheet) refl
       where
         go : (r : Read (List Rule)) → decode form limits sheet ≡ r → fold form raised room sheet ≡ fold form limits room sheet
         go (refused c p) e = fold-refused form raised room sheet c p (same ∙ e) ∙ sym (fold-refused form limits room sheet c p e)
         go (got rs q) e =
             let j = drain limits (drained rs) in
-            let k = judged-same (drained rs) (λ p z. h (ap (λ f. f .code) (fold-over form limits room sheet rs q e manyBoxes p z))) in
+            let k = judged-same (drained rs)
+            (λ c p z. let over-code = ap (λ f. f .code) (fold-over form limits room sheet rs q e c p z) in (λ i. h .0 (over-code ∙ i), λ i. h .1 (over-code ∙ i)))
+            (λ p z. h .2 (ap (λ f. f .code) (fold-over form raised room sheet rs q (same ∙ e) manyLists p z))) in
             fold-judged form raised room sheet rs q (same ∙ e) j k ∙ writes-same form room rs .0 j (folded (drained rs))
             ∙ sym (fold-judged form limits room sheet rs q e j refl)
 
-    lookup-same : (y mo d m : ℕ) → ((lookup form limits sheet y mo d m) .code ≡ manyBoxes → ⊥)
+    lookup-same : (y mo d m : ℕ) → Stays ((lookup form limits sheet y mo d m) .code) ((lookup form raised sheet y mo d m) .code)
         → lookup form raised sheet y mo d m ≡ lookup form limits sheet y mo d m
     unfolding lookup
     lookup-same y mo d m h = go (decode form limits sheet) refl
       where
         go : (r : Read (List Rule)) → decode form limits sheet ≡ r → lookup form raised sheet y mo d m ≡ lookup form limits sheet y mo d m
         go (refused c p) e = rw (same, e, lookup)
-        go (got rs q) e = rw (same, e, lookup) (look-same rs y mo d m (λ z. h (rw (e, lookup) z)))
+        go (got rs q) e = rw (same, e, lookup) (look-same rs y mo d m (λ z. h .0 (rw (e, lookup) z), λ z. h .1 (rw (e, lookup) z), λ z. h .2 (rw (same, e, lookup) z)))
 
     back-same : (room : ℕ) → writeBack form raised room sheet ≡ writeBack form limits room sheet
     unfolding writeBack
@@ -156,6 +178,17 @@ remain-lawful form limits raised up sheet rs a =
     ((a .0, same .same-reading ∙ a .1), same)
 
 -- ## Stored sheets
+-- where there may be as many lists as boxes, there are never too many
+pub never-many : (form : Form) (limits : Limits) → limits .boxes ≤ limits .lists → (room : ℕ) (sheet : List ℕ) → NeverMany form limits room sheet
+never-many form limits l room sheet whole e =
+    let h = (fold-codes form limits room sheet 14 ((fold form limits room sheet) .place)) .only (e, refl) in
+    let rs = h .0 in
+    let a = h .1 .0 .0 in
+    let n = suc ((fold form limits room sheet) .place) in
+    let many = h .2 .2 in
+    let lawful = drained-all Lawful rs (rules-lawful form limits rs (encode-decoded form limits sheet whole rs (a .0) (a .1) .0)) in
+    omega (arith, l, h .1 .1, many .2, counted-most (drained rs) n (many .0) (many .1), lists-count (drained rs) lawful n)
+
 pub raised-now : Raised formerLimits sheetLimits
 raised-now = omega arith
 
@@ -164,7 +197,9 @@ stored form roomy = record {
   answers = raised-keeps form formerLimits sheetLimits raised-now;
   lawful = lawful;
   never-before = before;
-  never-now = λ room sheet rs a h whole e. before room sheet whole (sym (ap (λ f. f .code) (lawful sheet rs a .1 .same-fold room h)) ∙ e);
+  never-now = λ room sheet rs a h whole e.
+      before room sheet whole (sym (ap (λ f. f .code) (lawful sheet rs a .1 .same-fold room (h, never-many form formerLimits (omega arith) room sheet whole, λ z. absurd (omega arith)))) ∙ e);
+  never-many = never-many form formerLimits (omega arith);
 }
   where
     lawful : RemainLawful form formerLimits sheetLimits

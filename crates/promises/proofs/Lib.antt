@@ -7,7 +7,7 @@ pub mod Pages
 pub mod Going
 pub mod Refusals
 pub mod Ends
-pub mod TooLong
+pub mod Lists
 pub mod Twice
 pub mod Reading
 pub mod Draining
@@ -29,3 +29,4 @@ pub mod ThereAndBack
 pub mod CallersForm
 pub mod RaisedReading
 pub mod LargerSheets
+pub mod NewLists

@@ -8,7 +8,7 @@ use Prim.Native.Nat.{ℕ}
 use lib.Dec.{eqb}
 use borrow.Author.Tests.{eqb-true}
 use Rattle.laws.specs.Lists.{anyOf, All}
-use Rattle.definition.specs.Field.{Read, got, refused, daysTwice, manyBoxes, longList, noDate, unsettled}
+use Rattle.definition.specs.Field.{Read, got, refused, daysTwice, manyBoxes, longList, manyLists, noDate, unsettled}
 use Rattle.definition.specs.Rule.{closed, Rule}
 use Rattle.definition.specs.Sheet.{Form, Limits, decode}
 use Rattle.definition.specs.Stop.{drained, left}
@@ -18,10 +18,10 @@ use Rattle.definition.specs.Day.{Stated, entryOf, flattened, simple, within, la
 use Rattle.definition.specs.Date.{pointOf}
 use Rattle.definition.specs.Fold.{over, drain}
 use Rattle.definition.specs.Lookup.{Looked, refusal, found, anyLeft, stateAt, lookRules, lookup}
-use Rattle.promises.specs.Conditions.{Accepted, DaysTwice, ManyBoxes, LongList, Foldable}
+use Rattle.promises.specs.Conditions.{Accepted, DaysTwice, ManyBoxes, LongList, ManyLists, Foldable}
 use Rattle.promises.specs.Codes.{dated, Settled, LookupRows, LookupAnswers, LookupCodes}
 use Rattle.promises.proofs.Reading.{row, reading-rows, reading-told}
-use Rattle.promises.proofs.Draining.{drain-twice, drain-many, drain-long, drain-fine, DrainCases, drain-cases}
+use Rattle.promises.proofs.Draining.{drain-twice, drain-many, drain-long, drain-lists, drain-fine, DrainCases, drain-cases}
 
 -- ## Settled or not
 none-left : (rs : List Rule) → anyLeft rs ≡ false → rs ≡ []
@@ -86,6 +86,9 @@ module _ (form : Form) (limits : Limits) (sheet : List ℕ) (y mo d m : ℕ) whe
   long-answer : (p : ℕ) → dated y mo d m ≡ true → LongList form limits sheet p → answer ≡ refusal longList p
   long-answer p t h = over-answer (h .0) longList p t (h .1 .0 .0) (drain-long limits (drained (h .0)) p (h .1 .0 .1) (h .1 .1) (h .2))
 
+  lists-answer : (p : ℕ) → dated y mo d m ≡ true → ManyLists form limits sheet p → answer ≡ refusal manyLists p
+  lists-answer p t h = over-answer (h .0) manyLists p t (h .1 .0 .0) (drain-lists limits (drained (h .0)) p (h .1 .0 .1) (h .1 .1) (h .2))
+
   state-answer : (rs : List Rule) → dated y mo d m ≡ true → Foldable form limits sheet rs → answer ≡ stateAt (left rs) (listAt (drained rs) (pointOf y mo d)) m
   unfolding lookup lookRules
   state-answer rs t h = rw (h .0 .0 .0 .1, lookup, t, drain-fine limits (drained rs) (h .0 .0 .1) (h .0 .1) (h .1), lookRules)
@@ -110,8 +113,9 @@ module _ (form : Form) (limits : Limits) (sheet : List ℕ) (y mo d m : ℕ) whe
       (row (eqb c daysTwice) (λ t k. at daysTwice p t refl (twice-answer p (k .0) (k .1)))
       (row (eqb c manyBoxes) (λ t k. at manyBoxes p t refl (boxes-answer p (k .0) (k .1)))
       (row (eqb c longList) (λ t k. at longList p t refl (long-answer p (k .0) (k .1)))
+      (row (eqb c manyLists) (λ t k. at manyLists p t refl (lists-answer p (k .0) (k .1)))
       (row (eqb c unsettled) (λ t k. at unsettled 0 t (k .4) (doubt-answer (k .0) (k .1) (k .2) (doubts (k .0) (k .3) (doubt (k .0)) refl)))
-      (row (eqb c 0) (λ t k. inr (eqb-true c 0 t, k)) (λ k. absurd k)))))))
+      (row (eqb c 0) (λ t k. inr (eqb-true c 0 t, k)) (λ k. absurd k))))))))
     where
       at : (e i : ℕ) → eqb c e ≡ true → p ≡ i → answer ≡ refusal e i → (answer ≡ refusal c p) ⊎ ((c ≡ 0) × Sure p)
       at e i t q h = inl (h ∙ ap₂ refusal (sym (eqb-true c e t)) (sym q))
@@ -152,7 +156,10 @@ module _ (form : Form) (limits : Limits) (sheet : List ℕ) (y mo d m : ℕ) whe
       judge rs t a (inr (o, inr (l, inl h))) =
           let k : LongList form limits sheet (h .0) = (rs, ((a, o), l), h .1) in
           tell (refusal longList (h .0)) (long-answer (h .0) t k) (t, k)
-      judge rs t a (inr (o, inr (l, inr h))) = look rs t (((a, o), l), h) (doubt rs) refl
+      judge rs t a (inr (o, inr (l, inr (inl h)))) =
+          let k : ManyLists form limits sheet (h .0) = (rs, ((a, o), l), h .1) in
+          tell (refusal manyLists (h .0)) (lists-answer (h .0) t k) (t, k)
+      judge rs t a (inr (o, inr (l, inr (inr h)))) = look rs t (((a, o), l), h) (doubt rs) refl
 
       date : (rs : List Rule) → Accepted form limits sheet rs → (b : Bool) → dated y mo d m ≡ b → Told
       date rs a false t = tell (refusal noDate 0) (date-answer rs a t) (rs, a, t, refl)

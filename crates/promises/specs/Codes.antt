@@ -1,12 +1,12 @@
 -- Demand 1: when each code comes, and with which place, both ways: the table of 01 for the fold, for writing back and for the lookup, with 02's
--- 11 and 13, and 02's for the line; the conversion's stands in Convert. A number that stands in no row is never answered.
+-- 11, 14 and 13, and 02's for the line; the conversion's stands in Convert. A number that stands in no row is never answered.
 use mathlib.Core.Path.{_≡_}
 use mathlib.Core.List.{List, [], map}
 use mathlib.Core.Bool.{Bool, true, false, _&&_}
 use Prim.Native.Nat.{ℕ}
 use lib.Dec.{eqb, ltb}
 use Rattle.laws.specs.Lists.{All}
-use Rattle.definition.specs.Field.{sheetBits, daysTwice, manyBoxes, longList, pastCounts, noDate, unsettled, noWords}
+use Rattle.definition.specs.Field.{sheetBits, daysTwice, manyBoxes, longList, manyLists, pastCounts, noDate, unsettled, noWords}
 use Rattle.definition.specs.Rule.{midnight24, Rule}
 use Rattle.definition.specs.Sheet.{Form, Limits, encode}
 use Rattle.definition.specs.Stop.{drained, left}
@@ -18,7 +18,7 @@ use Rattle.definition.specs.Line.{line}
 use Rattle.definition.specs.Show.{showLine}
 use Rattle.definition.specs.Lookup.{lookup}
 use Rattle.promises.specs.Fields.{FieldKind, Refused}
-use Rattle.promises.specs.Conditions.{Met, Accepted, written, DaysTwice, ManyBoxes, LongList, Foldable, PastCounts, Writable, NoWords, Showable, given, ReadingRows, WritingRows}
+use Rattle.promises.specs.Conditions.{Met, Accepted, written, DaysTwice, ManyBoxes, LongList, ManyLists, Foldable, PastCounts, Writable, NoWords, Showable, given, ReadingRows, WritingRows}
 
 -- the one exactly when the other
 pub record Exactly (A B : Type 0) : Type 0 where
@@ -49,8 +49,9 @@ module _ (form : Form) (limits : Limits) (sheet : List ℕ) where
         (given (eqb c daysTwice) (DaysTwice form limits sheet p)
         (given (eqb c manyBoxes) (ManyBoxes form limits sheet p)
         (given (eqb c longList) (LongList form limits sheet p)
+        (given (eqb c manyLists) (ManyLists form limits sheet p)
         (given (eqb c pastCounts) (PastCounts form limits sheet p)
-        (WritingRows room (Writable form limits sheet) (result form limits) c p)))))
+        (WritingRows room (Writable form limits sheet) (result form limits) c p))))))
 
     abbrev pub FoldAnswers : ℕ → ℕ → Type 0
     FoldAnswers c p = ((fold form limits room sheet) .code ≡ c) × ((fold form limits room sheet) .place ≡ p)
@@ -89,8 +90,9 @@ module _ (form : Form) (limits : Limits) (sheet : List ℕ) where
         (given (eqb c daysTwice) ((dated y mo d m ≡ true) × DaysTwice form limits sheet p)
         (given (eqb c manyBoxes) ((dated y mo d m ≡ true) × ManyBoxes form limits sheet p)
         (given (eqb c longList) ((dated y mo d m ≡ true) × LongList form limits sheet p)
+        (given (eqb c manyLists) ((dated y mo d m ≡ true) × ManyLists form limits sheet p)
         (given (eqb c unsettled) ((rs : List Rule) × (dated y mo d m ≡ true) × Foldable form limits sheet rs × (Settled y mo d rs → ⊥) × (p ≡ 0))
-        (given (eqb c 0) ((rs : List Rule) × (dated y mo d m ≡ true) × Foldable form limits sheet rs × Settled y mo d rs × (p ≡ 0)) ⊥))))))
+        (given (eqb c 0) ((rs : List Rule) × (dated y mo d m ≡ true) × Foldable form limits sheet rs × Settled y mo d rs × (p ≡ 0)) ⊥)))))))
 
     abbrev pub LookupAnswers : ℕ → ℕ → Type 0
     LookupAnswers c p = ((lookup form limits sheet y mo d m) .code ≡ c) × ((lookup form limits sheet y mo d m) .place ≡ p)

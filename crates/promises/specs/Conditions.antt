@@ -1,19 +1,22 @@
 -- 01, "Numbers of the answer": the conditions that the table of codes speaks of, each without those before it in the order "1, 2 and 4 as
--- met from the first bit on; then 3, 8, 5, 6, 9, 7", with 10 of 02 "after 3, before 7", its 11 "after 8, before 5" and its 13 "after 9, before 7".
+-- met from the first bit on; then 3, 8, 5, 6, 9, 7", with 10 of 02 "after 3, before 7", its 11 "after 8, before 5", its 14 "in the old place of 6", rule by rule
+-- after 6, and its 13 "after 9, before 7".
 use mathlib.Core.Path.{_≡_}
-use mathlib.Core.List.{List, _++_}
+use mathlib.Core.List.{List, [], _++_}
 use mathlib.Core.Logic.{_⊎_}
 use mathlib.Core.Bool.{Bool, true, false}
 use Prim.Native.Nat.{ℕ, suc, _*_, _≤_, _<_}
 use lib.Dec.{eqb}
 use lib.ListN.{length, take, getD}
-use Rattle.laws.specs.Lists.{All, FirstAt, Mem}
+use Rattle.laws.specs.Lists.{All, Distinct, FirstAt, Mem}
+use Rattle.laws.specs.Tests.{sameList}
 use Rattle.grid.specs.Cut.{holds}
 use Rattle.definition.specs.Field.{got, refused, bytesFor, sheetBits, pastEnd, unlawful, badEnd, overLimit, noRoom}
 use Rattle.definition.specs.Rule.{Rule, noRule}
 use Rattle.definition.specs.Sheet.{Form, Limits, mostRules, mostItems, rules, decode}
 use Rattle.definition.specs.Stop.{drained, left}
 use Rattle.definition.specs.Point.{Dimension, dimensions, listAt}
+use Rattle.definition.specs.Lists.{indexesAt}
 use Rattle.definition.specs.Overlap.{has}
 use Rattle.definition.specs.Box.{boxCount}
 use Rattle.definition.specs.Group.{folded}
@@ -55,7 +58,7 @@ FirstTwice ds k = (k < length ds) × Shares (getD ds k noRule) × ((j : ℕ) →
 abbrev pub AllOnce : List Rule → Type 0
 AllOnce ds = (j : ℕ) → j < length ds → Shares (getD ds j noRule) → ⊥
 
--- ## Lists that are too long, ds being the drained rules
+-- ## Lists that are too long or too many, ds being the drained rules
 -- after the rule of index k no point's list passes the limit; and after it some point's list does
 abbrev pub ShortAfter : ℕ → List Rule → ℕ → Type 0
 ShortAfter limit ds k = (p : List ℕ) → isPoint p ≡ true → length (listAt (take (suc k) ds) p) ≤ limit
@@ -63,13 +66,38 @@ ShortAfter limit ds k = (p : List ℕ) → isPoint p ≡ true → length (listAt
 abbrev pub LongAfter : ℕ → List Rule → ℕ → Type 0
 LongAfter limit ds k = (p : List ℕ) × (isPoint p ≡ true) × (limit < length (listAt (take (suc k) ds) p))
 
--- the first rule after which some point's list passes the limit has the index k
-abbrev pub FirstLong : ℕ → List Rule → ℕ → Type 0
-FirstLong limit ds k = (k < length ds) × LongAfter limit ds k × ((j : ℕ) → j < k → ShortAfter limit ds j)
+-- a list of rule indexes stands at some point after the first n rules
+abbrev pub StandsAt : List Rule → ℕ → List ℕ → Type 0
+StandsAt ds n l = (p : List ℕ) × (isPoint p ≡ true) × (l ≡ indexesAt (take n ds) p)
 
--- no point's list ever passes the limit
-abbrev pub AllShort : ℕ → List Rule → Type 0
-AllShort limit ds = (j : ℕ) → j < length ds → ShortAfter limit ds j
+-- lists that do, all different and none empty
+pub record Standing (ds : List Rule) (n : ℕ) (ls : List (List ℕ)) : Type 0 where
+  pub different : Distinct (sameList eqb) ls
+  pub non-empty : All (λ l. l ≡ [] → ⊥) ls
+  pub stand : All (StandsAt ds n) ls
+
+-- after the rule of index k there are at most so many of them; and there are more
+abbrev pub FewAfter : ℕ → List Rule → ℕ → Type 0
+FewAfter limit ds k = (ls : List (List ℕ)) → Standing ds (suc k) ls → length ls ≤ limit
+
+abbrev pub ManyAfter : ℕ → List Rule → ℕ → Type 0
+ManyAfter limit ds k = (ls : List (List ℕ)) × Standing ds (suc k) ls × (limit < length ls)
+
+module _ (limits : Limits) (ds : List Rule) where
+  -- after the rule of index k neither limit is passed
+  abbrev pub PassesAfter : ℕ → Type 0
+  PassesAfter k = ShortAfter (limits .entries) ds k × FewAfter (limits .lists) ds k
+
+  -- the first rule after which one is has the index k, and then some list is too long; and then none is, but there are too many
+  abbrev pub FirstLong : ℕ → Type 0
+  FirstLong k = (k < length ds) × LongAfter (limits .entries) ds k × ((j : ℕ) → j < k → PassesAfter j)
+
+  abbrev pub FirstMany : ℕ → Type 0
+  FirstMany k = (k < length ds) × ShortAfter (limits .entries) ds k × ManyAfter (limits .lists) ds k × ((j : ℕ) → j < k → PassesAfter j)
+
+  -- neither is ever passed
+  abbrev pub AllPass : Type 0
+  AllPass = (j : ℕ) → j < length ds → PassesAfter j
 
 -- ## Results that a form can't carry
 -- the rules that the fold of a sheet's rules writes: the folded rules, then the rules left
@@ -137,17 +165,21 @@ module _ (form : Form) (limits : Limits) (sheet : List ℕ) where
 
   -- 6
   abbrev pub LongList : ℕ → Type 0
-  LongList p = (rs : List Rule) × FewBoxes rs × FirstLong (limits .entries) (drained rs) p
+  LongList p = (rs : List Rule) × FewBoxes rs × FirstLong limits (drained rs) p
 
-  -- neither 1 to 4 nor 11, 5 or 6
+  -- 14
+  abbrev pub ManyLists : ℕ → Type 0
+  ManyLists p = (rs : List Rule) × FewBoxes rs × FirstMany limits (drained rs) p
+
+  -- neither 1 to 4 nor 11, 5, 6 or 14
   abbrev pub Foldable : List Rule → Type 0
-  Foldable rs = FewBoxes rs × AllShort (limits .entries) (drained rs)
+  Foldable rs = FewBoxes rs × AllPass limits (drained rs)
 
   -- 13
   abbrev pub PastCounts : ℕ → Type 0
   PastCounts p = (rs : List Rule) × Foldable rs × MoreThan (mostRules form) (mostItems form) (written rs) × (p ≡ 0)
 
-  -- neither 1 to 4 nor 11, 5, 6 or 13
+  -- neither 1 to 4 nor 11, 5, 6, 14 or 13
   abbrev pub Writable : List Rule → Type 0
   Writable rs = Foldable rs × (MoreThan (mostRules form) (mostItems form) (written rs) → ⊥)
 

@@ -10,3 +10,4 @@ pub mod ReadBack
 pub mod Convert
 pub mod CallersForm
 pub mod LargerSheets
+pub mod NewLists

@@ -19,6 +19,7 @@ widest form limits = record {
   spans = mostItems form;
   boxes = limits .boxes;
   entries = limits .entries;
+  lists = limits .lists;
 }
 
 -- THE STATEMENT: rs are the rules of the sheet

@@ -21,6 +21,7 @@ use Rattle.tables.specs.Rules.{ruleAt, RuleTimes}
 use Rattle.tables.proofs.Times.{entryAt, entry-back}
 use Rattle.state_at.specs.Found.{looked, overSpans, onward, InTables, overRule, overList, numbersFrom}
 use Rattle.state_at.specs.declared.StateFound.{StateFound}
+use Rattle.state_at.specs.declared.StateFound.the-variants.{State}
 
 -- ## Spans
 -- what the definition answers for some spans, where a state is shown before them
@@ -83,7 +84,7 @@ module _ (states counts spans : List ℕ) where
     entries-named (k ∷ ks) h =
         ap₂ _∷_ (entry-back states counts spans k (ruleAt rs k) (tables .each k (h .0)) (All-at _ rs noRule (tables .fits) k (h .0))) (entries-named ks (h .1))
 
-    -- ## A box's list
+    -- ## The list at a place
     module _ (lists : List ℕ) (node many : ℕ) (named : All (λ k. k < length rs) (listOf lists node)) (counted : many ≡ getD lists (node * listPlaces) 0) where
       list-numbers : numbersFrom lists (node * listPlaces + 1) 0 many ≡ listOf lists node
       unfolding listOf
@@ -101,3 +102,8 @@ module _ (states counts spans : List ℕ) where
       list-answered m r h =
           ap looked (h ∙ ap (overList states counts spans m number.closedNumber) list-numbers) ∙ list-looked m number.closedNumber (listOf lists node)
           ∙ ap (λ es. settled rule.closed (flattened es) m) (entries-named (listOf lists node) named)
+
+-- the empty list leaves plain Closed
+pub empty-answered : (m : ℕ) → looked (State number.closedNumber) ≡ stateAt [] [] m
+unfolding stateAt number.stateCoded flattened flatMap anyOf lastOver
+empty-answered m = refl

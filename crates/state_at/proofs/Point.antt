@@ -5,7 +5,6 @@ use mathlib.Core.List.{List, [], _∷_, map}
 use Prim.Native.Nat.{ℕ, zero, suc, _+_, _*_, _-_, _≤_, _<_}
 use native.Mathlib.Omega.{arith}
 use lib.ListN.{length, getD}
-use lib.Seq.{take-length}
 use Rattle.laws.specs.Lists.{from, All, Mem}
 use Rattle.laws.proofs.Lists.{All-Mem}
 use Rattle.laws.proofs.Numbers.{All-from, Mem-from}
@@ -18,7 +17,8 @@ use Rattle.definition.proofs.FoldBox.{list-all}
 use Rattle.paving.proofs.Points.{coordinatesOf}
 use Rattle.tables.specs.Sizes.{listPlaces, listLimit}
 use Rattle.tables.specs.Cuts.{cutOf, Cut}
-use Rattle.tables.specs.Lists.{listOf, Within, startOf, Boxed}
+use Rattle.tables.specs.Lists.{listOf, named, shown, Within, startOf, BoxLists}
+use Rattle.tables.proofs.Stored.{box-listed}
 use Rattle.tables.specs.Rules.{ruleAt}
 use Rattle.paving_points.proofs.Boxes.{Under, lawful-bounded, cuts-points, box-marks}
 use Rattle.state_at.specs.Boxes.{InBounds, AllFramed, AllHold, Gridded, BoxAt}
@@ -57,7 +57,7 @@ module _ (rows sizes cuts : List ℕ) (rs : List Rule) (c : Cut rows sizes cuts 
         among-framed i (omega arith) q (h .1),
       )
 
-module _ (rows sizes cuts lists : List ℕ) (rs : List Rule) (boxed : Boxed rows sizes cuts lists rs) (lawful : All Lawful rs) where
+module _ (rows sizes cuts cells lists : List ℕ) (used : ℕ) (rs : List Rule) (boxed : BoxLists rows sizes cuts cells lists used rs) (lawful : All Lawful rs) where
   -- A POINT WITHIN ALL BOUNDS has the grid around it
   pub point-gridded : (q : List ℕ) → InBounds allBounds q → Gridded rows sizes cuts q
   point-gridded q h = record {
@@ -67,16 +67,11 @@ module _ (rows sizes cuts lists : List ℕ) (rs : List Rule) (boxed : Boxed rows
         (subst (λ D. Among D q) (sym (cuts-points rows sizes cuts rs dimensions (boxed .cut .cut-by) (lawful-bounded rs lawful))) (bounds-among allBounds q h));
   }
 
-  -- a box's list is there
-  pub list-there : (q : List ℕ) (box : ℕ) → BoxAt rows sizes cuts q box → (box * listPlaces + listPlaces ≤ length lists) × (getD lists (box * listPlaces) 0 ≤ listLimit)
-  list-there q box b = (omega (arith, b .there, boxed .all-lists), boxed .listed .short box)
-
   -- THE LIST OF ITS BOX is the list at the point
-  pub box-list : (q : List ℕ) (box : ℕ) → BoxAt rows sizes cuts q box → map (ruleAt rs) (listOf lists box) ≡ listAt rs q
+  box-list : (q : List ℕ) (box : ℕ) → BoxAt rows sizes cuts q box → map (ruleAt rs) (shown cells lists box) ≡ listAt rs q
   box-list q box b =
       let p = b .columns in
-      ap (λ k. map (ruleAt rs) (listOf lists k)) (b .numbered) ∙ boxed .listed .list p (hold-within 4 p q (b .held))
-      ∙ ap (λ z. listAt z (startOf rows cuts 4 p)) (take-length rs)
+      ap (λ k. map (ruleAt rs) (shown cells lists k)) (b .numbered) ∙ box-listed rows sizes cuts cells lists used rs boxed p (hold-within 4 p q (b .held))
       ∙ list-all rs (startOf rows cuts 4 p) q
       (box-marks rows sizes cuts rs dimensions (boxed .cut .cut-by) (lawful-bounded rs lawful) p q (hold-within 4 p q (b .held)) (hold-under 4 p q (b .held)))
     where
@@ -93,3 +88,28 @@ module _ (rows sizes cuts lists : List ℕ) (rs : List Rule) (boxed : Boxed rows
       hold-under (suc i) [] q h = absurd h
       hold-under (suc i) (x ∷ p) [] h = absurd h
       hold-under (suc i) (x ∷ p) (y ∷ q) h = (h .0 .1, h .0 .2, hold-under i p q (h .1))
+
+  -- ## By the number in the box's cell
+  module _ (q : List ℕ) (box : ℕ) (b : BoxAt rows sizes cuts q box) (number : ℕ) (e : number ≡ getD cells box 0) where
+    -- the list that it names
+    list-named : map (ruleAt rs) (named lists number) ≡ listAt rs q
+    unfolding shown
+    list-named = ap (λ n. map (ruleAt rs) (named lists n)) e ∙ box-list q box b
+
+    pub list-empty : number ≡ 0 → [] ≡ listAt rs q
+    unfolding named
+    list-empty z = ap (λ n. map (ruleAt rs) (named lists n)) (sym z) ∙ list-named
+
+    module _ (some : number ≡ 0 → ⊥) where
+      in-use : number - 1 < used
+      in-use = omega (arith, boxed .stored .store .names box)
+
+      pub list-there : ((number - 1) * listPlaces + listPlaces ≤ length lists) × (getD lists ((number - 1) * listPlaces) 0 ≤ listLimit)
+      list-there = (omega (arith, in-use, boxed .stored .store .room), boxed .stored .store .short (number - 1) in-use)
+
+      pub list-earlier : All (λ k. k < length rs) (listOf lists (number - 1))
+      list-earlier = boxed .stored .earlier (number - 1) in-use
+
+      pub list-held : map (ruleAt rs) (listOf lists (number - 1)) ≡ listAt rs q
+      unfolding named
+      list-held = let z : suc (number - 1) ≡ number = omega arith in ap (λ n. map (ruleAt rs) (named lists n)) z ∙ list-named

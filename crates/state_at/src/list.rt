@@ -1,4 +1,4 @@
-// The state at a minute by the list of a box: rule after rule, and each rule's spans in order.
+// The state at a minute by a list: rule after rule, and each rule's spans in order.
 use super::StateFound;
 use casts::u8_to_usize;
 use casts::u16_to_usize;
@@ -24,7 +24,7 @@ ghost use Rattle.tables.specs.Rules.{ruleAt, RuleTimes};
 ghost use Rattle.state_at.specs.Found.{overSpans, overRule, overList, InTables, numbersFrom, looked};
 
 // Plain Closed.
-const CLOSED: u32 = 1;
+pub const CLOSED: u32 = 1;
 
 // The state that a simple span leaves at a minute: its own where it covers the minute, else the one before.
 fn after_span(span: u64, minute: u16, state: u32, before: u32) -> u32
@@ -119,21 +119,21 @@ fn over_list(
     StateFound::State(shown)
 }
 
-// The state at a minute by the list of a box.
+// The state at a minute by the list at a place.
 pub fn list_state(
     states: &[u32],
     span_counts: &[u8],
     spans: &[u64],
     lists: &[u16],
-    box_index: usize,
+    place: usize,
     minute: u16,
 ) -> StateFound
-    requires { ⌜ ((rs : List Rule) × RuleTimes (now states) (now «span_counts») (now spans) rs × All (λ k. k < length rs) (listOf (now lists) «box_index»)) ⌝ }
-    requires { ⌜ («box_index» * listPlaces + listPlaces ≤ length (now lists)) × (getD (now lists) («box_index» * listPlaces) 0 ≤ listLimit) ⌝ }
-    ensures { λ r. ⌜ ((rs : List Rule) → RuleTimes (now (states .entry)) (now («span_counts» .entry)) (now (spans .entry)) rs → All (λ k. k < length rs) (listOf (now (lists .entry)) «box_index»)
-        → looked r ≡ stateAt [] (map (ruleAt rs) (listOf (now (lists .entry)) «box_index»)) minute) ⌝ }
+    requires { ⌜ ((rs : List Rule) × RuleTimes (now states) (now «span_counts») (now spans) rs × All (λ k. k < length rs) (listOf (now lists) place)) ⌝ }
+    requires { ⌜ (place * listPlaces + listPlaces ≤ length (now lists)) × (getD (now lists) (place * listPlaces) 0 ≤ listLimit) ⌝ }
+    ensures { λ r. ⌜ ((rs : List Rule) → RuleTimes (now (states .entry)) (now («span_counts» .entry)) (now (spans .entry)) rs → All (λ k. k < length rs) (listOf (now (lists .entry)) place)
+        → looked r ≡ stateAt [] (map (ruleAt rs) (listOf (now (lists .entry)) place)) minute) ⌝ }
 {
-    let at = box_index * LIST_PLACES;
+    let at = place * LIST_PLACES;
     let rule_count = u16_to_usize(lists[at]);
     over_list(
         states,

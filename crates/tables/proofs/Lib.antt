@@ -5,3 +5,5 @@ pub mod Cuts
 pub mod Lists
 pub mod Times
 pub mod Pages
+pub mod Copied
+pub mod Stored

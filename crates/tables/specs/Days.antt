@@ -7,8 +7,8 @@ use lib.ListN.{length, getD}
 use Rattle.laws.specs.Lists.{All}
 use Rattle.definition.specs.Rule.{Span}
 use Rattle.definition.specs.Sheet.{Form, span}
-use Rattle.definition.specs.Day.{Entry, day}
-use Rattle.day_flat.specs.Day.{flat, listRules}
+use Rattle.definition.specs.Day.{Entry, Day, day}
+use Rattle.day_flat.specs.Day.{flat, unflat, listRules}
 use Rattle.tables.specs.Sizes.{listPlaces, listLimit}
 use Rattle.tables.specs.Lists.{listOf}
 use Rattle.tables.specs.Rules.{Commented}
@@ -33,6 +33,13 @@ pub record Ready (states counts spans lists : List ℕ) (room node : ℕ) : Type
 unfoldable pub wordsOf : (ℕ → List ℕ) → ℕ → List ℕ
 wordsOf W zero = []
 wordsOf W (suc j) = W j
+
+-- the words and the day of a number, over the tables
+abbrev pub numberWords : List ℕ → List ℕ → List ℕ → List ℕ → ℕ → List ℕ
+numberWords states counts spans lists = wordsOf (boxWords states counts spans lists)
+
+abbrev pub numberDay : List ℕ → List ℕ → List ℕ → List ℕ → ℕ → Day
+numberDay states counts spans lists v = unflat (numberWords states counts spans lists v)
 
 abbrev pub FitsSpan : Span → Type 0
 FitsSpan s = span .fits s ≡ true

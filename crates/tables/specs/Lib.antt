@@ -7,3 +7,4 @@ pub mod Lists
 pub mod Days
 pub mod Items
 pub mod Pages
+pub mod Copied

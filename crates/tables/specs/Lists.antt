@@ -1,33 +1,51 @@
--- The lists of the boxes: for each box how many rules its list has and the rules' numbers, in a row of its own. A box is named by one
--- interval number for each dimension, weekdays first.
+-- The lists of the boxes, each kept once: at a place of its own how many rules it has, and their indexes; and for each box a cell with the number of its
+-- list. A box is named by one interval number for each dimension, weekdays first.
 use mathlib.Core.Path.{_≡_}
-use mathlib.Core.Bool.{false}
 use mathlib.Core.List.{List, [], _∷_, map}
 use Prim.Native.Nat.{ℕ, zero, suc, _+_, _*_, _≤_, _<_}
-use lib.ListN.{length, getD, take, replicate}
+use lib.ListN.{length, getD, take}
 use Rattle.laws.specs.Lists.{from, All}
-use Rattle.grid.specs.Group.{somewhere}
 use Rattle.definition.specs.Rule.{Rule}
 use Rattle.definition.specs.Sheet.{sheetLimits}
-use Rattle.definition.specs.Point.{points, listAt, tooLong}
+use Rattle.definition.specs.Lists.{indexesAt}
 use Rattle.paving.specs.Grid.{sizeOf}
-use Rattle.tables.specs.Sizes.{listPlaces, listLimit}
-use Rattle.tables.specs.Rules.{ruleAt}
+use Rattle.tables.specs.Sizes.{listPlaces, listLimit, heldLimit}
 use Rattle.tables.specs.Cuts.{cutOf, Cut}
 
--- the list of a box
+-- the list at a place
 unfoldable pub listOf : List ℕ → ℕ → List ℕ
-listOf lists node = map (λ k. getD lists (node * listPlaces + 1 + k) 0) (from 0 (getD lists (node * listPlaces) 0))
+listOf lists place = map (λ k. getD lists (place * listPlaces + 1 + k) 0) (from 0 (getD lists (place * listPlaces) 0))
 
--- no list is too long
-abbrev pub Short : List ℕ → Type 0
-Short lists = (node : ℕ) → getD lists (node * listPlaces) 0 ≤ listLimit
+-- ## The store of lists
+-- the list that a number names: 0 the empty list, l + 1 the list at place l
+unfoldable pub named : List ℕ → ℕ → List ℕ
+named lists zero = []
+named lists (suc place) = listOf lists place
 
--- empty lists for so many boxes
-pub record Empty (lists : List ℕ) (boxes : ℕ) : Type 0 where
-  pub zeros : lists ≡ replicate (length lists) 0
-  pub room : boxes * listPlaces ≤ length lists
-  pub few : boxes ≤ sheetLimits .boxes
+-- the list of a box, whose cell has its number
+unfoldable pub shown : List ℕ → List ℕ → ℕ → List ℕ
+shown cells lists box = named lists (getD cells box 0)
+
+-- cells name lists in use, so many; each of these is neither empty nor too long; and no two places have the same list
+pub record Store (cells lists : List ℕ) (used : ℕ) : Type 0 where
+  pub names : (box : ℕ) → getD cells box 0 ≤ used
+  pub room : used * listPlaces ≤ length lists
+  pub some : (l : ℕ) → l < used → 1 ≤ getD lists (l * listPlaces) 0
+  pub short : (l : ℕ) → l < used → getD lists (l * listPlaces) 0 ≤ listLimit
+  pub apart : (a b : ℕ) → a < used → b < used → listOf lists a ≡ listOf lists b → a ≡ b
+
+-- the lists in use have only rules before one
+abbrev pub Earlier : List ℕ → ℕ → ℕ → Type 0
+Earlier lists used rule = (l : ℕ) → l < used → All (λ r. r < rule) (listOf lists l)
+
+-- the words before a place are as they were
+abbrev pub KeptBelow : List ℕ → List ℕ → ℕ → Type 0
+KeptBelow lists after place = (i : ℕ) → i < place * listPlaces → getD after i 0 ≡ getD lists i 0
+
+-- the first n cells have other numbers now: what a table has for the old ones
+pub record Renamed (cells numbers cells′ : List ℕ) (n : ℕ) : Type 0 where
+  pub anew : (box : ℕ) → box < n → getD cells′ box 0 ≡ getD numbers (getD cells box 0) 0
+  pub later : (box : ℕ) → n ≤ box → getD cells′ box 0 ≡ getD cells box 0
 
 -- ## Boxes
 -- one interval number for each dimension
@@ -50,17 +68,18 @@ startOf rows table (suc i) [] = []
 startOf rows table (suc i) (x ∷ p) = cutOf rows table i x ∷ startOf rows table i p
 
 -- ## The lists of some rules
--- after the first k rules: none was too long or names another rule, and each box has the list at its first point
-pub record Listed (sizes rows table lists : List ℕ) (rs : List Rule) (k : ℕ) : Type 0 where
-  pub short : Short lists
-  pub named : (node : ℕ) → All (λ x. x < k) (listOf lists node)
-  pub quiet : (j : ℕ) → j < k → somewhere points (tooLong listLimit rs j) ≡ false
-  pub list : (p : List ℕ) → Within sizes 4 p → map (ruleAt rs) (listOf lists (boxOf sizes 4 0 p)) ≡ listAt (take k rs) (startOf rows table 4 p)
+-- THE STORE AFTER THE FIRST k RULES: it is as it must be, and each box has the list of indexes at its first point
+pub record Stored (sizes rows table cells lists : List ℕ) (used : ℕ) (rs : List Rule) (k : ℕ) : Type 0 where
+  pub store : Store cells lists used
+  pub earlier : Earlier lists used k
+  pub few : used ≤ heldLimit
+  pub list : (p : List ℕ) → Within sizes 4 p → shown cells lists (boxOf sizes 4 0 p) ≡ indexesAt (take k rs) (startOf rows table 4 p)
 
 -- A LIST FOR EACH BOX, that of its points
-pub record Boxed (rows sizes table lists : List ℕ) (rs : List Rule) : Type 0 where
+pub record BoxLists (rows sizes table cells lists : List ℕ) (used : ℕ) (rs : List Rule) : Type 0 where
   pub cut : Cut rows sizes table rs
   pub few-rules : length rs ≤ sheetLimits .rules
   pub few-boxes : sizeOf sizes 4 ≤ sheetLimits .boxes
-  pub all-lists : sizeOf sizes 4 * listPlaces ≤ length lists
-  pub listed : Listed sizes rows table lists rs (length rs)
+  pub one-cell : length cells ≡ sizeOf sizes 4
+  pub few-lists : used ≤ sizeOf sizes 4
+  pub stored : Stored sizes rows table cells lists used rs (length rs)

@@ -17,6 +17,10 @@ listLimit = sheetLimits .entries
 abbrev pub listPlaces : ℕ
 listPlaces = listLimit + 1
 
+-- so many lists are held at most after a rule
+abbrev pub heldLimit : ℕ
+heldLimit = sheetLimits .lists
+
 -- the words of a day of a list within the limit
 abbrev pub dayRoom : ℕ
 dayRoom = 2049

@@ -4,6 +4,7 @@ use oracle::form::Form;
 
 use crate::archive::Given;
 use crate::convert::LAST_SHORT_COMMENT;
+use crate::groups::{each_odd_choice, everywhere, with_own_states};
 use crate::random::Random;
 use crate::rule::{
     ADDITIONAL, CLOSED, ITEM_LIMIT, MIDNIGHT, NORMAL, OPEN, Rule, Span, Stepped, Time, UNKNOWN,
@@ -37,10 +38,10 @@ pub fn bench_sheets() -> Vec<BenchSheet> {
         ("20 rules of a landing site", landing_site()),
         ("64 rules, 1,024 boxes in all dimensions", all_dimensions()),
         ("64 rules, 1,023 boxes in years", years_of_64_rules(0)),
-        ("24 rules, 1,024 groups", many_groups(0)),
+        ("15 rules, 1,024 groups of 250 lists", many_groups(2)),
         (
-            "52 rules, 1,024 groups of lists of 32 rules",
-            many_groups(28),
+            "41 rules, 1,024 groups of 250 lists of up to 32 rules",
+            many_groups_of_long_lists(28),
         ),
         (
             "64 rules, 1,023 boxes in years, lists of up to 32 rules",
@@ -293,34 +294,18 @@ fn every_day(rules: u32, span: fn(u32, u32) -> Span) -> impl Iterator<Item = Rul
     })
 }
 
-/// A rule for each interval of each dimension, with a span and a comment of its own, so that no two of 4 by 4 by 8 by 8 boxes have the same
-/// day, after so many rules of sixteen spans that stand on every day.
-fn many_groups(on_every_day: u32) -> Vec<Rule> {
-    let cuts = [
-        (&WEEKDAY_CUTS[..], Rule::on as fn(Rule, u32, u32) -> Rule),
-        (&WEEK_CUTS, Rule::in_weeks),
-        (&MONTH_CUTS, Rule::in_months),
-        (&YEAR_CUTS, Rule::in_years),
-    ];
-    let intervals = cuts.into_iter().flat_map(|(cuts, item)| {
-        cuts.windows(2)
-            .map(move |pair| (item, pair[0], pair[1] - 1))
-    });
+/// 1,024 boxes, each a group, by 250 lists of so many rules and up to four more.
+fn many_groups(on_every_day: usize) -> Vec<Rule> {
+    let days = [each_odd_choice([1, 8, 8, 16]), everywhere(on_every_day)];
+    with_own_states(days.concat())
+}
 
-    let own = intervals.enumerate().map(|(number, (item, start, end))| {
-        let minute = 60 * number as u32;
-        let span = fixed(minute, minute + 45);
-        item(
-            also(OPEN, 0, 24).saying(1 + number as u32).at(span),
-            start,
-            end,
-        )
-    });
-
+/// The same, after so many rules of sixteen spans that stand on every day.
+fn many_groups_of_long_lists(on_every_day: u32) -> Vec<Rule> {
     every_day(on_every_day, |number, place| {
         let minute = 90 * place + number;
         fixed(minute, minute + 20)
     })
-    .chain(own)
+    .chain(many_groups(0))
     .collect()
 }

@@ -2,7 +2,7 @@
 
 use crate::points::DIMENSIONS;
 use crate::random::Random;
-use crate::rule::{Rule, months, range, weekdays};
+use crate::rule::{DayItem, Rule, months, range, weekdays};
 use crate::stock::Stock;
 
 /// Intervals of weekdays, weeks, months and years.
@@ -48,6 +48,27 @@ pub fn boxes_rule(shape: Shape) -> Rule {
             .map(|day| weekdays(day, day))
             .collect(),
         ..Rule::default()
+    }
+}
+
+/// First and last value of one of so many intervals of a dimension: single values from the lowest on, and the rest as the last.
+pub fn interval(dimension: usize, count: u32, number: u32) -> (u32, u32) {
+    let values = &DIMENSIONS[dimension];
+    let start = values.start + number;
+
+    match number + 1 == count {
+        true => (start, values.end - 1),
+        false => (start, start),
+    }
+}
+
+/// One more item, from start to end, in a dimension by its number.
+pub fn put_range(rule: &mut Rule, dimension: usize, start: u32, end: u32) {
+    match dimension {
+        0 => rule.weekdays.push(DayItem::between(start, end)),
+        1 => rule.weeks.push(DayItem::between(start, end)),
+        2 => rule.monthdays.push(DayItem::between(start, end)),
+        _ => rule.years.push(DayItem::between(start, end)),
     }
 }
 

@@ -81,9 +81,13 @@ fn count(sheet: &Sheet, folded: &Answer, line: &Answer, converted: &Answer, tall
         tally.overlaps(accepted, is_folded);
         tally.forms.comments(accepted.rules());
         tally.large.sheet(accepted.rules().len());
-        if let Some(extent) = accepted.extent().filter(|_| is_folded) {
-            tally.accepted_fold(accepted.rules(), extent, sheet.is_inside());
-            tally.stopped(accepted.reasons());
+        match (accepted.extent(), accepted.drawn()) {
+            (Ok(extent), _) if is_folded => {
+                tally.accepted_fold(accepted.rules(), extent, sheet.is_inside());
+                tally.stopped(accepted.reasons());
+            }
+            (Err(_), Some(extent)) => tally.lists.refused(extent.lists),
+            _ => {}
         }
     }
 }

@@ -1,21 +1,20 @@
-//! Results at what form 1 can count, of which some have more than a megabyte, so that no stored answer holds them: what this crate expects,
-//! by the Rust, and what the archive gives.
+//! Results at what form 1 can count, of which some have more than a megabyte, so that no stored answer holds them, and lists at their limit:
+//! what this crate expects, by the Rust, and what the archive gives.
 
 use oracle::form::Form;
 
 use crate::archive::{self, Given};
-use crate::boxes::{Shape, boxes_rule};
+use crate::boxes::boxes_rule;
 use crate::calls::{FOLD, compare_in_room};
 use crate::check_sheets::full_rules;
 use crate::expected::Sheet;
-use crate::large::{boxes_apart, fewer_by, years_apart};
-use crate::rule::{ADDITIONAL, FALLBACK, RULE_LIMIT, Rule, Span, fixed, weekdays};
+use crate::groups::{
+    climbing, each_odd_choice, everywhere, fewer_by, groups_of_many_rules, with_own_states,
+};
+use crate::large::years_apart;
+use crate::rule::{ADDITIONAL, FALLBACK, ITEM_LIMIT, RULE_LIMIT, Rule, Span, fixed, weekdays};
 use crate::sheet::write_sheet;
 use crate::stack::with_stack;
-
-/// Boxes of which no two are alike, each a group of sixteen rules: 65,536 rules.
-const BOXES: Shape = [4, 8, 8, 16];
-const EVERYWHERE: usize = 12;
 
 fn open() -> Rule {
     Rule {
@@ -33,7 +32,7 @@ fn stopper() -> Rule {
 }
 
 fn groups(less: usize, left: usize) -> Vec<Rule> {
-    let mut rules = fewer_by(less, boxes_apart(BOXES, EVERYWHERE));
+    let mut rules = fewer_by(less, groups_of_many_rules());
     rules.extend(vec![stopper(); left]);
     rules
 }
@@ -70,12 +69,12 @@ const PAST_COUNTS: [u64; 6] = [13, 0, 0, 0, 0, 0];
 #[test]
 fn form_1_counts_65535_rules_and_form_2_more() {
     for (less, left, emitted) in [(1, 0, 65_535), (2, 1, 65_534)] {
-        let done = [0, 49, emitted, left, 0, left];
+        let done = [0, 41, emitted, left, 0, left];
         assert_eq!(folded(Form::One, groups(less, left as usize)), done);
         assert_eq!(folded(Form::Two, groups(less, left as usize)), done);
     }
     for (less, left, emitted) in [(0, 0, 65_536), (1, 1, 65_535)] {
-        let done = [0, 49, emitted, left, 0, left];
+        let done = [0, 41, emitted, left, 0, left];
         assert_eq!(folded(Form::One, groups(less, left as usize)), PAST_COUNTS);
         assert_eq!(folded(Form::Two, groups(less, left as usize)), done);
     }
@@ -92,10 +91,11 @@ fn form_1_counts_1023_items_and_form_2_more() {
     }
 }
 
-/// Each of 4,096 lists has 32 entries, and the last one's state both paints and forms a group: 33 rules.
+/// 2,816 boxes, each a group, of lists of 28 to 32 entries; the last one's state both paints and forms a group.
 #[test]
-fn form_2_counts_as_many_rules_as_a_fold_can_have() {
-    let mut rules = boxes_apart(BOXES, 28);
+fn form_2_counts_more_rules_than_form_1_by_far() {
+    let days = [each_odd_choice([1, 16, 11, 16]), everywhere(28)];
+    let mut rules = with_own_states(days.concat());
     let last = rules.last_mut().expect("there are rules");
     last.spans.push(Span {
         open_end: 1,
@@ -103,7 +103,52 @@ fn form_2_counts_as_many_rules_as_a_fold_can_have() {
     });
 
     assert_eq!(folded(Form::One, rules.clone()), PAST_COUNTS);
-    assert_eq!(folded(Form::Two, rules), [0, 64, 4_096 * 33, 0, 0, 0]);
+    assert_eq!(folded(Form::Two, rules), [0, 44, 2_816 * 31, 0, 0, 0]);
+}
+
+/// Over the years of the first sixteen rules after the other, the first years of each, then the second ones, and so on, without spans.
+fn crossing(years: &[Rule], count: usize) -> Vec<Rule> {
+    let across = |(square, place): (&[Rule], usize)| Rule {
+        operator: ADDITIONAL,
+        years: square
+            .iter()
+            .map(|rule| rule.years[place].clone())
+            .collect(),
+        ..Rule::default()
+    };
+    let squares = years.chunks(ITEM_LIMIT);
+
+    squares
+        .flat_map(|square| (0..ITEM_LIMIT).map(move |place| (square, place)))
+        .take(count)
+        .map(across)
+        .collect()
+}
+
+#[test]
+fn lists_are_counted_before_the_result_is() {
+    for (count, lists) in [(29, PAST_COUNTS), (30, [14, 0, 0, 0, 93, 0])] {
+        let rules = years(1_024, 0);
+        let crossed = [rules.clone(), crossing(&rules, count)].concat();
+        assert_eq!(folded(Form::One, crossed.clone()), lists);
+
+        let in_form_2 = match count {
+            29 => [0, 93, 1, 0, 0, 0],
+            _ => lists,
+        };
+        assert_eq!(folded(Form::Two, crossed), in_form_2);
+    }
+}
+
+/// 512 lists and the empty one, and a rule that fills it.
+#[test]
+fn the_empty_list_is_not_counted() {
+    for form in [Form::One, Form::Two] {
+        let rules = with_own_states(climbing([3, 19, 3, 3]));
+        let filled = with_own_states([climbing([3, 19, 3, 3]), everywhere(1)].concat());
+        assert_eq!(folded(form, rules)[..2], [0, 24]);
+        assert_eq!(folded(form, filled), [14, 0, 0, 0, 24, 0]);
+    }
 }
 
 #[test]

@@ -18,7 +18,7 @@ use crate::layout::Refusal;
 use crate::line::{Unsaid, first_unsaid, line_of};
 use crate::overlap::check_overlaps;
 use crate::points::{
-    DIMENSIONS, Extent, Selector, check_limits, is_simple, list_at, selector_of, split,
+    DIMENSIONS, Extent, Selector, extent_of, is_simple, list_at, selector_of, split,
 };
 use crate::rule::{CLOSED, MIDNIGHT, Rule, Stepped};
 use crate::sheet::{Read, overwrite, read_sheet, write_sheet};
@@ -35,7 +35,8 @@ pub struct Accepted {
     form: Form,
     read: Read,
     selectors: Vec<Selector>,
-    extent: Result<Extent, Refusal>,
+    /// Refused where ranges overlap or boxes are too many, before any list is judged.
+    drawn: Result<Extent, Refusal>,
 }
 
 impl Accepted {
@@ -46,14 +47,14 @@ impl Accepted {
             .take_while(|rule| !stops(rule))
             .map(selector_of)
             .collect();
-        let extent = check_overlaps(&selectors)
-            .and_then(|()| check_limits(&read.rules[..selectors.len()], &selectors));
+        let drawn = check_overlaps(&selectors)
+            .and_then(|()| extent_of(&read.rules[..selectors.len()], &selectors));
 
         Self {
             form,
             read,
             selectors,
-            extent,
+            drawn,
         }
     }
 
@@ -70,9 +71,15 @@ impl Accepted {
         self.left().first().map(reasons_of).unwrap_or_default()
     }
 
-    /// The boxes and lists of an accepted fold.
-    pub fn extent(&self) -> Option<Extent> {
-        self.extent.ok()
+    /// The boxes and lists of drained rules that neither overlap nor cut too many boxes.
+    pub fn drawn(&self) -> Option<Extent> {
+        self.drawn.ok()
+    }
+
+    /// The boxes and lists, or by which of 11, 5, 6 and 14 they are refused.
+    pub fn extent(&self) -> Result<Extent, Refusal> {
+        self.drawn
+            .and_then(|extent| extent.lists.check().map(|()| extent))
     }
 
     /// The ranges of the drained rules.
@@ -86,7 +93,9 @@ impl Accepted {
 
     /// What the limits alone would refuse the fold by, whether or not ranges overlap.
     pub fn past_a_limit(&self) -> Option<Refusal> {
-        check_limits(self.drained(), &self.selectors).err()
+        extent_of(self.drained(), &self.selectors)
+            .and_then(|extent| extent.lists.check())
+            .err()
     }
 }
 
@@ -127,7 +136,7 @@ impl<'a> Sheet<'a> {
                 "the oracle has no limits, but refuses as well"
             );
         })?;
-        accepted.extent?;
+        accepted.extent()?;
 
         let folded = fold_sheet(accepted.form, self.given.bytes).unwrap_or_else(|reason| {
             assert!(!reason.is_unreadable(), "the oracle reads the sheet");
@@ -223,7 +232,7 @@ impl<'a> Sheet<'a> {
         let point = point_of(year, month, day)
             .filter(|_| minute < MIDNIGHT.into())
             .ok_or(Refusal::at(8, 0))?;
-        accepted.extent?;
+        accepted.extent()?;
 
         let drained = accepted.drained();
         let list = list_at(drained, &accepted.selectors, &point);

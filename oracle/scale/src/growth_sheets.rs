@@ -6,15 +6,16 @@ use oracle::form::Form;
 use crate::bench_sheets::{BenchSheet, bench_sheet, many_years, stretched_rule};
 use crate::boxes::{Shape, boxes_rule};
 use crate::check_sheets::full_rules;
-use crate::large::boxes_apart;
+use crate::groups::{each_odd_choice, everywhere, with_own_states};
 use crate::points::DIMENSIONS;
 use crate::random::Random;
-use crate::rule::{ADDITIONAL, ITEM_LIMIT, RULE_LIMIT, Rule, fixed};
+use crate::rule::{ADDITIONAL, ITEM_LIMIT, NORMAL, OPEN, RULE_LIMIT, Rule, UNKNOWN, fixed};
 
 const SOME_BOXES: Shape = [4, 4, 4, 4];
 const SOME_RULES: usize = 16;
+const MOST_BOXES: Shape = [4, 8, 8, 16];
 
-/// 4 to 256 rules over 256 boxes, then 16 rules over 16 to 4,096 boxes.
+/// 4 to 256 rules over 256 boxes, then 16 rules over 16 to 4,096 boxes, then 256 over 4,096.
 pub fn growth_sheets() -> Vec<BenchSheet> {
     let by_rules = [
         ("4 rules, 256 boxes", 4, SOME_BOXES),
@@ -27,14 +28,19 @@ pub fn growth_sheets() -> Vec<BenchSheet> {
         ("16 rules, 64 boxes", SOME_RULES, [2, 2, 4, 4]),
         ("16 rules, 256 boxes", SOME_RULES, SOME_BOXES),
         ("16 rules, 1,024 boxes", SOME_RULES, [4, 4, 8, 8]),
-        ("16 rules, 4,096 boxes", SOME_RULES, [4, 8, 8, 16]),
-        ("256 rules, 4,096 boxes", 256, [4, 8, 8, 16]),
+        ("16 rules, 4,096 boxes", SOME_RULES, MOST_BOXES),
     ];
+    let of_both = bench_sheet(
+        "256 rules, 4,096 boxes, one rule in four appends",
+        Form::One,
+        mostly_replacing(over_stretches(RULE_LIMIT, MOST_BOXES)),
+    );
 
     by_rules
         .into_iter()
         .chain(by_boxes)
         .map(|(name, rules, shape)| bench_sheet(name, Form::One, over_stretches(rules, shape)))
+        .chain([of_both])
         .collect()
 }
 
@@ -57,7 +63,19 @@ fn over_stretches(count: usize, shape: Shape) -> Vec<Rule> {
     std::iter::once(first).chain(others).collect()
 }
 
-/// As much as there may be of rules, items, boxes, groups and entries. Form 1 can't count the last one's result.
+/// Rules of which three in four replace lists: where half of them append, a thousand lists stand over so many boxes.
+fn mostly_replacing(mut rules: Vec<Rule>) -> Vec<Rule> {
+    for (number, rule) in rules.iter_mut().enumerate().skip(1) {
+        rule.kind = [OPEN, UNKNOWN][number % 2];
+        rule.operator = match number % 4 {
+            1 => ADDITIONAL,
+            _ => NORMAL,
+        };
+    }
+    rules
+}
+
+/// As much as there may be of rules, items, boxes and entries, and many groups. Form 1 can't count the last one's result.
 pub fn limit_sheets() -> Vec<BenchSheet> {
     vec![
         bench_sheet(
@@ -76,16 +94,17 @@ pub fn limit_sheets() -> Vec<BenchSheet> {
             many_years(RULE_LIMIT, MANY_YEARS, 30),
         ),
         bench_sheet(
-            "36 rules, 4,096 groups",
-            Form::One,
-            boxes_apart([4, 8, 8, 16], 0),
-        ),
-        bench_sheet(
-            "64 rules, 4,096 groups of lists of 32 rules",
+            "44 rules, 2,816 groups of lists of up to 32 rules",
             Form::Two,
-            with_many_spans(boxes_apart([4, 8, 8, 16], 28), 28),
+            with_many_spans(many_groups(28), 28),
         ),
     ]
+}
+
+/// 2,816 boxes, each a group, by 501 lists of so many rules and up to four more.
+fn many_groups(on_every_day: usize) -> Vec<Rule> {
+    let days = [each_odd_choice([1, 16, 11, 16]), everywhere(on_every_day)];
+    with_own_states(days.concat())
 }
 
 /// Single years, each between two that no rule names.

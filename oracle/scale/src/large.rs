@@ -1,15 +1,14 @@
 //! Recipes of large sheets, document 02's M-107: 65 to 256 rules, 1,025 to 4,096 boxes and some more, and results at what form 1 can count.
 
-use std::ops::{Range, RangeInclusive};
+use std::ops::RangeInclusive;
 
 use crate::boxes::{Shape, boxes_rule, over_boxes};
 use crate::counts::MOST_ITEMS;
-use crate::points::{DIMENSIONS, LIST_LIMIT};
+use crate::groups::{each_odd_choice, everywhere, fewer_by, groups_of_many_rules, with_own_states};
+use crate::lists::LIST_LIMIT;
 use crate::random::Random;
 use crate::recipes::Recipe;
-use crate::rule::{
-    ADDITIONAL, CLOSED, DayItem, ITEM_LIMIT, NORMAL, OPEN, RULE_LIMIT, Rule, UNKNOWN, fixed, range,
-};
+use crate::rule::{ADDITIONAL, ITEM_LIMIT, NORMAL, OPEN, RULE_LIMIT, Rule, UNKNOWN, range};
 use crate::stock::Stock;
 use crate::stoppers::stop;
 
@@ -21,8 +20,8 @@ pub const LARGE: [(usize, Recipe); 7] = [
     (60, long_lists_over_many_boxes),
     (60, many_rules_over_many_boxes),
     (720, many_years),
-    (8, groups_of_four),
-    (2, groups_of_sixteen),
+    (20, groups_of_some_rules),
+    (2, groups_of_rules_at_the_limit),
 ];
 
 const FEWEST_RULES: usize = 65;
@@ -117,9 +116,7 @@ pub fn many_years(stock: &mut Stock) -> Vec<Rule> {
     };
     let mut rules = years_apart(&day, count);
 
-    for place in (1..rules.len()).rev() {
-        rules.swap(place, stock.random.below(place + 1));
-    }
+    stock.random.shuffle(&mut rules);
     if stock.random.percent(20) {
         let beside = Rule {
             operator: ADDITIONAL,
@@ -145,74 +142,21 @@ pub fn years_apart(day: &Rule, count: usize) -> Vec<Rule> {
         .collect()
 }
 
-fn groups_of_four(stock: &mut Stock) -> Vec<Rule> {
-    some_left(boxes_apart([7, 12, 12, 4], 0), stock)
+/// 1,024 groups by 250 lists.
+fn groups_of_some_rules(stock: &mut Stock) -> Vec<Rule> {
+    let more = stock.random.below(5);
+    let days = [each_odd_choice([1, 8, 8, 16]), everywhere(more)];
+    some_left(with_own_states(days.concat()), stock)
 }
 
 /// At times more rules than form 1 can count.
-fn groups_of_sixteen(stock: &mut Stock) -> Vec<Rule> {
-    let rules = boxes_apart([4, 8, 8, 16], 12);
+fn groups_of_rules_at_the_limit(stock: &mut Stock) -> Vec<Rule> {
     let less = stock.random.within(0, 2) as usize;
-    some_left(fewer_by(less, rules), stock)
-}
-
-/// A rule for each interval of each dimension and so many that stand everywhere, each with a span and a comment of its own: no two boxes are
-/// alike, and each is a group of as many rules as stand there.
-pub fn boxes_apart(shape: Shape, everywhere: usize) -> Vec<Rule> {
-    let mut rules: Vec<Rule> = Vec::new();
-
-    for (dimension, intervals) in shape.into_iter().enumerate() {
-        let Range { start, end } = DIMENSIONS[dimension];
-        for first in start..start + intervals {
-            let is_last = first + 1 == start + intervals;
-            let mut rule = Rule::default();
-            put_range(
-                &mut rule,
-                dimension,
-                first,
-                if is_last { end - 1 } else { first },
-            );
-            rules.push(rule);
-        }
-    }
-    rules.resize(rules.len() + everywhere, Rule::default());
-
-    for (number, rule) in (0..).zip(&mut rules) {
-        rule.operator = ADDITIONAL;
-        rule.comment = 1 + number;
-        rule.spans = vec![fixed(22 * number, 22 * number + 20)];
-    }
-    rules
-}
-
-fn put_range(rule: &mut Rule, dimension: usize, start: u32, end: u32) {
-    match dimension {
-        0 => rule.weekdays.push(DayItem::between(start, end)),
-        1 => rule.weeks.push(DayItem::between(start, end)),
-        2 => rule.monthdays.push(DayItem::between(start, end)),
-        _ => rule.years.push(DayItem::between(start, end)),
-    }
-}
-
-/// In the first box the hours of so many of the last rules are closed, so that its group has so many rules less.
-pub fn fewer_by(less: usize, mut rules: Vec<Rule>) -> Vec<Rule> {
-    let last = &rules[rules.len() - less..];
-    let mut closed = Rule {
-        operator: NORMAL,
-        kind: CLOSED,
-        spans: last.iter().flat_map(|rule| rule.spans.clone()).collect(),
-        ..Rule::default()
-    };
-
-    for (dimension, values) in DIMENSIONS.iter().enumerate() {
-        put_range(&mut closed, dimension, values.start, values.start);
-    }
-    rules.push(closed);
-    rules
+    some_left(fewer_by(less, groups_of_many_rules()), stock)
 }
 
 /// The rules, of which at times one stops: the last, any, or one more.
-fn some_left(mut rules: Vec<Rule>, stock: &mut Stock) -> Vec<Rule> {
+pub fn some_left(mut rules: Vec<Rule>, stock: &mut Stock) -> Vec<Rule> {
     let any = stock.random.below(rules.len());
 
     match stock.random.below(10) {

@@ -3,7 +3,7 @@
 //! What a fold gives is the Rust's to say (`oracle::fold`), in either form. Where a sheet is refused, what a lookup finds, what a sheet's
 //! line is, what it is in the other form, and why a fold stopped, the Rust has no say: that is document 01 written plainly (`sheet`,
 //! `points`, `calendar`, `expected`), and 02's M-100 (`line`), M-101 (`overlap`), M-104 (`calendar`), M-105 (`why`), M-106 (`layout`,
-//! `convert`) and M-107 (`counts`), as in oracle/reference. The widths of the two forms stand once, with the Rust oracle (`oracle::form`).
+//! `convert`), M-107 (`counts`) and M-108 (`lists`), as in oracle/reference. The widths of the two forms stand once, with the Rust oracle (`oracle::form`).
 //!
 //! For oracle/public, where a public evaluator is asked, there are sheets and moments (`public_sheets`, `public_moments`).
 
@@ -24,12 +24,17 @@ mod damage;
 mod dates;
 mod expected;
 mod forms_tally;
+mod groups;
 pub mod growth_sheets;
 mod large;
 mod large_tally;
 mod layout;
 mod line;
 pub mod line_sheets;
+pub mod list_sheets;
+mod lists;
+mod lists_tally;
+mod many_lists;
 mod overlap;
 mod overlap_tally;
 mod overlapping;

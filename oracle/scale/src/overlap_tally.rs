@@ -11,13 +11,16 @@ use crate::sizes::{Sizes, add_each, met};
 /// In the order of the dimensions.
 const SELECTORS: [&str; 4] = ["weekdays", "weeks", "months", "years"];
 
+/// The codes that 11 comes before.
+const HIDDEN: [u64; 3] = [5, 6, 14];
+
 #[derive(Default)]
 pub struct Overlaps {
     refused: u64,
     places: Sizes,
     selectors: [u64; SELECTORS.len()],
-    /// How often the limits would have refused by 5 and by 6.
-    hidden: [u64; 2],
+    /// How often the limits would have refused, by each of the codes.
+    hidden: [u64; HIDDEN.len()],
     touching: u64,
     in_rules_left: u64,
 }
@@ -35,7 +38,7 @@ impl Overlaps {
             self.places.count(first as u64);
 
             let hidden = accepted.past_a_limit().map(|refusal| refusal.code);
-            let codes = [5, 6].map(|code| u64::from(hidden == Some(code)));
+            let codes = HIDDEN.map(|code| u64::from(hidden == Some(code)));
             add_each(&mut self.hidden, &codes);
         } else if is_folded {
             let touching = selectors.iter().flatten().any(|ranges| only_touch(ranges));
@@ -68,7 +71,7 @@ impl Display for Overlaps {
     fn fmt(&self, f: &mut Formatter<'_>) -> Result {
         if self.refused > 0 {
             let selectors = SELECTORS.into_iter().zip(self.selectors);
-            let hidden = [5, 6].into_iter().zip(self.hidden);
+            let hidden = HIDDEN.into_iter().zip(self.hidden);
             writeln!(f, "  folds refused by 11 at rule {}", self.places)?;
             writeln!(f, "  folds refused by 11 for {}", met(selectors))?;
             writeln!(f, "  folds refused by 11 before {}", met(hidden))?;

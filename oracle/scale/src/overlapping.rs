@@ -189,7 +189,7 @@ mod tests {
         for sheet in bench_sheets() {
             let read = Sheet::new(sheet.given());
             let accepted = read.accepted().expect("it is read");
-            assert!(accepted.extent().is_some(), "{}", sheet.name);
+            assert!(accepted.extent().is_ok(), "{}", sheet.name);
         }
     }
 }

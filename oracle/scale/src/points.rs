@@ -1,14 +1,14 @@
-//! From rules to points: ranges, draining, the count of boxes (code 5), the lengths of the lists (code 6), the list at a point.
+//! From rules to points: ranges, draining, the count of boxes (code 5), the lists of all boxes, rule after rule, the list at a point.
 
 use std::iter;
 use std::ops::Range;
 
 use crate::layout::Refusal;
+use crate::lists::{ListCounts, Lists};
 use crate::rule::{CLOSED, DayItem, NORMAL, Rule, Span};
 use crate::why::may_reach_tomorrow;
 
 pub const BOX_LIMIT: usize = 4096;
-pub const LIST_LIMIT: usize = 32;
 
 /// The lowest value of a dimension up to the unreachable one above the highest.
 pub type Dimension = Range<u32>;
@@ -60,7 +60,7 @@ pub fn is_simple(span: &Span) -> bool {
     span.start.tag == 0 && !may_reach_tomorrow(span) && (span.open_end, span.repeats_flag) == (0, 0)
 }
 
-fn replaces(rule: &Rule) -> bool {
+pub fn replaces(rule: &Rule) -> bool {
     rule.operator == NORMAL && rule.kind != CLOSED
 }
 
@@ -82,49 +82,49 @@ pub fn cuts_of(selectors: &[Selector]) -> [Vec<u32>; 4] {
     cuts
 }
 
-/// How many boxes an accepted fold has, and how long the longest list was after any rule.
+/// How many boxes the drained rules cut, and what their lists were.
 #[derive(Clone, Copy)]
 pub struct Extent {
     pub boxes: usize,
-    pub longest_list: usize,
+    pub lists: ListCounts,
 }
 
-/// Refuses too many boxes, and then a list that grows too long.
-pub fn check_limits(drained: &[Rule], selectors: &[Selector]) -> Result<Extent, Refusal> {
+/// Refuses too many boxes; lists are counted, and not judged yet.
+pub fn extent_of(drained: &[Rule], selectors: &[Selector]) -> Result<Extent, Refusal> {
     let cuts = cuts_of(selectors);
-    let boxes = cuts.iter().map(|values| values.len() - 1).product();
+    let boxes = boxes_of(&cuts);
 
     if boxes > BOX_LIMIT {
         return Err(Refusal::at(5, boxes));
     }
 
-    let mut lengths = vec![0; boxes];
-    let mut longest_list = 0;
+    let (lists, _) = counts_of_lists(drained, selectors, &cuts);
+    Ok(Extent { boxes, lists })
+}
+
+fn boxes_of(cuts: &[Vec<u32>; 4]) -> usize {
+    cuts.iter().map(|values| values.len() - 1).product()
+}
+
+/// What the lists were after each rule, and what they are after all.
+pub fn counts_of_lists(
+    drained: &[Rule],
+    selectors: &[Selector],
+    cuts: &[Vec<u32>; 4],
+) -> (ListCounts, Lists) {
+    let mut lists = Lists::before_any_rule(boxes_of(cuts));
+    let mut counts = ListCounts::default();
 
     for (index, (rule, selector)) in drained.iter().zip(selectors).enumerate() {
-        for (length, combinations) in lengths.iter_mut().zip(combinations_of(selector, &cuts)) {
-            if combinations > 0 {
-                *length = match replaces(rule) {
-                    true => 1,
-                    false => *length + combinations,
-                };
-                longest_list = longest_list.max(*length);
-            }
-        }
-
-        if longest_list > LIST_LIMIT {
-            return Err(Refusal::at(6, index));
-        }
+        lists.draw(replaces(rule), &combinations_of(selector, cuts));
+        counts.count(index, &lists);
     }
 
-    Ok(Extent {
-        boxes,
-        longest_list,
-    })
+    (counts, lists)
 }
 
 /// For each box, in how many combinations of one range per dimension it is covered.
-fn combinations_of(selector: &Selector, cuts: &[Vec<u32>; 4]) -> Vec<usize> {
+pub fn combinations_of(selector: &Selector, cuts: &[Vec<u32>; 4]) -> Vec<usize> {
     let mut combinations = vec![1];
 
     for (ranges, values) in selector.iter().zip(cuts) {

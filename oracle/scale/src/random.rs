@@ -53,6 +53,20 @@ impl Random {
         unreachable!("the rest is below the sum of the weights")
     }
 
+    /// So many of the values, or all where there are no more, in any order.
+    pub fn some_of<T: Clone>(&mut self, values: &[T], count: usize) -> Vec<T> {
+        let mut values = values.to_vec();
+        self.shuffle(&mut values);
+        values.truncate(count);
+        values
+    }
+
+    pub fn shuffle<T>(&mut self, values: &mut [T]) {
+        for place in (1..values.len()).rev() {
+            values.swap(place, self.below(place + 1));
+        }
+    }
+
     /// One more item, at any place.
     pub fn insert<T>(&mut self, items: &mut Vec<T>, item: impl FnOnce(&mut Self) -> T) {
         let place = self.below(items.len() + 1);

@@ -4,8 +4,9 @@ use oracle::form::Form;
 
 use crate::boxes::{Shape, over_boxes};
 use crate::large::{many_boxes, many_rules, many_years};
+use crate::lists::LIST_LIMIT;
+use crate::many_lists::{churning_few_boxes, many_lists};
 use crate::overlapping::take_overlaps;
-use crate::points::LIST_LIMIT;
 use crate::random::Random;
 use crate::rule::{
     ADDITIONAL, ITEM_LIMIT, RULE_LIMIT, Rule, Stepped, fixed, months, range, weekdays,
@@ -17,8 +18,8 @@ use crate::telling::{add_unsaid, make_sayable};
 /// The rules of one sheet, before it is made to have a line.
 pub type Recipe = fn(&mut Stock) -> Vec<Rule>;
 
-/// What a run makes where it isn't one of large sheets alone.
-pub const MIXED: [(usize, Recipe); 9] = [
+/// What a run makes where it isn't one of large sheets alone, or of sheets with many lists.
+pub const MIXED: [(usize, Recipe); 11] = [
     (6_000, drained),
     (2_600, stopped),
     (400, boxes_at_the_limit),
@@ -28,6 +29,8 @@ pub const MIXED: [(usize, Recipe); 9] = [
     (20, many_boxes),
     (20, many_rules),
     (2, many_years),
+    (4, many_lists),
+    (4, churning_few_boxes),
 ];
 
 /// The rules of one sheet. Half of them stay where the Rust's constructors take the values as they are, and of form 2 some have comments of

@@ -6,6 +6,7 @@ use crate::calls::Difference;
 use crate::compare::compare;
 use crate::damage::damaged;
 use crate::large::LARGE;
+use crate::many_lists::MANY_LISTS;
 use crate::overlapping::overlapping;
 use crate::random::Random;
 use crate::recipes::{MIXED, Recipe, rules};
@@ -13,11 +14,12 @@ use crate::sheet::write_sheet;
 use crate::shrink::shrunk;
 use crate::tally::Tally;
 
-/// Which sheets a run makes: of all sorts, or large ones alone.
+/// Which sheets a run makes: of all sorts, large ones alone, or those of many lists alone.
 #[derive(Clone, Copy)]
 pub enum Sheets {
     Mixed,
     Large,
+    Lists,
 }
 
 impl Sheets {
@@ -25,6 +27,7 @@ impl Sheets {
         match self {
             Self::Mixed => &MIXED,
             Self::Large => &LARGE,
+            Self::Lists => &MANY_LISTS,
         }
     }
 }

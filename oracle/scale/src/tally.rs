@@ -1,5 +1,5 @@
-//! What a run met: how often each code and each reason, how many rules were drained, emitted and left, which ranges overlap, how long
-//! lines were, and which forms.
+//! What a run met: how often each code and each reason, how many rules were drained, emitted and left, how many lists there were, which
+//! ranges overlap, how long lines were, and which forms.
 
 use std::fmt::{Display, Formatter, Result};
 
@@ -7,18 +7,20 @@ use crate::expected::Accepted;
 use crate::forms_tally::Forms;
 use crate::large_tally::Large;
 use crate::line::{REASONS, Unsaid};
+use crate::lists::{DIFFERENT_LIMIT, LIST_LIMIT};
+use crate::lists_tally::ListsMet;
 use crate::overlap_tally::Overlaps;
-use crate::points::{BOX_LIMIT, Extent, LIST_LIMIT};
+use crate::points::{BOX_LIMIT, Extent};
 use crate::rule::{ITEM_LIMIT, RULE_LIMIT, Rule};
 use crate::sizes::{Sizes, add_each, met};
 use crate::why::{Reasons, WHYS};
 
-/// Codes go from 0 to 13.
-pub const CODES: usize = 14;
+/// Codes go from 0 to 14.
+pub const CODES: usize = 15;
 
 /// Accepted folds that stand exactly at a limit.
 #[derive(Default)]
-struct AtLimits([u64; 5]);
+struct AtLimits([u64; 6]);
 
 impl AtLimits {
     fn count(&mut self, rules: &[Rule], extent: Extent) {
@@ -29,7 +31,8 @@ impl AtLimits {
                 .any(|rule| day_items(rule).contains(&ITEM_LIMIT)),
             rules.iter().any(|rule| rule.spans.len() == ITEM_LIMIT),
             extent.boxes == BOX_LIMIT,
-            extent.longest_list == LIST_LIMIT,
+            extent.lists.longest == LIST_LIMIT,
+            extent.lists.most == DIFFERENT_LIMIT,
         ];
         add_each(&mut self.0, &met.map(u64::from));
     }
@@ -37,14 +40,14 @@ impl AtLimits {
 
 impl Display for AtLimits {
     fn fmt(&self, f: &mut Formatter<'_>) -> Result {
-        let [rules, items, spans, boxes, entries] = self.0;
+        let [rules, items, spans, boxes, entries, lists] = self.0;
         write!(
             f,
             "{RULE_LIMIT} rules: {rules}, {ITEM_LIMIT} days' items: {items}, {ITEM_LIMIT} spans: {spans}, "
         )?;
         write!(
             f,
-            "{BOX_LIMIT} boxes: {boxes}, {LIST_LIMIT} entries: {entries}"
+            "{BOX_LIMIT} boxes: {boxes}, {LIST_LIMIT} entries: {entries}, {DIFFERENT_LIMIT} lists: {lists}"
         )
     }
 }
@@ -118,6 +121,7 @@ pub struct Tally {
     pub short_buffers: u64,
     pub forms: Forms,
     pub large: Large,
+    pub lists: ListsMet,
     folded_whole: u64,
     at_limits: AtLimits,
     fold_codes: [u64; CODES],
@@ -153,6 +157,7 @@ impl Tally {
         self.folded_whole += u64::from(inside);
         self.at_limits.count(rules, extent);
         self.large.fold(extent.boxes);
+        self.lists.fold(extent);
     }
 
     /// The reasons of the first rule left by an accepted fold.
@@ -181,6 +186,7 @@ impl Tally {
         self.short_buffers += other.short_buffers;
         self.forms.add(&other.forms);
         self.large.add(&other.large);
+        self.lists.add(&other.lists);
         self.folded_whole += other.folded_whole;
         add_each(&mut self.at_limits.0, &other.at_limits.0);
         add_each(&mut self.fold_codes, &other.fold_codes);
@@ -216,6 +222,7 @@ impl Display for Tally {
         writeln!(f, "  emitted {}", self.emitted)?;
         writeln!(f, "  left {}", self.left)?;
         writeln!(f, "{}", self.large)?;
+        writeln!(f, "{}", self.lists)?;
         writeln!(f, "{}", self.stopped)?;
         writeln!(f, "{}", self.overlaps)?;
         writeln!(f, "{}", self.lines)?;

@@ -1,75 +1,102 @@
--- `day_memory::find_day` meets its contract. The loop's invariant: no day passed has the words, and the lengths are kept.
-use mathlib.Core.Path.{_≡_, refl, sym, _∙_, subst}
-use Prim.Native.Nat.{_-_}
+-- `day_memory::find_day` meets its contract. The loop's invariant: no place passed has the day, and the lengths are kept.
+use mathlib.Core.Path.{_≡_, refl, sym, _∙_}
+use mathlib.Core.List.{List}
+use Prim.Native.Nat.{ℕ, _-_}
 use native.Mathlib.Omega.{arith}
 use lib.ListN.{length}
 use denote.Ref.{now}
 use borrow.Author.Needs.{needs}
-use Rattle.words.specs.Words.{part}
-use Rattle.memory.specs.Rows.{boxAt}
-use Rattle.tables.specs.Days.{boxWords, Ready}
+use Rattle.tables.specs.Days.{boxWords}
 use Rattle.box_day.proofs.Kept.{ready-kept, scratch-kept}
-use Rattle.day_memory.proofs.Searching.{Passed, none-left, day-found, first-passed, more-passed}
+use Rattle.day_memory.proofs.Searching.{Passed, no-words, day-found, day-new, first-passed, more-passed}
 use Rattle.day_memory.proofs.find_day.Statement.{statement}
 use Rattle.day_memory.proofs.find_day.Tie as tie
 
 abbrev Inv-loop : tie.InvT-loop
-Inv-loop words other₀ spanStates₀ spanCodes₀ strokes₀ minuteCuts₀ intervalStates₀ states counts spans lists memory count hash known row₀
-    other spanStates spanCodes strokes minuteCuts intervalStates row =
-    Passed (boxWords states counts spans lists) memory (part words 0 count) known row
+Inv-loop words other₀ spanStates₀ spanCodes₀ strokes₀ minuteCuts₀ intervalStates₀ states counts spans lists hashes count hash place before₀
+    other spanStates spanCodes strokes minuteCuts intervalStates before =
+    Passed (boxWords states counts spans lists) place before
     × (length other ≡ length other₀) × (length spanStates ≡ length spanStates₀) × (length spanCodes ≡ length spanCodes₀)
     × (length strokes ≡ length strokes₀) × (length minuteCuts ≡ length minuteCuts₀) × (length intervalStates ≡ length intervalStates₀)
 
 abbrev μ-loop : tie.MeasureT-loop
-μ-loop words other₀ spanStates₀ spanCodes₀ strokes₀ minuteCuts₀ intervalStates₀ states counts spans lists memory count hash known row₀
-    other spanStates spanCodes strokes minuteCuts intervalStates row = known - row
+μ-loop words other₀ spanStates₀ spanCodes₀ strokes₀ minuteCuts₀ intervalStates₀ states counts spans lists hashes count hash place before₀
+    other spanStates spanCodes strokes minuteCuts intervalStates before = place - before
+
+-- ## Places of the code
+abbrev Start : Type 0
+Start = tie.Start Inv-loop μ-loop
+
+abbrev Loop : Type 0
+Loop = tie.At-loop Inv-loop μ-loop
+
+abbrev Compared : Type 0
+Compared = tie.After-same-day Inv-loop μ-loop
+
+abbrev start : Loop → Start
+start c = c .before .before .before .before .before .before .before .before .before .before .before .before .before .before .before
+
+abbrev test : Compared → tie.In-loop Inv-loop μ-loop
+test c = c .before .before .before .before .before .before .before
+
+abbrev loop : Compared → Loop
+loop c = test c .before
+
+abbrev equal : tie.Then2 Inv-loop μ-loop → Compared
+equal c = c .before .before .before .before .before .before .before .before .before .before .before .before .before
+
+abbrev different : tie.Else2 Inv-loop μ-loop → Compared
+different c = c .before .before .before .before .before .before .before .before .before .before .before .before .before
+
+-- the words of each place's day
+abbrev days : Start → ℕ → List ℕ
+days entry = let a = entry .args in boxWords (now (a .states)) (now (a .span-counts)) (now (a .spans)) (now (a .lists))
+
+-- there are words
+some : (c : Loop) → start c .args .word-count ≡ 0 → ⊥
+some c = c .before .before .if1 .left
+
+-- ## What is needed there
+returns : tie.Need-returns Inv-loop μ-loop
+returns c =
+    let entry : Start = c .before .before .before .before .before .before .before .before .before .before .before .before .before in
+    no-words (days entry) _ _ _ (entry .pre .1 .1 .1 .0) (c .if1 .taken)
 
 loop-holds : tie.Need-loop-holds Inv-loop μ-loop
 loop-holds c =
-    let entry = c .before .before .before .before .before .before .before .before .before .before .before .before .before in
+    let entry : Start = c .before .before .before .before .before .before .before .before .before .before .before .before .before .before in
     let a = entry .args in
-    let hashed = entry .pre .1 .1 .1 in
-    let days = boxWords (now (a .states)) (now (a .span-counts)) (now (a .spans)) (now (a .lists)) in
-    (first-passed days (now (a .memory)) _ _ _ (hashed .0) (hashed .1) _ (c .next-place .ensures), refl, refl, refl, refl, refl, refl)
+    let known = entry .pre .1 .1 .1 in
+    let passed = first-passed (days entry) (now (a .words)) (a .word-count) (a .place) (known .0) (now (a .hashes)) _ (known .1) (known .2) _ (c .next-place .ensures) in
+    (passed, refl, refl, refl, refl, refl, refl)
 
 same-day-requires : tie.Need-same-day-requires Inv-loop μ-loop
 same-day-requires c κs =
-    let loop = c .before .before .before .before .before .before .before .before .before in
-    let entry = loop .before .before .before .before .before .before .before .before .before .before .before .before .before .before in
+    let inside = c .before .before .before .before .before .before in
+    let entry = start (inside .before) in
     let a = entry .args in
     let pre = entry .pre in
-    let inv = loop .loop .inv in
-    let sought = c .before .before .before .before .before .before .u16-to-usize in
-    let test = c .before .before .before .before .before .before .before .before .loop-test in
-    let ready = ready-kept (now (a .states)) (now (a .span-counts)) (now (a .spans)) (now (a .lists)) (λ r. boxAt (now (a .memory)) r) _ _ _
-    (inv .1) (pre .0) in (
-      subst (Ready _ _ _ _ _) (sym (sought .ensures .0)) (ready _ (test .taken)),
-      (scratch-kept _ _ _ _ _ _ _ _ _ _ (inv .2) (inv .3) (inv .4) (inv .5) (inv .6) (pre .1 .0), pre .1 .1 .0 .1),
+    let inv = inside .before .loop .inv in (
+      ready-kept (now (a .states)) (now (a .span-counts)) (now (a .spans)) (now (a .lists)) _ _ _ (inv .1) (pre .0) _ (inside .loop-test .taken),
+      (scratch-kept _ _ _ _ _ _ _ _ _ _ (inv .2) (inv .3) (inv .4) (inv .5) (inv .6) (pre .1 .0), pre .1 .1 .0 .0),
     )
 
-returns : tie.Need-returns Inv-loop μ-loop
-returns c =
-    let compared = c .before .before .before .before .before .before .before .before .before .before .before .before .before in
-    let sought = compared .before .before .before .before .before .before .before in
-    let entry = sought .before .before .before .before .before .before .before .before .before .before .before .before .before .before .before .before .before in
-    let a = entry .args in
-    let days = boxWords (now (a .states)) (now (a .span-counts)) (now (a .spans)) (now (a .lists)) in
-    day-found days (now (a .memory)) (part (now (a .words)) 0 (a .word-count)) (a .known-count) _ (sought .before .before .loop-test .taken) _
-    (sought .u16-to-usize .ensures .0) (sym (c .if1 .taken) ∙ compared .same-day .ensures)
+returns-2 : tie.Need-returns-2 Inv-loop μ-loop
+returns-2 c =
+    let same = equal c in
+    let entry = start (loop same) in
+    day-found (days entry) _ _ _ (entry .pre .1 .1 .1 .0) (some (loop same)) _ (loop same .loop .inv .0) (sym (c .if2 .taken) ∙ same .same-day .ensures)
 
 loop-again : tie.Need-loop-again Inv-loop μ-loop
 loop-again c =
-    let compared = c .before .before .before .before .before .before .before .before .before .before .before .before .before .before in
-    let sought = compared .before .before .before .before .before .before .before in
-    let loop = sought .before .before .before in
-    let entry = loop .before .before .before .before .before .before .before .before .before .before .before .before .before .before in
+    let other = different (c .before) in
+    let entry = start (loop other) in
     let a = entry .args in
-    let hashed = entry .pre .1 .1 .1 in
-    let inv = loop .loop .inv in
-    let kept = compared .same-day .kept .1 in
-    let days = boxWords (now (a .states)) (now (a .span-counts)) (now (a .spans)) (now (a .lists)) in (
-      more-passed days (now (a .memory)) _ _ _ (hashed .0) (hashed .1) _ (inv .0) _ (sought .u16-to-usize .ensures .0)
-          (sym (c .before .if1 .left) ∙ compared .same-day .ensures) _ (c .next-place2 .ensures),
+    let known = entry .pre .1 .1 .1 in
+    let inv = loop other .loop .inv in
+    let kept = other .same-day .kept .1 in (
+      more-passed (days entry) (now (a .words)) (a .word-count) (a .place) (known .0) (now (a .hashes)) _ (known .1) (known .2) _ (inv .0)
+          (sym (c .before .if2 .left) ∙ other .same-day .ensures) _ (c .next-place2 .ensures),
       kept .0 ∙ inv .1,
       kept .1 .0 ∙ inv .2,
       kept .1 .1 .0 ∙ inv .3,
@@ -82,58 +109,23 @@ pub find-day-spec : {M : Type 1} → statement M
 find-day-spec =
     tie.close
     (tie.spec
-    Inv-loop μ-loop (λ c κs. search needs) loop-holds
-    (λ c.
-    let entry = c .before .before .before .before .before .before .before .before .before .before .before .before .before .before .before in
-    omega (arith, c .loop-test .taken, entry .pre .1 .1 .0 .0))
-    (λ c. search needs)
-    (λ c.
-    let test = c .before in
-    let entry = test .before .before .before .before .before .before .before .before .before .before .before .before .before .before .before in
-    omega (arith, test .loop-test .taken, entry .pre .1 .1 .0 .0))
-    (λ c κs. search needs) same-day-requires
-    (λ c.
-    let compared = c .before .before .before .before .before .before .before .before .before .before .before .before .before in
-    compared .same-day .kept .1 .0 ∙ compared .before .before .before .before .before .before .before .before .before .before .loop .inv .1)
-    (λ c.
-    let compared = c .before .before .before .before .before .before .before .before .before .before .before .before .before in
-    compared .same-day .kept .1 .1 .0 ∙ compared .before .before .before .before .before .before .before .before .before .before .loop .inv .2)
-    (λ c.
-    let compared = c .before .before .before .before .before .before .before .before .before .before .before .before .before in
-    compared .same-day .kept .1 .1 .1 .0 ∙ compared .before .before .before .before .before .before .before .before .before .before .loop .inv .3)
-    (λ c.
-    let compared = c .before .before .before .before .before .before .before .before .before .before .before .before .before in
-    compared .same-day .kept .1 .1 .1 .1 .0 ∙ compared .before .before .before .before .before .before .before .before .before .before .loop .inv .4)
-    (λ c.
-    let compared = c .before .before .before .before .before .before .before .before .before .before .before .before .before in
-    compared .same-day .kept .1 .1 .1 .1 .1 .0 ∙ compared .before .before .before .before .before .before .before .before .before .before .loop .inv .5)
-    (λ c.
-    let compared = c .before .before .before .before .before .before .before .before .before .before .before .before .before in
-    compared .same-day .kept .1 .1 .1 .1 .1 .1 .0 ∙ compared .before .before .before .before .before .before .before .before .before .before .loop .inv .6)
-    returns
-    (λ c.
-    let compared = c .before .before .before .before .before .before .before .before .before .before .before .before .before in
-    let test = compared .before .before .before .before .before .before .before .before .before in
-    let entry = test .before .before .before .before .before .before .before .before .before .before .before .before .before .before .before in
-    omega (arith, test .loop-test .taken, entry .fits .known-count))
-    (λ c κs.
-    let compared = c .before .before .before .before .before .before .before .before .before .before .before .before .before in
-    let test = compared .before .before .before .before .before .before .before .before .before in
-    let entry = test .before .before .before .before .before .before .before .before .before .before .before .before .before .before .before in
-    (entry .pre .1 .1 .0 .0, omega arith, omega (arith, test .loop-test .taken)))
-    (λ c.
-    let compared = c .before .before .before .before .before .before .before .before .before .before .before .before .before .before in
-    let test = compared .before .before .before .before .before .before .before .before .before in
-    omega (arith, c .next-place2 .ensures .0, test .loop-test .taken))
+    Inv-loop μ-loop returns
+    (λ c κs. search needs) loop-holds same-day-requires
+    (λ c. omega (arith, test (equal c) .loop-test .taken, start (loop (equal c)) .fits .place))
+    (λ c. equal c .same-day .kept .1 .0 ∙ loop (equal c) .loop .inv .1)
+    (λ c. equal c .same-day .kept .1 .1 .0 ∙ loop (equal c) .loop .inv .2)
+    (λ c. equal c .same-day .kept .1 .1 .1 .0 ∙ loop (equal c) .loop .inv .3)
+    (λ c. equal c .same-day .kept .1 .1 .1 .1 .0 ∙ loop (equal c) .loop .inv .4)
+    (λ c. equal c .same-day .kept .1 .1 .1 .1 .1 .0 ∙ loop (equal c) .loop .inv .5)
+    (λ c. equal c .same-day .kept .1 .1 .1 .1 .1 .1 .0 ∙ loop (equal c) .loop .inv .6)
+    returns-2
+    (λ c. omega (arith, test (different c) .loop-test .taken, start (loop (different c)) .fits .place))
+    (λ c κs. (omega (arith, test (different c) .loop-test .taken), omega (arith, start (loop (different c)) .pre .1 .1 .0 .1)))
+    (λ c. omega (arith, c .next-place2 .ensures .0, test (different (c .before)) .loop-test .taken))
     loop-again
-    (λ c. c .before .loop .inv .1)
-    (λ c. c .before .loop .inv .2)
-    (λ c. c .before .loop .inv .3)
-    (λ c. c .before .loop .inv .4)
-    (λ c. c .before .loop .inv .5)
-    (λ c. c .before .loop .inv .6)
+    (λ c. omega (arith, start (c .before) .pre .1 .1 .0 .1))
+    (λ c. c .before .loop .inv .1) (λ c. c .before .loop .inv .2) (λ c. c .before .loop .inv .3) (λ c. c .before .loop .inv .4)
+    (λ c. c .before .loop .inv .5) (λ c. c .before .loop .inv .6)
     (λ c.
-    let entry = c .before .before .before .before .before .before .before .before .before .before .before .before .before .before .before in
-    let a = entry .args in
-    let days = boxWords (now (a .states)) (now (a .span-counts)) (now (a .spans)) (now (a .lists)) in
-    none-left days (now (a .memory)) _ _ _ (c .loop-test .left) (c .before .loop .inv .0)))
+    let entry = start (c .before) in
+    day-new (days entry) _ _ _ (entry .pre .1 .1 .1 .0) (some (c .before)) _ (c .before .loop .inv .0) (c .loop-test .left)))

@@ -1,73 +1,137 @@
--- `draw_rules::draw_rules` meets its contract. The loop's invariant: whatever rules the tables hold, the lists are those of the rules passed.
-use mathlib.Core.Path.{_≡_, refl, _∙_}
-use mathlib.Core.List.{List}
-use Prim.Native.Nat.{_-_, _≤_}
+-- `draw_rules::draw_rules` meets its contract. The loop's invariant: whatever rules the tables hold, the store is that of the rules passed, none of which
+-- is refused.
+use mathlib.Core.Path.{_≡_, refl, sym, _∙_}
+use Prim.Native.Nat.{ℕ, _-_, _≤_}
 use native.Mathlib.Omega.{arith}
-use lib.ListN.{length}
-use Rattle.definition.specs.Rule.{Rule}
-use Rattle.tables.specs.Cuts.{Drawable}
-use Rattle.tables.specs.Lists.{Listed}
-use Rattle.draw_rules.proofs.Drawing.{none-drawn, rule-there, tables-lawful, boxes-node, drew-all, drew-next, drew-over}
+use lib.ListN.{length, getD}
+use borrow.Author.Needs.{needs}
+use borrow.Author.Tests.{ltb-false}
+use Rattle.draw_rules.proofs.Tables.{rule-there, tables-lawful}
+use Rattle.draw_rules.proofs.Going.{Going, places-kept, going-start, going-ready, going-node, going-settles, going-long, going-many, going-next, going-end}
 use Rattle.draw_rules.proofs.draw_rules.Statement.{statement}
 use Rattle.draw_rules.proofs.draw_rules.Tie as tie
 
 abbrev Inv-loop : tie.InvT-loop
-Inv-loop lists₀ rows sizes cuts replacing counts ranges rules rule₀ lists rule =
-    (rule ≤ rules) × (length lists ≡ length lists₀) × ((rs : List Rule) → Drawable replacing counts ranges rows sizes cuts rules rs → Listed sizes rows cuts lists rs rule)
+Inv-loop cells₀ lists₀ memo₀ rows sizes cuts replacing counts ranges rules most used₀ rule₀ cells lists memo used rule =
+    (rule ≤ rules) × (length cells ≡ length cells₀) × (length lists ≡ length lists₀) × (length memo ≡ length memo₀) × (used ≤ most) × ((k : ℕ) → getD memo k 0 ≤ used)
+    × Going replacing counts ranges rows sizes cuts rules cells lists used rule
 
 abbrev μ-loop : tie.MeasureT-loop
-μ-loop lists₀ rows sizes cuts replacing counts ranges rules rule₀ lists rule = rules - rule
+μ-loop cells₀ lists₀ memo₀ rows sizes cuts replacing counts ranges rules most used₀ rule₀ cells lists memo used rule = rules - rule
 
-draw-rule-requires : tie.Need-draw-rule-requires Inv-loop μ-loop
-draw-rule-requires c κs =
-    let entry = c .before .before .before .before .before .before .before .before .before .before .before in
-    let here = c .before .before .loop-test .taken in
-    let drawable = entry .pre .0 .1 in (
-      rule-there _ _ _ _ _ _ _ _ drawable _ here,
+draw-row-requires : tie.Need-draw-row-requires Inv-loop μ-loop
+draw-row-requires c κs =
+    let loop-test = c .before .before .before .before in
+    let loop = loop-test .before in
+    let pre = loop .before .before .before .before .before .before .before .before .before .before .pre in
+    let inv = loop .loop .inv in
+    let t = pre .0 .1 in
+    let here = loop-test .loop-test .taken in
+    let places = places-kept _ _ (inv .1) (inv .2) (inv .3) (pre .1 .places) in (
+      rule-there _ _ _ _ _ _ _ _ t _ here,
       (
-        tables-lawful _ _ _ _ _ _ _ _ drawable _ here,
-        (omega (arith, drawable .2 .four), boxes-node _ _ _ _ _ _ _ _ drawable _ (omega (arith, entry .pre .1 .room, c .before .before .before .loop .inv .1))),
+        tables-lawful _ _ _ _ _ _ _ _ t _ here,
+        (going-ready _ _ _ _ _ _ _ _ _ _ _ _ _ places (inv .4) (inv .5) (inv .6) _ t, going-node _ _ _ _ _ _ _ _ _ (loop .loop .memo) _ _ _ places (inv .4) (inv .5) (inv .6) _ t),
       ),
     )
 
+-- 6
 returns : tie.Need-returns Inv-loop μ-loop
 returns c =
-    let loop-test = c .before .before .before .before .before .before in
+    let drawing = c .before .before .before .before .before .before .before in
+    let loop-test = drawing .before .before .before .before .before in
     let loop = loop-test .before in
-    let entry = loop .before .before .before .before .before .before .before .before in
-    λ rs drawable. drew-over _ _ _ _ _ _ _ _ drawable _ (omega (arith, entry .pre .1 .room, loop .loop .inv .1)) _ (loop-test .loop-test .taken)
-    (loop .loop .inv .2 rs drawable) _ _ (c .before .before .before .draw-rule .ensures) (c .if1 .taken)
+    let pre = loop .before .before .before .before .before .before .before .before .before .before .pre in
+    let inv = loop .loop .inv in
+    let places = places-kept _ _ (inv .1) (inv .2) (inv .3) (pre .1 .places) in
+    λ rs t. going-long _ _ _ _ _ _ _ _ _ (loop .loop .memo) _ _ _ places (inv .4) (inv .5) (inv .6) (loop-test .loop-test .taken) _ _ _ _ _ (drawing .draw-row .ensures) (c .if1 .taken) _ _ rs t
+
+settle-requires : tie.Need-settle-requires Inv-loop μ-loop
+settle-requires c κs =
+    let drawing = c .before .before .before .before .before .before .before .before .before .before in
+    let loop-test = drawing .before .before .before .before .before in
+    let loop = loop-test .before in
+    let pre = loop .before .before .before .before .before .before .before .before .before .before .pre in
+    let inv = loop .loop .inv in
+    let places = places-kept _ _ (inv .1) (inv .2) (inv .3) (pre .1 .places) in
+    let drawn = places-kept _ _ (drawing .draw-row .kept .0) (drawing .draw-row .kept .1 .0) (drawing .draw-row .kept .1 .1 .0) places in (
+      going-settles _ _ _ _ _ _ _ _ _ (loop .loop .memo) _ _ _ places (inv .4) (inv .5) (inv .6) (loop-test .loop-test .taken) _ _ _ _ _ (drawing .draw-row .ensures) (drawing .draw-row .kept .1 .1 .0),
+      (places .few, drawn .enough),
+    )
+
+-- 14
+returns-2 : tie.Need-returns-2 Inv-loop μ-loop
+returns-2 c =
+    let settling = c .before .before .before .before .before .before .before .before in
+    let drawing = settling .before .before .before .before .before .before .before .before .before .before .before in
+    let loop-test = drawing .before .before .before .before .before in
+    let loop = loop-test .before in
+    let pre = loop .before .before .before .before .before .before .before .before .before .before .pre in
+    let inv = loop .loop .inv in
+    let places = places-kept _ _ (inv .1) (inv .2) (inv .3) (pre .1 .places) in
+    λ rs t. going-many _ _ _ _ _ _ _ _ _ (loop .loop .memo) _ _ _ places (inv .4) (inv .5) (inv .6) (loop-test .loop-test .taken) _ _ _ _ _ (drawing .draw-row .ensures) (drawing .draw-row .kept .0)
+    (settling .before .before .before .before .if1 .left) _ _ _ _ (settling .settle .ensures) (sym (c .before .lists-over .ensures) ∙ c .if2 .taken) rs t
 
 loop-again : tie.Need-loop-again Inv-loop μ-loop
 loop-again c =
-    let draw-rule = c .before .before .before in
-    let loop-test = draw-rule .before .before .before in
+    let settling = c .before .before .before .before .before .before .before .before in
+    let drawing = settling .before .before .before .before .before .before .before .before .before .before .before in
+    let loop-test = drawing .before .before .before .before .before in
     let loop = loop-test .before in
-    let entry = loop .before .before .before .before .before .before .before .before in (
+    let pre = loop .before .before .before .before .before .before .before .before .before .before .pre in
+    let inv = loop .loop .inv in
+    let places = places-kept _ _ (inv .1) (inv .2) (inv .3) (pre .1 .places) in
+    let few = sym (c .before .lists-over .ensures) ∙ c .if2 .left in (
       omega (arith, loop-test .loop-test .taken),
-      draw-rule .draw-rule .kept .0 ∙ loop .loop .inv .1,
-      λ rs drawable. drew-next _ _ _ _ _ _ _ _ drawable _ (omega (arith, entry .pre .1 .room, loop .loop .inv .1)) _ (loop-test .loop-test .taken)
-          (loop .loop .inv .2 rs drawable) _ _ (draw-rule .draw-rule .ensures) (c .if1 .left),
+      settling .settle .kept .0 ∙ drawing .draw-row .kept .0 ∙ inv .1,
+      settling .settle .kept .1 .0 ∙ drawing .draw-row .kept .1 .0 ∙ inv .2,
+      settling .settle .kept .1 .1 .0 ∙ drawing .draw-row .kept .1 .1 .0 ∙ inv .3,
+      settling .settle .ensures .few (ltb-false _ _ few),
+      settling .settle .ensures .memoed,
+      going-next _ _ _ _ _ _ _ _ _ (loop .loop .memo) _ _ _ places (inv .4) (inv .5) (inv .6) (loop-test .loop-test .taken) _ _ _ _ _ (drawing .draw-row .ensures) (drawing .draw-row .kept .0)
+          (settling .before .before .before .before .if1 .left) _ _ _ _ (settling .settle .ensures) few,
     )
+
+reclaim-requires : tie.Need-reclaim-requires Inv-loop μ-loop
+reclaim-requires c κs =
+    let loop = c .before .before .before .before in
+    let pre = loop .before .before .before .before .before .before .before .before .before .before .pre in
+    let inv = loop .loop .inv in
+    let places = places-kept _ _ (inv .1) (inv .2) (inv .3) (pre .1 .places) in
+    let ready = going-ready _ _ _ _ _ _ _ _ _ (loop .loop .memo) _ _ _ places (inv .4) (inv .5) (inv .6) _ (pre .0 .1) in
+    (ready .store, ready .many, omega (arith, ready .few))
+
+returns-3 : tie.Need-returns-3 Inv-loop μ-loop
+returns-3 c =
+    let reclaiming = c .before .before .before .before .before .before in
+    let loop-test = reclaiming .before .before .before .before in
+    let loop = loop-test .before in
+    let pre = loop .before .before .before .before .before .before .before .before .before .before .pre in
+    let inv = loop .loop .inv in
+    let places = places-kept _ _ (inv .1) (inv .2) (inv .3) (pre .1 .places) in
+    λ rs t. going-end _ _ _ _ _ _ _ _ _ (loop .loop .memo) _ _ _ places (inv .6) (loop-test .loop-test .left) (inv .0) _ _ _ _ (reclaiming .reclaim .kept .0) (reclaiming .reclaim .ensures) rs t
 
 pub draw-rules-spec : {M : Type 1} → statement M
 draw-rules-spec =
     tie.close
-    (tie.spec Inv-loop μ-loop (λ c.
-    let entry = c .before .before .before .before .before .before .before in
-    (omega arith, refl, λ rs drawable. none-drawn _ _ _ _ _ _ (entry .pre .1)))
-    (λ c.
-    let entry = c .before .before .before .before .before .before .before .before .before .before .before in
-    let drawable = entry .pre .0 .1 in omega (arith, c .before .before .loop-test .taken, drawable .0 .many, drawable .1 .all-replacing)) draw-rule-requires
-    (λ c.
-    let loop = c .before .before .before .before .before .before .before in
-    c .before .before .before .draw-rule .kept .0 ∙ loop .loop .inv .1) returns (λ c.
-    let loop-test = c .before .before .before .before .before .before in
-    omega (arith, loop-test .loop-test .taken))
-    (λ c.
-    let loop-test = c .before .before .before .before .before .before in
-    omega (arith, loop-test .loop-test .taken)) loop-again (λ c. c .before .loop .inv .1)
-    (λ c.
-    let entry = c .before .before .before .before .before .before .before .before .before in
-    λ rs drawable. drew-all _ _ _ _ _ _ _ _ drawable _ _ (entry .pre .1) (c .before .loop .inv .1) _ (c .before .loop .inv .0) (c .loop-test .left)
-    (c .before .loop .inv .2 rs drawable)))
+    (tie.spec
+    Inv-loop μ-loop
+    (λ c. let pre = c .before .before .before .before .before .before .before .before .before .pre in omega (arith, pre .1 .places .some))
+    (λ c. let pre = c .before .before .before .before .before .before .before .before .before .pre in (omega arith, refl, refl, refl, omega arith, λ k. omega (arith, pre .1 .unmade k), going-start _ _ _ _ _ _ _ _ _ (pre .1 .unnamed)))
+    (λ c. let t = c .before .before .before .before .before .before .before .before .before .before .before .before .before .before .before .pre .0 .1 in omega (arith, c .before .before .before .before .loop-test .taken, t .0 .0 .many, t .0 .1 .all-replacing))
+    draw-row-requires
+    (λ c. c .before .before .before .before .before .before .before .draw-row .kept .0 ∙ c .before .before .before .before .before .before .before .before .before .before .before .before .before .loop .inv .1)
+    (λ c. c .before .before .before .before .before .before .before .draw-row .kept .1 .0 ∙ c .before .before .before .before .before .before .before .before .before .before .before .before .before .loop .inv .2)
+    (λ c. c .before .before .before .before .before .before .before .draw-row .kept .1 .1 .0 ∙ c .before .before .before .before .before .before .before .before .before .before .before .before .before .loop .inv .3)
+    returns settle-requires (λ c κs. search needs)
+    (λ c. c .before .before .before .before .before .before .before .before .settle .kept .0 ∙ c .before .before .before .before .before .before .before .before .before .before .before .before .before .before .before .before .before .before .before .draw-row .kept .0 ∙ c .before .before .before .before .before .before .before .before .before .before .before .before .before .before .before .before .before .before .before .before .before .before .before .before .before .loop .inv .1)
+    (λ c. c .before .before .before .before .before .before .before .before .settle .kept .1 .0 ∙ c .before .before .before .before .before .before .before .before .before .before .before .before .before .before .before .before .before .before .before .draw-row .kept .1 .0 ∙ c .before .before .before .before .before .before .before .before .before .before .before .before .before .before .before .before .before .before .before .before .before .before .before .before .before .loop .inv .2)
+    (λ c. c .before .before .before .before .before .before .before .before .settle .kept .1 .1 .0 ∙ c .before .before .before .before .before .before .before .before .before .before .before .before .before .before .before .before .before .before .before .draw-row .kept .1 .1 .0 ∙ c .before .before .before .before .before .before .before .before .before .before .before .before .before .before .before .before .before .before .before .before .before .before .before .before .before .loop .inv .3)
+    returns-2
+    (λ c. let t = c .before .before .before .before .before .before .before .before .before .before .before .before .before .before .before .before .before .before .before .before .before .before .before .before .before .before .before .before .before .before .before .before .before .before .before .pre .0 .1 in omega (arith, c .before .before .before .before .before .before .before .before .before .before .before .before .before .before .before .before .before .before .before .before .before .before .before .before .loop-test .taken, t .0 .0 .few-rules))
+    (λ c. omega (arith, c .before .before .before .before .before .before .before .before .before .before .before .before .before .before .before .before .before .before .before .before .before .before .before .before .loop-test .taken))
+    loop-again reclaim-requires
+    (λ c. c .before .before .before .before .before .before .reclaim .kept .0 ∙ c .before .before .before .before .before .before .before .before .before .before .before .loop .inv .1)
+    (λ c. c .before .before .before .before .before .before .reclaim .kept .1 .0 ∙ c .before .before .before .before .before .before .before .before .before .before .before .loop .inv .2)
+    (λ c. c .before .before .before .before .before .before .reclaim .kept .1 .1 .0 ∙ c .before .before .before .before .before .before .before .before .before .before .before .loop .inv .3)
+    returns-3)

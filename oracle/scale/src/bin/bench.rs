@@ -1,9 +1,9 @@
 //! The bench: `bench` times the archive and the Rust on the same sheets, from sheet bytes to result bytes, and prints a table; and, by the
 //! archive alone, lines of text, for which the Rust has no writer, and checks, which it does not make, in two more. `bench --growth` times
-//! both on sheets of which rules or boxes are four times as many from one to the next, and on sheets at the limits; `bench --stack` tells
-//! how deep each function goes on all these sheets. `bench --sheets` prints the sheets of the first table, in hex and in the Rust's own
-//! words; `bench --profile TABLE SHEET RUNS` runs one sheet of a table (`fold`, `growth`, `limit`, `line` or `check`), by its number from
-//! 1, that many times by the archive alone, for a profiler.
+//! both on sheets of which rules or boxes are four times as many from one to the next, and on sheets at the limits, `bench --lists` on sheets
+//! of many lists; `bench --stack` tells how deep each function goes on all these sheets. `bench --sheets` prints the sheets of the first
+//! table, in hex and in the Rust's own words; `bench --profile TABLE SHEET RUNS` runs one sheet of a table (`fold`, `growth`, `limit`,
+//! `lists`, `line` or `check`), by its number from 1, that many times by the archive alone, for a profiler.
 
 use std::hint::black_box;
 use std::process::ExitCode;
@@ -15,6 +15,7 @@ use scale::bench_sheets::{BenchSheet, bench_sheets};
 use scale::check_sheets::check_sheets;
 use scale::growth_sheets::{growth_sheets, limit_sheets};
 use scale::line_sheets::line_sheets;
+use scale::list_sheets::list_sheets;
 use scale::stack::stack_of;
 use scale::times::times;
 
@@ -32,6 +33,7 @@ fn main() -> ExitCode {
             print_times(&growth_sheets());
             print_times(&limit_sheets());
         }
+        ["--lists"] => print_times(&list_sheets()),
         ["--stack"] => print_stacks(),
         ["--sheets"] => bench_sheets().iter().for_each(print_sheet),
         ["--profile", table, sheet, runs] => match (table_of(table), sheet.parse(), runs.parse()) {
@@ -46,7 +48,7 @@ fn main() -> ExitCode {
 
 fn usage() -> ExitCode {
     eprintln!(
-        "usage: bench [--growth | --stack | --sheets | --profile fold|growth|limit|line|check SHEET RUNS]"
+        "usage: bench [--growth | --lists | --stack | --sheets | --profile fold|growth|limit|lists|line|check SHEET RUNS]"
     );
     ExitCode::from(2)
 }
@@ -75,6 +77,7 @@ fn table_of(name: &str) -> Option<(Vec<BenchSheet>, Call)> {
         "fold" => Some((bench_sheets(), call_fold)),
         "growth" => Some((growth_sheets(), call_fold)),
         "limit" => Some((limit_sheets(), call_fold)),
+        "lists" => Some((list_sheets(), call_fold)),
         "line" => Some((line_sheets(), |sheet, out| _ = black_box(line(sheet, out)))),
         "check" => Some((check_sheets(), |sheet, _| _ = black_box(check(sheet)))),
         _ => None,
@@ -170,7 +173,14 @@ fn print_stacks() {
     println!("| sheet | fold | lookup | write-back | line | convert |");
     println!("|---|---|---|---|---|---|");
 
-    for sheet in [bench_sheets(), growth_sheets(), limit_sheets()].concat() {
+    for sheet in [
+        bench_sheets(),
+        growth_sheets(),
+        limit_sheets(),
+        list_sheets(),
+    ]
+    .concat()
+    {
         let given = sheet.given();
         let mut out = vec![0; ROOM];
         let mut depth = |function: Writing| {

@@ -1,6 +1,6 @@
-//! The comparison at scale: `scale --seed S --count N [--threads T] [--large 1]` makes N sound sheets, N overlapping ones and N damaged ones,
-//! with `--large 1` large ones alone, gives each to the archive and holds what it answers against the Rust and documents 01 and 02. Exit
-//! status 1 on any difference.
+//! The comparison at scale: `scale --seed S --count N [--threads T] [--large 1 | --lists 1]` makes N sound sheets, N overlapping ones and N
+//! damaged ones, with `--large 1` large ones alone, with `--lists 1` those of many lists alone, gives each to the archive and holds what it
+//! answers against the Rust and documents 01 and 02. Exit status 1 on any difference.
 
 use std::process::ExitCode;
 use std::sync::atomic::{AtomicU64, Ordering};
@@ -25,7 +25,7 @@ const ENOUGH_DIFFERENCES: usize = 5;
 
 fn main() -> ExitCode {
     let Some(arguments) = arguments() else {
-        eprintln!("usage: scale --seed S --count N [--threads T] [--large 1]");
+        eprintln!("usage: scale --seed S --count N [--threads T] [--large 1 | --lists 1]");
         return ExitCode::from(2);
     };
 
@@ -60,15 +60,18 @@ fn main() -> ExitCode {
 
 fn arguments() -> Option<Arguments> {
     let processors = thread::available_parallelism().map_or(1, |threads| threads.get() as u64);
-    let [seed, count, threads, large] = arguments::numbers([
+    let [seed, count, threads, large, lists] = arguments::numbers([
         ("--seed", 1),
         ("--count", 0),
         ("--threads", processors),
         ("--large", 0),
+        ("--lists", 0),
     ])?;
-    let sheets = match large {
-        0 => Sheets::Mixed,
-        _ => Sheets::Large,
+    let sheets = match (large, lists) {
+        (0, 0) => Sheets::Mixed,
+        (_, 0) => Sheets::Large,
+        (0, _) => Sheets::Lists,
+        _ => return None,
     };
 
     (threads > 0).then_some(Arguments {

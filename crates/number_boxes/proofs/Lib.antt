@@ -1,4 +1,0 @@
-pub mod Numbering
-pub mod OneMore
-pub mod Steps
-pub mod InUse

@@ -1,2 +1,0 @@
-pub mod Numbering
-pub mod Boxes

@@ -1,0 +1,3 @@
+pub mod Numbering
+pub mod OneMore
+pub mod InUse
