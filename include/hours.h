@@ -4,7 +4,7 @@
  *
  *     cc -Iinclude program.c target/staticlib/libhours.a
  *
- * What a packed sheet, its fold and its line are stands in crates/definition/specs. Of all five functions:
+ * What a packed sheet, its fold and its line are stands in crates/definition/specs. Of all six functions:
  *
  * - The caller says in `form` of which form the sheet is: HOURS_FORM_1 or HOURS_FORM_2, an hours_form. What a function writes as a sheet
  *   is of the same form, but for hours_convert, which writes the other one.
@@ -141,6 +141,12 @@ enum hours_convert_number {
  * HOURS_NO_ROOM tells the bytes needed. What HOURS_PAST_COUNTS refuses can be folded in form 2: move the sheet there by hours_convert. */
 bool hours_fold(uint64_t form, const uint8_t *sheet, size_t sheet_length, uint8_t *out, size_t out_length, uint64_t *numbers,
                 size_t numbers_length);
+
+/* The same by a second, plain engine, which answers as hours_fold does in every case: the same numbers and the same bytes, on each refusal
+ * too. It keeps a list for each box and looks at all boxes for each rule and for each group, so it is slower, the more so the more boxes
+ * and groups there are, and takes more stack. It is for a bench that wants to read what it runs; others take hours_fold. */
+bool hours_fold_plain(uint64_t form, const uint8_t *sheet, size_t sheet_length, uint8_t *out, size_t out_length, uint64_t *numbers,
+                      size_t numbers_length);
 
 /* The state at a minute (0 to 1439) of a Gregorian date (years 1900 to 9999, months and days from 1), by a sheet without a rule that
  * can't be folded exactly. A date's week is that of ISO 8601, its year that of the calendar: 1 January 2027 is in week 53 and in 2027.

@@ -5,9 +5,10 @@
 #include <string.h>
 
 #include "check.h"
+#include "engines.h"
 #include "hours.h"
 
-enum { SHEET = 40000, ROOM = 20000 };
+enum { SHEET = 40000 };
 
 /* A sheet that is written field by field, the most significant bit first. */
 static uint8_t sheet[SHEET];
@@ -64,7 +65,7 @@ static uint64_t numbers[HOURS_FOLD_NUMBERS];
 static uint64_t fold_into(enum hours_form form, size_t room)
 {
     memset(out, PAINT, sizeof out);
-    CHECK(hours_fold(form, sheet, sheet_length(), out, room, numbers, HOURS_FOLD_NUMBERS));
+    CHECK(fold(form, sheet, sheet_length(), out, room, numbers, HOURS_FOLD_NUMBERS));
     return numbers[HOURS_FOLD_CODE];
 }
 

@@ -1,8 +1,9 @@
-/* The header held against the archive: every function called with every sort of slice. Compiles as C and as C++. */
+/* The header held against the archive: every function called with every sort of slice, folds by both engines. Compiles as C and C++. */
 #include <stdlib.h>
 #include <string.h>
 
 #include "check.h"
+#include "engines.h"
 #include "hours.h"
 
 /* One Normal Open rule, 00:00-24:00. */
@@ -26,7 +27,7 @@ static bool numbers_painted_from(size_t first)
 static void test_fold(void)
 {
     paint();
-    CHECK(hours_fold(HOURS_FORM_1, always, sizeof always, out, sizeof out, numbers, HOURS_FOLD_NUMBERS + 1));
+    CHECK(fold(HOURS_FORM_1, always, sizeof always, out, sizeof out, numbers, HOURS_FOLD_NUMBERS + 1));
     CHECK(numbers[HOURS_FOLD_CODE] == HOURS_DONE);
     CHECK(numbers[HOURS_FOLD_DRAINED] == 1);
     CHECK(numbers[HOURS_FOLD_EMITTED] == 1);
@@ -39,14 +40,14 @@ static void test_fold(void)
     CHECK(out[sizeof always] == PAINT);
 
     paint();
-    CHECK(hours_fold(HOURS_FORM_1, always, sizeof always, out, sizeof always - 1, numbers, HOURS_FOLD_NUMBERS));
+    CHECK(fold(HOURS_FORM_1, always, sizeof always, out, sizeof always - 1, numbers, HOURS_FOLD_NUMBERS));
     CHECK(numbers[HOURS_FOLD_CODE] == HOURS_NO_ROOM);
     CHECK(numbers[HOURS_FOLD_PLACE] == sizeof always);
     CHECK(painted(out, sizeof out));
 
     paint();
     CHECK(HOURS_FOLD_NUMBERS == 7);
-    CHECK(!hours_fold(HOURS_FORM_1, always, sizeof always, out, sizeof out, numbers, 6));
+    CHECK(!fold(HOURS_FORM_1, always, sizeof always, out, sizeof out, numbers, 6));
     CHECK(painted(out, sizeof out) && numbers_painted_from(0));
 }
 
@@ -85,14 +86,14 @@ static void test_why(void)
         const size_t length = each[i].length;
 
         paint();
-        CHECK(hours_fold(HOURS_FORM_1, sheet, length, out, sizeof out, numbers, HOURS_FOLD_NUMBERS));
+        CHECK(fold(HOURS_FORM_1, sheet, length, out, sizeof out, numbers, HOURS_FOLD_NUMBERS));
         CHECK(numbers[HOURS_FOLD_CODE] == HOURS_DONE);
         CHECK(numbers[HOURS_FOLD_LEFT] == 1);
         CHECK(numbers[HOURS_FOLD_WHY] == (uint64_t)each[i].why);
         CHECK(numbers_painted_from(HOURS_FOLD_NUMBERS));
         CHECK(memcmp(out, sheet, length) == 0);
 
-        CHECK(hours_fold(HOURS_FORM_1, sheet, length, out, length - 1, numbers, HOURS_FOLD_NUMBERS));
+        CHECK(fold(HOURS_FORM_1, sheet, length, out, length - 1, numbers, HOURS_FOLD_NUMBERS));
         CHECK(numbers[HOURS_FOLD_CODE] == HOURS_NO_ROOM);
         CHECK(numbers[HOURS_FOLD_WHY] == HOURS_WHY_NOTHING);
     }
@@ -107,14 +108,14 @@ static const uint8_t touching[] = {0x00, 0x01, 0x40, 0x00, 0x00, 0x00, 0x00, 0x0
 static void test_overlap(void)
 {
     paint();
-    CHECK(hours_fold(HOURS_FORM_1, sharing, sizeof sharing, out, 0, numbers, HOURS_FOLD_NUMBERS));
+    CHECK(fold(HOURS_FORM_1, sharing, sizeof sharing, out, 0, numbers, HOURS_FOLD_NUMBERS));
     CHECK(numbers[HOURS_FOLD_CODE] == HOURS_OVERLAP);
     CHECK(HOURS_OVERLAP == 11);
     CHECK(numbers[HOURS_FOLD_DRAINED] == 0);
     CHECK(numbers[HOURS_FOLD_PLACE] == 0);
     CHECK(painted(out, sizeof out) && numbers_painted_from(HOURS_FOLD_NUMBERS));
 
-    CHECK(hours_fold(HOURS_FORM_1, touching, sizeof touching, out, sizeof out, numbers, HOURS_FOLD_NUMBERS));
+    CHECK(fold(HOURS_FORM_1, touching, sizeof touching, out, sizeof out, numbers, HOURS_FOLD_NUMBERS));
     CHECK(numbers[HOURS_FOLD_CODE] == HOURS_DONE);
     CHECK(numbers[HOURS_FOLD_EMITTED] == 1);
 
@@ -218,7 +219,7 @@ static void test_form_2(void)
 
     CHECK(HOURS_FORM_1 == 1 && HOURS_FORM_2 == 2);
     paint();
-    CHECK(hours_fold(HOURS_FORM_2, commented, sizeof commented, out, sizeof out, numbers, HOURS_FOLD_NUMBERS));
+    CHECK(fold(HOURS_FORM_2, commented, sizeof commented, out, sizeof out, numbers, HOURS_FOLD_NUMBERS));
     CHECK(numbers[HOURS_FOLD_CODE] == HOURS_DONE);
     CHECK(numbers[HOURS_FOLD_BYTES] == sizeof commented);
     CHECK(memcmp(out, commented, sizeof commented) == 0);
@@ -286,14 +287,14 @@ static void test_other_forms(void)
 {
     static const uint64_t none[] = {0, 3, UINT64_C(4294967297), UINT64_MAX};
 
-    CHECK(hours_fold(HOURS_FORM_2, always, sizeof always, out, sizeof out, numbers, HOURS_FOLD_NUMBERS));
+    CHECK(fold(HOURS_FORM_2, always, sizeof always, out, sizeof out, numbers, HOURS_FOLD_NUMBERS));
     CHECK(numbers[HOURS_FOLD_CODE] == HOURS_UNLAWFUL && numbers[HOURS_FOLD_PLACE] == 0);
-    CHECK(hours_fold(HOURS_FORM_1, always_2, sizeof always_2, out, sizeof out, numbers, HOURS_FOLD_NUMBERS));
+    CHECK(fold(HOURS_FORM_1, always_2, sizeof always_2, out, sizeof out, numbers, HOURS_FOLD_NUMBERS));
     CHECK(numbers[HOURS_FOLD_CODE] == HOURS_OVER_LIMIT && numbers[HOURS_FOLD_PLACE] == 0);
 
     for (size_t i = 0; i < sizeof none / sizeof none[0]; i++) {
         paint();
-        CHECK(hours_fold(none[i], always, sizeof always, out, sizeof out, numbers, HOURS_FOLD_NUMBERS));
+        CHECK(fold(none[i], always, sizeof always, out, sizeof out, numbers, HOURS_FOLD_NUMBERS));
         CHECK(numbers[HOURS_FOLD_CODE] == HOURS_UNLAWFUL && numbers[HOURS_FOLD_PLACE] == 0);
         CHECK(hours_lookup(none[i], always, sizeof always, 1900, 2, 29, 0, numbers, HOURS_LOOKUP_NUMBERS));
         CHECK(numbers[HOURS_LOOKUP_CODE] == HOURS_UNLAWFUL && numbers[HOURS_LOOKUP_PLACE] == 0);
@@ -306,22 +307,22 @@ static void test_other_forms(void)
         CHECK(painted(out, sizeof out));
 
         paint();
-        CHECK(!hours_fold(none[i], always, sizeof always, out, sizeof out, numbers, HOURS_FOLD_NUMBERS - 1));
+        CHECK(!fold(none[i], always, sizeof always, out, sizeof out, numbers, HOURS_FOLD_NUMBERS - 1));
         CHECK(painted(out, sizeof out) && numbers_painted_from(0));
     }
 }
 
 static void test_null(void)
 {
-    CHECK(hours_fold(HOURS_FORM_1, NULL, 0, NULL, 0, numbers, HOURS_FOLD_NUMBERS));
+    CHECK(fold(HOURS_FORM_1, NULL, 0, NULL, 0, numbers, HOURS_FOLD_NUMBERS));
     CHECK(numbers[HOURS_FOLD_CODE] == HOURS_PAST_END);
     CHECK(numbers[HOURS_FOLD_PLACE] == 0);
 
-    CHECK(hours_fold(HOURS_FORM_1, always, sizeof always, NULL, 0, numbers, HOURS_FOLD_NUMBERS));
+    CHECK(fold(HOURS_FORM_1, always, sizeof always, NULL, 0, numbers, HOURS_FOLD_NUMBERS));
     CHECK(numbers[HOURS_FOLD_CODE] == HOURS_NO_ROOM);
     CHECK(numbers[HOURS_FOLD_PLACE] == sizeof always);
 
-    CHECK(!hours_fold(HOURS_FORM_1, NULL, 0, NULL, 0, NULL, 0));
+    CHECK(!fold(HOURS_FORM_1, NULL, 0, NULL, 0, NULL, 0));
     CHECK(!hours_lookup(HOURS_FORM_1, NULL, 0, 2000, 2, 29, 0, NULL, 0));
     CHECK(!hours_write_back(HOURS_FORM_1, NULL, 0, NULL, 0, NULL, 0));
     CHECK(!hours_line(HOURS_FORM_1, NULL, 0, NULL, 0, NULL, 0));

@@ -21,7 +21,13 @@ macro_rules! writing_exports {
     };
 }
 
-writing_exports!(hours_fold, hours_write_back, hours_line, hours_convert);
+writing_exports!(
+    hours_fold,
+    hours_fold_plain,
+    hours_write_back,
+    hours_line,
+    hours_convert
+);
 
 unsafe extern "C" {
     fn hours_lookup(
@@ -40,6 +46,11 @@ unsafe extern "C" {
 /// Code, drained, emitted, left, bytes, place, why.
 pub fn fold(form: u64, sheet: &[u8], out: &mut [u8], numbers: &mut [u64]) -> bool {
     lend(hours_fold, form, sheet, out, numbers)
+}
+
+/// The same by the plain engine.
+pub fn fold_plain(form: u64, sheet: &[u8], out: &mut [u8], numbers: &mut [u64]) -> bool {
+    lend(hours_fold_plain, form, sheet, out, numbers)
 }
 
 /// Code, bytes, place.
@@ -114,12 +125,14 @@ mod tests {
         let mut numbers = [NUMBER; 6];
 
         for form in FORMS {
-            assert!(!fold(form, &EMPTY_SHEET, &mut out, &mut numbers));
+            for folding in [fold, fold_plain] {
+                assert!(!folding(form, &EMPTY_SHEET, &mut out, &mut numbers));
+                assert!(!folding(form, &EMPTY_SHEET, &mut out, &mut []));
+            }
             assert!(!lookup(form, &EMPTY_SHEET, LEAP_DAY, &mut numbers[..3]));
             for writing in [write_back, line, convert] {
                 assert!(!writing(form, &EMPTY_SHEET, &mut out, &mut numbers[..2]));
             }
-            assert!(!fold(form, &EMPTY_SHEET, &mut out, &mut []));
         }
 
         assert_eq!(out, [PAINT; 4]);
@@ -138,9 +151,12 @@ mod tests {
         assert_eq!(numbers[..4], [0, 2, 0, NUMBER]);
         assert!(lookup(1, &EMPTY_SHEET, LEAP_DAY, &mut numbers));
         assert_eq!(numbers[..5], [0, 1, 0, 0, NUMBER]);
-        assert!(fold(1, &EMPTY_SHEET, &mut out, &mut numbers));
-        assert_eq!(numbers, [0, 0, 0, 0, 2, 0, 0, NUMBER]);
-        assert_eq!(out, [0, 0, PAINT, PAINT, PAINT, PAINT]);
+        for folding in [fold, fold_plain] {
+            (out, numbers) = ([PAINT; 6], [NUMBER; 8]);
+            assert!(folding(1, &EMPTY_SHEET, &mut out, &mut numbers));
+            assert_eq!(numbers, [0, 0, 0, 0, 2, 0, 0, NUMBER]);
+            assert_eq!(out, [0, 0, PAINT, PAINT, PAINT, PAINT]);
+        }
         assert!(convert(1, &EMPTY_SHEET, &mut out, &mut numbers));
         assert_eq!(numbers[..4], [0, 4, 0, 0]);
         assert_eq!(out, [0x20, 0, 0, 0, PAINT, PAINT]);
@@ -152,9 +168,11 @@ mod tests {
 
         for form in &FORMS[2..] {
             for sheet in [&EMPTY_SHEET[..], &[]] {
-                let mut numbers = [NUMBER; 7];
-                assert!(fold(*form, sheet, &mut out, &mut numbers));
-                assert_eq!(numbers, [2, 0, 0, 0, 0, 0, 0]);
+                for folding in [fold, fold_plain] {
+                    let mut numbers = [NUMBER; 7];
+                    assert!(folding(*form, sheet, &mut out, &mut numbers));
+                    assert_eq!(numbers, [2, 0, 0, 0, 0, 0, 0]);
+                }
                 for writing in [write_back, line, convert] {
                     let mut numbers = [NUMBER; 3];
                     assert!(writing(*form, sheet, &mut out, &mut numbers));

@@ -1,9 +1,9 @@
 //! The fold of landing-site hours: a safe crate over the proved archive `libhours.a`.
 //!
 //! A packed sheet holds rules, one changing another. [`fold`] folds them up to the first one that can't be folded exactly and copies
-//! those from there on; [`lookup`] tells the state at a minute; [`write_back`] reads a sheet and writes it again; [`line()`] writes it as
-//! text; [`convert`] moves it to the other [`Form`]. Each takes the sheet's form first. What each answers is proved for every byte string,
-//! date and buffer, so a sheet may hold anything. include/hours.h says the same for C.
+//! those from there on, and so does [`fold_plain`], by a second engine; [`lookup`] tells the state at a minute; [`write_back`] reads a
+//! sheet and writes it again; [`line()`] writes it as text; [`convert`] moves it to the other [`Form`]. Each takes the sheet's form first.
+//! What each answers is proved for every byte string, date and buffer, so a sheet may hold anything. include/hours.h says the same for C.
 //!
 //! Nothing is kept between calls and nothing is allocated: threads may call at once. The stack must have [`STACK`] bytes left.
 //!
@@ -16,6 +16,7 @@
 //!
 //! let folded = hours::fold(Form::One, &sheet, &mut out)?;
 //! assert_eq!(out[..folded.bytes], sheet);
+//! assert_eq!(hours::fold_plain(Form::One, &sheet, &mut out)?, folded);
 //!
 //! let date = hours::Date { year: 2000, month: 2, day: 29 };
 //! assert_eq!(hours::lookup(Form::One, &sheet, date, 720)?.kind, hours::Kind::Open);
@@ -112,17 +113,19 @@ pub struct State {
 ///
 /// Any refusal by codes 1 to 7, 11, 14 and, in form 1, 13, the first reason met. `out` is then unchanged.
 pub fn fold(form: Form, sheet: &[u8], out: &mut [u8]) -> Result<Folded, Refusal> {
-    let [code, drained, emitted, left, bytes, place, why] =
-        numbers(|lent| archive::fold(form.number(), sheet, out, lent));
+    folded(|lent| archive::fold(form.number(), sheet, out, lent))
+}
 
-    done(code, place)?;
-    Ok(Folded {
-        drained: size(drained),
-        emitted: size(emitted),
-        left: size(left),
-        bytes: size(bytes),
-        why: Reason::of(why),
-    })
+/// The same by a second, plain engine, which answers as [`fold`] does in every case: the same numbers and the same bytes, on each refusal too.
+///
+/// It keeps a list for each box and looks at all boxes for each rule and for each group, so it is slower, the more so the more boxes and
+/// groups there are, and takes more stack. It is for a bench that wants to read what it runs; others take [`fold`].
+///
+/// # Errors
+///
+/// Those of [`fold`].
+pub fn fold_plain(form: Form, sheet: &[u8], out: &mut [u8]) -> Result<Folded, Refusal> {
+    folded(|lent| archive::fold_plain(form.number(), sheet, out, lent))
 }
 
 /// The state at a minute of a date, 0 to 1439, by a sheet without a rule that can't be folded exactly: that of the last span that
@@ -183,6 +186,20 @@ pub fn line(form: Form, sheet: &[u8], out: &mut [u8]) -> Result<usize, Refusal> 
 /// Any refusal by codes 1 to 4, 7 and, from form 2, 12, the first reason met. `out` is then unchanged.
 pub fn convert(form: Form, sheet: &[u8], out: &mut [u8]) -> Result<usize, Refusal> {
     written(|lent| archive::convert(form.number(), sheet, out, lent))
+}
+
+/// What an export folded.
+fn folded(export: impl FnOnce(&mut [u64]) -> bool) -> Result<Folded, Refusal> {
+    let [code, drained, emitted, left, bytes, place, why] = numbers(export);
+
+    done(code, place)?;
+    Ok(Folded {
+        drained: size(drained),
+        emitted: size(emitted),
+        left: size(left),
+        bytes: size(bytes),
+        why: Reason::of(why),
+    })
 }
 
 /// The bytes that an export wrote.

@@ -3,8 +3,8 @@
 
 mod common;
 
-use common::bytes;
-use hours::{Date, Form, Kind, Refusal, State, convert, fold, line, lookup, write_back};
+use common::{bytes, fold};
+use hours::{Date, Form, Kind, Refusal, State, convert, line, lookup, write_back};
 
 const PAINT: u8 = 0xC3;
 const ROOM: usize = 64;

@@ -2,8 +2,8 @@
 
 mod common;
 
-use common::bytes;
-use hours::{Date, Form, Reason, Refusal, fold, lookup, write_back};
+use common::{bytes, fold};
+use hours::{Date, Form, Reason, Refusal, lookup, write_back};
 
 /// Fr-Mo,Mo-Tu.
 const WRAP_SHARES: &str = "0001000000000000002005000007FE040003FF12C10E00";

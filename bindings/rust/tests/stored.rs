@@ -5,8 +5,8 @@ mod common;
 use std::path::Path;
 use std::{fs, thread};
 
-use common::bytes;
-use hours::{Date, Folded, Form, Reason, Refusal, STACK, convert, fold, line, lookup, write_back};
+use common::{bytes, fold};
+use hours::{Date, Folded, Form, Reason, Refusal, STACK, convert, line, lookup, write_back};
 
 /// The fields of each stored case, `-` as no bytes.
 fn check_cases(file: &str, check: fn(&[&str])) {

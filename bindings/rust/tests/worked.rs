@@ -3,8 +3,8 @@
 
 mod common;
 
-use common::bytes;
-use hours::{Date, Folded, Form, Kind, Reason, Refusal, State, fold, line, lookup, write_back};
+use common::{bytes, fold};
+use hours::{Date, Folded, Form, Kind, Reason, Refusal, State, line, lookup, write_back};
 
 const PAINT: u8 = 0xC3;
 const ROOM: usize = 512;

@@ -43,6 +43,13 @@ pub fn day_classes() -> [u8; 513]
     [0u8; 513]
 }
 
+// The same for as many boxes as there may be, each with a list of its own.
+pub fn box_classes() -> [u8; 4097]
+    ensures { λ r. ⌜ 4097 ≡ length r ⌝ }
+{
+    [0u8; 4097]
+}
+
 // A mark for each interval of four dimensions: with at most 64 boxes there are at most 67, with 4,096 at most 4,099.
 pub fn few_marks() -> [u8; 67]
     ensures { λ r. ⌜ 67 ≡ length r ⌝ }

@@ -15,16 +15,17 @@ use Rattle.definition.specs.Sheet.{sheetLimits}
 use Rattle.definition.specs.Lists.{indexesFrom}
 use Rattle.definition.proofs.Lists.{long, many, Passes, all-pass, first-long, first-many}
 use Rattle.paving.specs.Grid.{Node}
+use Rattle.paving_points.proofs.Stepping.{boxes-node}
 use Rattle.list_store.specs.Draw.{Ready, Drew}
 use Rattle.list_reclaim.specs.Reclaim.{Reclaimed}
 use Rattle.draw_rule.specs.Update.{coveredBox}
 use Rattle.tables.specs.Sizes.{heldLimit}
 use Rattle.tables.specs.Ranges.{tableRow}
+use Rattle.tables.specs.Cuts.{ToList}
 use Rattle.tables.specs.Lists.{named, shown, Store, Stored}
 use Rattle.draw_rules.specs.declared.Listed.the-variants.{Held, Refused}
-use Rattle.draw_rules.specs.Listing.{ToList, Places, Settled, Listing}
+use Rattle.draw_rules.specs.Listing.{Places, Settled, Listing}
 use Rattle.draw_rules.proofs.Settling.{kept-few}
-use Rattle.draw_rules.proofs.Tables.{boxes-node}
 use Rattle.draw_rules.proofs.Stepping.{long-told, many-told, stored-next, stored-moved}
 
 -- before rule k: the store of the rules before it, none of which is refused

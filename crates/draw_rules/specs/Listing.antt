@@ -9,17 +9,11 @@ use Rattle.laws.specs.Lists.{from}
 use Rattle.definition.specs.Rule.{Rule}
 use Rattle.definition.specs.Sheet.{sheetLimits}
 use Rattle.definition.specs.Lists.{distinctLists, firstRefused}
-use Rattle.definition.specs.Overlap.{firstOverlap}
 use Rattle.paving.specs.Grid.{sizeOf}
 use Rattle.tables.specs.Sizes.{listPlaces, heldLimit}
-use Rattle.tables.specs.Cuts.{Drawable}
 use Rattle.tables.specs.Lists.{listOf, shown, Store, BoxLists}
 use Rattle.draw_rules.specs.declared.Listed.{Listed}
 use Rattle.draw_rules.specs.declared.Listed.the-variants.{Held, Refused}
-
--- rules in tables that can be drawn, so many, none of which has days typed twice
-abbrev pub ToList : (replacing counts ranges rows sizes table : List ℕ) → ℕ → List Rule → Type 0
-ToList replacing counts ranges rows sizes table n rs = Drawable replacing counts ranges rows sizes table n rs × (firstOverlap rs ≡ none)
 
 -- as many lists as can stand over so many boxes are no more than `most`: each box holds one, and no rule may leave more than the limit
 abbrev pub Enough : ℕ → ℕ → Type 0

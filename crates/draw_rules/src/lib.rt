@@ -14,7 +14,8 @@ ghost use Rattle.paving.specs.Grid.{Node};
 ghost use Rattle.list_store.specs.Draw.{Ready, Drew};
 ghost use Rattle.draw_rule.specs.Update.{Lawful, coveredBox};
 ghost use Rattle.tables.specs.Ranges.{tableRow};
-ghost use Rattle.draw_rules.specs.Listing.{ToList, NoLists, Listing};
+ghost use Rattle.tables.specs.Cuts.{ToList};
+ghost use Rattle.draw_rules.specs.Listing.{NoLists, Listing};
 
 // How many lists the boxes hold, each once; or a refusal: its code, and the rule after which it was met.
 pub enum Listed {

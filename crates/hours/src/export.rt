@@ -13,9 +13,8 @@ ghost use Rattle.definition.specs.Forms.{foldIn, writeBackIn, showLineIn, looku
 ghost use Rattle.definition.specs.Lookup as state;
 ghost use Rattle.hours.specs.Export.{put};
 
-// Code, drained, emitted, left, bytes, place, why.
-#[no_mangle]
-pub extern "C" fn hours_fold(form: u64, sheet: &[u8], out: &mut [u8], lent: &mut [u64]) -> bool
+// The fold by one of two engines.
+fn put_fold(form: u64, sheet: &[u8], out: &mut [u8], lent: &mut [u64], plain: bool) -> bool
     ensures { λ r. ⌜ (r ≡ leb 7 (length (now (lent .entry))))
         × (now (lent .exit) ≡ put r (numbers (foldIn sheetLimits form (length (now (out .entry))) (now (sheet .entry)))) (now (lent .entry)))
         × (now (out .exit) ≡ put r ((foldIn sheetLimits form (length (now (out .entry))) (now (sheet .entry))) .result) (now (out .entry))) ⌝ }
@@ -23,8 +22,33 @@ pub extern "C" fn hours_fold(form: u64, sheet: &[u8], out: &mut [u8], lent: &mut
     if lacks_room(lent.len(), 7) {
         return false;
     }
-    put_folded(crate::fold(form, sheet, out), lent);
+    put_folded(crate::fold_by(form, sheet, out, plain), lent);
     true
+}
+
+// Code, drained, emitted, left, bytes, place, why.
+#[no_mangle]
+pub extern "C" fn hours_fold(form: u64, sheet: &[u8], out: &mut [u8], lent: &mut [u64]) -> bool
+    ensures { λ r. ⌜ (r ≡ leb 7 (length (now (lent .entry))))
+        × (now (lent .exit) ≡ put r (numbers (foldIn sheetLimits form (length (now (out .entry))) (now (sheet .entry)))) (now (lent .entry)))
+        × (now (out .exit) ≡ put r ((foldIn sheetLimits form (length (now (out .entry))) (now (sheet .entry))) .result) (now (out .entry))) ⌝ }
+{
+    put_fold(form, sheet, out, lent, false)
+}
+
+// The same by the plain engine.
+#[no_mangle]
+pub extern "C" fn hours_fold_plain(
+    form: u64,
+    sheet: &[u8],
+    out: &mut [u8],
+    lent: &mut [u64],
+) -> bool
+    ensures { λ r. ⌜ (r ≡ leb 7 (length (now (lent .entry))))
+        × (now (lent .exit) ≡ put r (numbers (foldIn sheetLimits form (length (now (out .entry))) (now (sheet .entry)))) (now (lent .entry)))
+        × (now (out .exit) ≡ put r ((foldIn sheetLimits form (length (now (out .entry))) (now (sheet .entry))) .result) (now (out .entry))) ⌝ }
+{
+    put_fold(form, sheet, out, lent, true)
 }
 
 // Code, kind, comment, place.

@@ -20,15 +20,17 @@ ghost use Rattle.answers.specs.Numbers.{foldNumbers, lookedUp, writeNumbers};
 ghost use Rattle.sheet.specs.Rules.{Places};
 
 // "The fold answers code, drained, emitted (folded rules only), left (rules copied), bytes written, place", and why it stopped. The result stands
-// at the front of `out`; a refused fold changes no byte.
-pub fn fold(form: Form, sheet: &[u8], begins: &mut [usize], out: &mut [u8]) -> Folded
+// at the front of `out`; a refused fold changes no byte. `plain` chooses the engine.
+pub fn fold(form: Form, sheet: &[u8], begins: &mut [usize], out: &mut [u8], plain: bool) -> Folded
     requires { ⌜ Places (length (now sheet)) (length (now begins)) ⌝ }
     ensures { λ r. ⌜ (foldNumbers r ≡ numbers (fold (asForm form) sheetLimits (length (now (out .entry))) (now (sheet .entry))))
         × (now (out .exit) ≡ buffer ((fold (asForm form) sheetLimits (length (now (out .entry))) (now (sheet .entry))) .result) (now (out .entry))) ⌝ }
 {
     let checked = sheet::check::check(form, sheet, begins);
     match checked {
-        Checked::Rules(count, end) => normalize::fold_rules(form, sheet, begins, count, end, out),
+        Checked::Rules(count, end) => {
+            normalize::fold_rules(form, sheet, begins, count, end, out, plain)
+        }
         Checked::Refused(code, place) => fold_refused(code as u64, place as u64),
     }
 }

@@ -1,4 +1,4 @@
-// What users touch: the fold of a sheet, the state at a date and minute, writing back, the line of a sheet, and its conversion to the other form. None has
+// What users touch: the fold of a sheet, by either engine, the state at a date and minute, writing back, the line of a sheet, and its conversion to the other form. None has
 // a `requires`: every form's number, byte string, date and buffer gets an answer. 02, M-106: a number that names no form is refused by 2 with place 0,
 // before all else. Rests on the entries in a form that is known.
 pub mod export;
@@ -21,9 +21,8 @@ ghost use Rattle.answers.specs.Numbers.{foldNumbers, lookedUp, writeNumbers};
 // A rule takes 70 bits at least, so fewer than 64 rules begin in so many bytes: for a short sheet there are few places of beginnings to clear.
 const FEW_BYTES: usize = 512;
 
-// "The fold answers code, drained, emitted (folded rules only), left (rules copied), bytes written, place", and why it stopped. The result stands
-// at the front of `out`, in the form of the sheet; a refused fold changes no byte.
-pub fn fold(form: u64, sheet: &[u8], out: &mut [u8]) -> Folded
+// The fold by one of two engines.
+fn fold_by(form: u64, sheet: &[u8], out: &mut [u8], plain: bool) -> Folded
     ensures { λ r. ⌜ (foldNumbers r ≡ numbers (foldIn sheetLimits form (length (now (out .entry))) (now (sheet .entry))))
         × (now (out .exit) ≡ buffer ((foldIn sheetLimits form (length (now (out .entry))) (now (sheet .entry))) .result) (now (out .entry))) ⌝ }
 {
@@ -32,13 +31,30 @@ pub fn fold(form: u64, sheet: &[u8], out: &mut [u8]) -> Folded
         Named::Known(known) => {
             if sheet.len() <= FEW_BYTES {
                 let mut begins = [0usize; 64];
-                return in_form::fold(known, sheet, &mut begins, out);
+                return in_form::fold(known, sheet, &mut begins, out, plain);
             }
             let mut begins = [0usize; 256];
-            in_form::fold(known, sheet, &mut begins, out)
+            in_form::fold(known, sheet, &mut begins, out, plain)
         }
         Named::Unknown => fold_refused(2, 0),
     }
+}
+
+// "The fold answers code, drained, emitted (folded rules only), left (rules copied), bytes written, place", and why it stopped. The result stands
+// at the front of `out`, in the form of the sheet; a refused fold changes no byte.
+pub fn fold(form: u64, sheet: &[u8], out: &mut [u8]) -> Folded
+    ensures { λ r. ⌜ (foldNumbers r ≡ numbers (foldIn sheetLimits form (length (now (out .entry))) (now (sheet .entry))))
+        × (now (out .exit) ≡ buffer ((foldIn sheetLimits form (length (now (out .entry))) (now (sheet .entry))) .result) (now (out .entry))) ⌝ }
+{
+    fold_by(form, sheet, out, false)
+}
+
+// The same by the plain engine: 02, M-102: "It must answer as the first engine on every input, codes, places and bytes alike".
+pub fn fold_plain(form: u64, sheet: &[u8], out: &mut [u8]) -> Folded
+    ensures { λ r. ⌜ (foldNumbers r ≡ numbers (foldIn sheetLimits form (length (now (out .entry))) (now (sheet .entry))))
+        × (now (out .exit) ≡ buffer ((foldIn sheetLimits form (length (now (out .entry))) (now (sheet .entry))) .result) (now (out .entry))) ⌝ }
+{
+    fold_by(form, sheet, out, true)
 }
 
 // "Takes a sheet, a year, month, day and minute (0 to 1439)": "answers code, kind, comment and the table's place; refused, kind and comment are 0".

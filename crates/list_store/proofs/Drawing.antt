@@ -18,7 +18,7 @@ use Rattle.tables.specs.Sizes.{listLimit, listPlaces}
 use Rattle.tables.specs.Lists.{listOf, named, shown}
 use Rattle.tables.proofs.Lists.{list-length}
 use Rattle.tables.proofs.Copied.{list-kept, named-kept}
-use Rattle.list_store.specs.Plain.{base, plainStep, overfull, someOverfull}
+use Rattle.tables.specs.Plain.{base, plainStep, overfull, someOverfull}
 use Rattle.list_store.specs.Draw.{Making, Walked, Ready, Drew}
 use Rattle.list_store.proofs.Counting.{count-most, count-none}
 use Rattle.list_store.proofs.Making.{made-at, all-short, made-few}

@@ -13,7 +13,7 @@ use Rattle.laws.specs.Lists.{count, Mem}
 use Rattle.laws.proofs.Stores.{set-each}
 use Rattle.tables.specs.Sizes.{listLimit, listPlaces}
 use Rattle.tables.specs.Lists.{named, shown, KeptBelow}
-use Rattle.list_store.specs.Plain.{base}
+use Rattle.tables.specs.Plain.{base}
 use Rattle.list_store.specs.Draw.{Appended, Made, Making, Walked}
 use Rattle.list_store.proofs.Counting.{count-most, count-more}
 use Rattle.list_store.proofs.Making.{number-left, new-list, made-more}

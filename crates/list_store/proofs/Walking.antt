@@ -11,7 +11,7 @@ use Rattle.laws.proofs.Lists.{All-map, All-append, Mem-left, Mem-right}
 use Rattle.laws.proofs.Numbers.{at-most}
 use Rattle.tables.specs.Sizes.{listLimit}
 use Rattle.tables.specs.Lists.{named, shown}
-use Rattle.list_store.specs.Plain.{base}
+use Rattle.tables.specs.Plain.{base}
 use Rattle.list_store.specs.Draw.{Making, Walked}
 use Rattle.list_store.proofs.Making.{named-later}
 

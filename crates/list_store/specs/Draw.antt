@@ -8,7 +8,7 @@ use lib.ListN.{length, getD, take}
 use Rattle.laws.specs.Lists.{count, All, Mem}
 use Rattle.tables.specs.Sizes.{listLimit, listPlaces}
 use Rattle.tables.specs.Lists.{listOf, named, shown, Store, Earlier, KeptBelow}
-use Rattle.list_store.specs.Plain.{base, plainStep, someOverfull}
+use Rattle.tables.specs.Plain.{base, plainStep, someOverfull}
 
 -- a place's list is the one that a number names, with the rule at its end; the places before it are as they were
 pub record Appended (lists after : List ℕ) (number place rule : ℕ) : Type 0 where

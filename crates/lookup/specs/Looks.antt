@@ -9,7 +9,7 @@ use Rattle.definition.specs.Stop.{drained, left}
 use Rattle.definition.specs.Point.{listAt}
 use Rattle.definition.specs.Fold.{Drained, fine, over, drain}
 use Rattle.definition.specs.Lookup.{Looked, refusal, stateAt}
-use Rattle.prepare.specs.Prepared.{ToDraw}
+use Rattle.tables.specs.ToDraw.{ToDraw}
 
 -- 11, 5 and 6, or the state by the list at the point
 unfoldable pub lookAt : List Rule → List ℕ → ℕ → Looked

@@ -1,13 +1,11 @@
-// From tables and cut dimensions to the result: a list for each box (6, 14), pages of the folded rules, and these written before the rules that are
-// left (13, 7). The functions take the sheet, the buffer, each table of the stages before and each part of the store as a slice of its own, seventeen
+// From tables and cut dimensions to the result, by the engine of columns: a list for each box (6, 14), pages of the folded rules, and these written before
+// the rules that are left (13, 7). Or by the plain engine, where that is asked for. The functions take the sheet, the buffer, each table of the stages before and each part of the store as a slice of its own, seventeen
 // parameters at most, since the language lends no struct of slices.
+use super::plain_engine::fold_few_plain;
+use super::plain_engine::fold_many_plain;
+use super::written::write_paved;
 use answers::Folded;
-use answers::fold_refused;
-use draw_rules::Listed;
-use draw_rules::draw_rules;
-use fold_pages::fold_pages;
 use fold_write::Left;
-use fold_write::emit;
 use forms::Form;
 use paving::place::size_of;
 ghost use mathlib.Core.List.{List};
@@ -19,7 +17,7 @@ ghost use Rattle.draw_rules.specs.Listing.{NoLists};
 ghost use Rattle.forms.specs.Form.{asForm};
 ghost use Rattle.normalize.specs.Folds.{Foldable, Folds};
 
-// Makes a list for each box and the pages, in the store and the buffer that are lent; answers 6 or 14, or writes the result.
+// Folds the boxes in the store and the buffer that are lent, by the engine of columns.
 fn fold_boxes_in(
     form: Form,
     sheet: &[u8],
@@ -44,49 +42,33 @@ fn fold_boxes_in(
     requires { ⌜ NoLists (now cells) (now lists) (now memo) (now sizes) × (13 * sizeOf (now sizes) 4 ≤ length (now pages)) ⌝ }
     ensures { λ r. ⌜ Folds (asForm form) (now (sheet .entry)) (now (out .entry)) r (now (out .exit)) ⌝ }
 {
-    let rules = states.len();
-    let listed = draw_rules(
-        cells,
-        lists,
-        memo,
-        row_starts,
-        sizes,
-        cuts,
+    let paved = columns::pave(
+        states,
+        span_counts,
+        spans,
         replacing,
         range_counts,
         ranges,
-        rules,
+        row_starts,
+        sizes,
+        cuts,
+        cells,
+        lists,
+        memo,
+        pages,
     );
-    match listed {
-        Listed::Refused(code, rule) => fold_refused(code, rule),
-        Listed::Held(used) => {
-            let count = fold_pages(
-                states,
-                span_counts,
-                spans,
-                lists,
-                used,
-                memo,
-                row_starts,
-                sizes,
-                cuts,
-                cells,
-                pages,
-            );
-            emit(
-                form,
-                sheet,
-                left,
-                out,
-                states,
-                span_counts,
-                spans,
-                lists,
-                pages,
-                count,
-            )
-        }
-    }
+    write_paved(
+        form,
+        sheet,
+        left,
+        out,
+        states,
+        span_counts,
+        spans,
+        lists,
+        pages,
+        paved,
+    )
 }
 
 // Up to 16 boxes, in a store of 33 places.
@@ -247,6 +229,7 @@ pub fn fold_boxes(
     sizes: &[u16],
     cuts: &[u16],
     room: usize,
+    plain: bool,
 ) -> Folded
     requires { ⌜ ((rs : List Rule) × Foldable (asForm form) (now sheet) left (now states) (now «span_counts») (now spans) (now replacing)
         (now «range_counts») (now ranges) (now «row_starts») (now sizes) (now cuts) rs) ⌝ }
@@ -270,6 +253,41 @@ pub fn fold_boxes(
             sizes,
             cuts,
             64 * room,
+            plain,
+        );
+    }
+    if plain {
+        if boxes <= 64 {
+            return fold_few_plain(
+                form,
+                sheet,
+                left,
+                out,
+                states,
+                span_counts,
+                spans,
+                replacing,
+                range_counts,
+                ranges,
+                row_starts,
+                sizes,
+                cuts,
+            );
+        }
+        return fold_many_plain(
+            form,
+            sheet,
+            left,
+            out,
+            states,
+            span_counts,
+            spans,
+            replacing,
+            range_counts,
+            ranges,
+            row_starts,
+            sizes,
+            cuts,
         );
     }
     if boxes <= 16 {

@@ -1,6 +1,9 @@
 // The fold of a checked sheet, stage after stage: the rules before the first stopper in tables and the dimensions cut at their ranges (11, 5), a
-// list for each box (6, 14), pages of the folded rules, and these written before the rules that are left (13, 7). From normalize/mod.rs.
+// list for each box (6, 14), pages of the folded rules, and these written before the rules that are left (13, 7). From normalize/mod.rs. `plain` chooses
+// between two engines for what is done over boxes; no contract mentions it.
 pub mod boxes;
+mod plain_engine;
+mod written;
 
 use answers::Folded;
 use answers::fold_refused;
@@ -31,6 +34,7 @@ fn fold_rules_in(
     range_counts: &mut [u16],
     ranges: &mut [u16],
     cuts: &mut [u16],
+    plain: bool,
 ) -> Folded
     requires { ⌜ Readings (asForm form) (now sheet) (now begins) count end ⌝ }
     requires { ⌜ (count ≤ length (now states)) × (count ≤ length (now «span_counts»)) × (count * 16 ≤ length (now spans)) × (count ≤ length (now replacing)) ⌝ }
@@ -73,6 +77,7 @@ fn fold_rules_in(
                 &sizes,
                 cuts,
                 16,
+                plain,
             )
         }
         Judged::Refused(code, place) => fold_refused(code, place),
@@ -87,6 +92,7 @@ fn fold_few_rules(
     count: usize,
     end: usize,
     out: &mut [u8],
+    plain: bool,
 ) -> Folded
     requires { ⌜ Readings (asForm form) (now sheet) (now begins) count end ⌝ }
     requires { ⌜ count ≤ 4 ⌝ }
@@ -113,6 +119,7 @@ fn fold_few_rules(
         &mut range_counts,
         &mut ranges,
         &mut cuts,
+        plain,
     )
 }
 
@@ -124,6 +131,7 @@ fn fold_some_rules(
     count: usize,
     end: usize,
     out: &mut [u8],
+    plain: bool,
 ) -> Folded
     requires { ⌜ Readings (asForm form) (now sheet) (now begins) count end ⌝ }
     requires { ⌜ count ≤ 64 ⌝ }
@@ -150,6 +158,7 @@ fn fold_some_rules(
         &mut range_counts,
         &mut ranges,
         &mut cuts,
+        plain,
     )
 }
 
@@ -161,6 +170,7 @@ fn fold_many_rules(
     count: usize,
     end: usize,
     out: &mut [u8],
+    plain: bool,
 ) -> Folded
     requires { ⌜ Readings (asForm form) (now sheet) (now begins) count end ⌝ }
     ensures { λ r. ⌜ Folds (asForm form) (now (sheet .entry)) (now (out .entry)) r (now (out .exit)) ⌝ }
@@ -186,6 +196,7 @@ fn fold_many_rules(
         &mut range_counts,
         &mut ranges,
         &mut cuts,
+        plain,
     )
 }
 
@@ -198,24 +209,25 @@ fn fold_in_room(
     end: usize,
     out: &mut [u8],
     room: usize,
+    plain: bool,
 ) -> Folded
     requires { ⌜ Readings (asForm form) (now sheet) (now begins) count end ⌝ }
     requires { ⌜ 1 ≤ room ⌝ }
     ensures { λ r. ⌜ Folds (asForm form) (now (sheet .entry)) (now (out .entry)) r (now (out .exit)) ⌝ }
 {
     if room < count {
-        return fold_in_room(form, sheet, begins, count, end, out, 16 * room);
+        return fold_in_room(form, sheet, begins, count, end, out, 16 * room, plain);
     }
     if count <= 4 {
-        return fold_few_rules(form, sheet, begins, count, end, out);
+        return fold_few_rules(form, sheet, begins, count, end, out, plain);
     }
     if count <= 64 {
-        return fold_some_rules(form, sheet, begins, count, end, out);
+        return fold_some_rules(form, sheet, begins, count, end, out, plain);
     }
-    fold_many_rules(form, sheet, begins, count, end, out)
+    fold_many_rules(form, sheet, begins, count, end, out, plain)
 }
 
-// Folds the rules of a checked sheet.
+// Folds the rules of a checked sheet, by the plain engine or by that of columns: the answer is the same.
 pub fn fold_rules(
     form: Form,
     sheet: &[u8],
@@ -223,9 +235,10 @@ pub fn fold_rules(
     count: usize,
     end: usize,
     out: &mut [u8],
+    plain: bool,
 ) -> Folded
     requires { ⌜ Readings (asForm form) (now sheet) (now begins) count end ⌝ }
     ensures { λ r. ⌜ Folds (asForm form) (now (sheet .entry)) (now (out .entry)) r (now (out .exit)) ⌝ }
 {
-    fold_in_room(form, sheet, begins, count, end, out, 4)
+    fold_in_room(form, sheet, begins, count, end, out, 4, plain)
 }

@@ -4,3 +4,4 @@ pub mod Meaning
 pub mod Return
 pub mod ShutOut
 pub mod FirstGroup
+pub mod Engines

@@ -28,7 +28,7 @@ has-low t x s (suc r) h = go (t s) refl (has-low t x (suc s) r (omega arith))
     go true p ih = rw (p, keep, ne-eqb x s (omega arith)) ih
     go false p ih = rw (p, keep) ih
 
-has-keep : (t : ℕ → Bool) (x s r : ℕ) → s ≤ x → x < s + r → anyOf (eqb x) (keep t (from s r)) ≡ t x
+pub has-keep : (t : ℕ → Bool) (x s r : ℕ) → s ≤ x → x < s + r → anyOf (eqb x) (keep t (from s r)) ≡ t x
 unfolding anyOf keep from
 has-keep t x s zero l h = absurd (omega arith)
 has-keep t x s (suc r) l h = go (t s) refl (eqb x s) refl (has-keep t x (suc s) r)

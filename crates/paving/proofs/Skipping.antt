@@ -18,7 +18,7 @@ use Rattle.paving.proofs.Room.{from-end, size-pos, at-grid}
 use Rattle.paving.proofs.Popping.{pop-unfold, pop-columns-miss}
 
 -- ## Sizes
-size-le : (sizes : List ℕ) (k l : ℕ) → ((j : ℕ) → j < l → 1 ≤ getD sizes j 0) → k ≤ l → sizeOf sizes k ≤ sizeOf sizes l
+pub size-le : (sizes : List ℕ) (k l : ℕ) → ((j : ℕ) → j < l → 1 ≤ getD sizes j 0) → k ≤ l → sizeOf sizes k ≤ sizeOf sizes l
 unfolding sizeOf
 size-le sizes k zero f h = let z : k ≡ 0 = omega arith in rw z (omega arith)
 size-le sizes k (suc l) f h = go (ltb k (suc l)) refl (size-le sizes k l (λ j lt. f j (omega arith)))
@@ -63,7 +63,7 @@ module _ (cells classes sizes : List ℕ) (k : ℕ) where
       ∙ passed i node c (omega arith) (λ x l. p x (omega arith))
 
   module _ (first : ℕ) (a : NoneFrom cells (inClass classes k) 0 first) where
-    before-none : (l node : ℕ) → (node + 1) * sizeOf sizes l ≤ first → popAt cells classes sizes k l node ≡ none
+    pub before-none : (l node : ℕ) → (node + 1) * sizeOf sizes l ≤ first → popAt cells classes sizes k l node ≡ none
     unfolding NoneFrom popAt popFrom pop axes grid sizeOf firstOf grow
     before-none zero node h = rw (a node (omega arith) (omega arith), pop)
     before-none (suc i) node h =

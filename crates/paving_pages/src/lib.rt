@@ -59,7 +59,7 @@ fn put_sorts(
 }
 
 // Appends a page of the marked set.
-fn put_page(
+pub fn put_page(
     pages: &mut [u16],
     sizes: &[u16],
     row_starts: &[u16],

@@ -17,7 +17,7 @@ use Rattle.definition.proofs.Drained.{drain-twice, drain-many}
 use Rattle.tables.specs.Cuts.{Cut}
 use Rattle.overlap.specs.Overlap.{Overlapping}
 use Rattle.paving_cuts.proofs.ByRules.{boxes-counted}
-use Rattle.prepare.specs.Prepared.{Passed}
+use Rattle.tables.specs.ToDraw.{Passed}
 
 module _ (ds : List Rule) (n twice : ℕ) (asked : Overlapping ds n twice) where
   -- 11

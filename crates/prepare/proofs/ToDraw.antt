@@ -15,7 +15,8 @@ use Rattle.definition.specs.Fold.{over, drain}
 use Rattle.definition.proofs.Drained.{drained-fewer}
 use Rattle.paving_cuts.proofs.ByRules.{boxes-counted}
 use Rattle.tables.specs.Cuts.{Drawable}
-use Rattle.prepare.specs.Prepared.{Prepared, Judges, ToDraw}
+use Rattle.tables.specs.ToDraw.{ToDraw}
+use Rattle.prepare.specs.Prepared.{Prepared, Judges}
 use Rattle.prepare.specs.declared.Judged.{Judged}
 use Rattle.prepare.specs.declared.Judged.the-variants.{Fine, Refused}
 

@@ -1,18 +1,16 @@
 -- What `prepare` answers of a sheet that was read, and leaves of it: the tables of its drained rules, and the rows of their cuts.
 use mathlib.Core.Path.{_≡_}
 use mathlib.Core.List.{List}
-use mathlib.Core.Option.{none}
-use Prim.Native.Nat.{ℕ, _*_, _≤_}
+use Prim.Native.Nat.{ℕ, _*_}
 use lib.ListN.{length, take}
 use Rattle.definition.specs.Rule.{Rule}
 use Rattle.definition.specs.Sheet.{Form, sheetLimits}
 use Rattle.definition.specs.Stop.{drained, why}
-use Rattle.definition.specs.Overlap.{firstOverlap}
 use Rattle.definition.specs.Fold.{over, drain}
 use Rattle.sheet.specs.Parts.{SheetRead}
-use Rattle.paving.specs.Grid.{sizeOf}
 use Rattle.tables.specs.Rules.{RuleTimes}
 use Rattle.tables.specs.Cuts.{Cut, Drawable}
+use Rattle.tables.specs.ToDraw.{Passed}
 use Rattle.prepare.specs.declared.Judged.{Judged}
 use Rattle.prepare.specs.declared.Judged.the-variants.{Fine, Refused}
 
@@ -26,11 +24,6 @@ abbrev pub EachReading : Form → List ℕ → List ℕ → ℕ → (List Rule �
 EachReading form sheet begins n P = (rs : List Rule) (end : ℕ) → SheetRead form sheet begins rs end → n ≡ length rs → P rs
 
 -- ## Its drained rules
--- 11 and 5 pass them: none has days typed twice, and there are no more boxes between their cuts than the limit
-pub record Passed (sizes : List ℕ) (rs : List Rule) : Type 0 where
-  pub apart : firstOverlap rs ≡ none
-  pub few-boxes : sizeOf sizes 4 ≤ sheetLimits .boxes
-
 -- THE ANSWER about so many rules ds in tables: the rows of their cuts; or the definition's refusal
 unfoldable pub JudgesDays : (rows sizes cuts : List ℕ) → ℕ → ℕ → List Rule → Judged → Type 0
 JudgesDays rows sizes cuts rules reason ds (Fine n v) = (n ≡ rules) × (v ≡ reason) × Cut rows sizes cuts ds × Passed sizes ds
@@ -48,9 +41,3 @@ unfoldable pub Judges : (states counts spans replacing rangeCounts ranges rows s
 Judges states counts spans replacing rangeCounts ranges rows sizes cuts rs (Fine n reason) =
     Prepared states counts spans replacing rangeCounts ranges rows sizes cuts (drained rs) n × (reason ≡ why rs)
 Judges states counts spans replacing rangeCounts ranges rows sizes cuts rs (Refused c p) = drain sheetLimits (drained rs) ≡ over c p
-
--- THE TABLES OF SOME RULES AND OF NO OTHERS, and the rows of their cuts: these are drawn next
-pub record ToDraw (states counts spans replacing rangeCounts ranges rows sizes cuts : List ℕ) (rs : List Rule) : Type 0 where
-  pub times : RuleTimes states counts spans rs
-  pub drawable : Drawable replacing rangeCounts ranges rows sizes cuts (length states) rs
-  pub passed : Passed sizes rs

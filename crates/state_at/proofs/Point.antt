@@ -18,7 +18,7 @@ use Rattle.paving.proofs.Points.{coordinatesOf}
 use Rattle.tables.specs.Sizes.{listPlaces, listLimit}
 use Rattle.tables.specs.Cuts.{cutOf, Cut}
 use Rattle.tables.specs.Lists.{listOf, named, shown, Within, startOf, BoxLists}
-use Rattle.tables.proofs.Stored.{box-listed}
+use Rattle.tables.proofs.Stored.{box-listed, store-names}
 use Rattle.tables.specs.Rules.{ruleAt}
 use Rattle.paving_points.proofs.Boxes.{Under, lawful-bounded, cuts-points, box-marks}
 use Rattle.state_at.specs.Boxes.{InBounds, AllFramed, AllHold, Gridded, BoxAt}
@@ -71,7 +71,7 @@ module _ (rows sizes cuts cells lists : List ℕ) (used : ℕ) (rs : List Rule) 
   box-list : (q : List ℕ) (box : ℕ) → BoxAt rows sizes cuts q box → map (ruleAt rs) (shown cells lists box) ≡ listAt rs q
   box-list q box b =
       let p = b .columns in
-      ap (λ k. map (ruleAt rs) (shown cells lists k)) (b .numbered) ∙ box-listed rows sizes cuts cells lists used rs boxed p (hold-within 4 p q (b .held))
+      ap (λ k. map (ruleAt rs) (shown cells lists k)) (b .numbered) ∙ box-listed rows sizes cuts cells lists used rs (store-names rows sizes cuts cells lists used rs boxed) p (hold-within 4 p q (b .held))
       ∙ list-all rs (startOf rows cuts 4 p) q
       (box-marks rows sizes cuts rs dimensions (boxed .cut .cut-by) (lawful-bounded rs lawful) p q (hold-within 4 p q (b .held)) (hold-under 4 p q (b .held)))
     where

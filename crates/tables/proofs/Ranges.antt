@@ -1,11 +1,15 @@
--- Rows of a table: a row that is lent, and the rows after one of them was written.
-use mathlib.Core.Path.{_≡_, sym, ap, _∙_}
-use mathlib.Core.List.{List, _++_}
+-- Rows of a table: a row that is lent, and the rows after one of them was written; and elements that pass, counted.
+use mathlib.Core.Path.{_≡_, refl, sym, ap, _∙_}
+use mathlib.Core.Bool.{Bool, true, false, _||_, not, cond}
+use mathlib.Core.List.{List, [], _∷_, _++_}
 use Prim.Native.Nat.{ℕ, _+_, _-_, _*_, _≤_, _<_}
 use native.Mathlib.Omega.{arith}
 use native.Mathlib.Nat.{mul-le-mul-right}
+use lib.Dec.{eqb}
 use lib.ListN.{length, getD, take, drop, length-append, length-drop, take-append-drop}
 use lib.Seq.{length-take-le, take-append-le, drop-append-le, take-at, drop-at, getD-take, getD-drop}
+use borrow.Author.Tests.{ne-eqb}
+use Rattle.laws.specs.Lists.{anyOf, count}
 use Rattle.tables.specs.Ranges.{tableRow}
 
 -- what stands in front of a seam stands there whatever follows
@@ -53,3 +57,14 @@ row-long table k n inside = let z : k * n + n - k * n ≡ n = omega arith in ap 
 
 pub row-at : (table : List ℕ) (k n i : ℕ) → i < n → getD (tableRow table k n) i 0 ≡ getD table (k * n + i) 0
 row-at table k n i h = getD-take n (drop (k * n) table) i 0 h ∙ getD-drop (k * n) table i 0
+
+-- ## Elements counted
+-- some element passes where one or more do
+pub any-count : {A : Type 0} (t : A → Bool) (xs : List A) → anyOf t xs ≡ not (eqb (count t xs) 0)
+unfolding anyOf count
+any-count t [] = refl
+any-count t (x ∷ xs) = go (t x) (any-count t xs)
+  where
+    go : (b : Bool) → anyOf t xs ≡ not (eqb (count t xs) 0) → b || anyOf t xs ≡ not (eqb (cond b 1 0 + count t xs) 0)
+    go true h = ap not (sym (ne-eqb (1 + count t xs) 0 (omega arith)))
+    go false h = let e : 0 + count t xs ≡ count t xs = omega arith in h ∙ ap (λ n. not (eqb n 0)) (sym e)

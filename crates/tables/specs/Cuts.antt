@@ -2,6 +2,7 @@
 -- size, the number of intervals between them. Sizes and rows stand last dimension first: years, months, weeks, weekdays.
 use mathlib.Core.Path.{_≡_}
 use mathlib.Core.List.{List, [], _∷_, map}
+use mathlib.Core.Option.{none}
 use Prim.Native.Nat.{ℕ, suc, _+_, _-_, _≤_, _<_}
 use lib.ListN.{length, getD}
 use Rattle.laws.specs.Lists.{from}
@@ -9,6 +10,7 @@ use Rattle.grid.specs.Cut.{Range, cuts}
 use Rattle.definition.specs.Rule.{Rule}
 use Rattle.definition.specs.Point.{Dimension, dimensions}
 use Rattle.definition.specs.Box.{allRanges}
+use Rattle.definition.specs.Overlap.{firstOverlap}
 use Rattle.tables.specs.Rules.{RuleDays, Replacing}
 
 -- cut x of dimension i
@@ -47,3 +49,7 @@ pub record Cut (rows sizes table : List ℕ) (rs : List Rule) : Type 0 where
 -- RULES THAT CAN BE DRAWN: the tables hold the days of some rules, so many, and the rows their cuts
 abbrev pub Drawable : (replacing counts ranges rows sizes table : List ℕ) → ℕ → List Rule → Type 0
 Drawable replacing counts ranges rows sizes table n rs = RuleDays counts ranges n rs × Replacing replacing rs × Cut rows sizes table rs
+
+-- RULES WHOSE LISTS CAN BE MADE: moreover none of them has days typed twice
+abbrev pub ToList : (replacing counts ranges rows sizes table : List ℕ) → ℕ → List Rule → Type 0
+ToList replacing counts ranges rows sizes table n rs = Drawable replacing counts ranges rows sizes table n rs × (firstOverlap rs ≡ none)

@@ -4,7 +4,9 @@ pub mod Ranges
 pub mod Rules
 pub mod Cuts
 pub mod Lists
+pub mod Plain
 pub mod Days
 pub mod Items
 pub mod Pages
 pub mod Copied
+pub mod ToDraw

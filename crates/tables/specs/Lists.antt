@@ -83,3 +83,13 @@ pub record BoxLists (rows sizes table cells lists : List ℕ) (used : ℕ) (rs :
   pub one-cell : length cells ≡ sizeOf sizes 4
   pub few-lists : used ≤ sizeOf sizes 4
   pub stored : Stored sizes rows table cells lists used rs (length rs)
+
+-- LISTS THAT CELLS NAME, for each box that of its points: what a day is folded from, whether or not equal lists are kept once
+pub record NamedLists (rows sizes table cells lists : List ℕ) (used : ℕ) (rs : List Rule) : Type 0 where
+  pub cut : Cut rows sizes table rs
+  pub few-boxes : sizeOf sizes 4 ≤ sheetLimits .boxes
+  pub names : (box : ℕ) → getD cells box 0 ≤ used
+  pub room : used * listPlaces ≤ length lists
+  pub short : (l : ℕ) → l < used → getD lists (l * listPlaces) 0 ≤ listLimit
+  pub earlier : Earlier lists used (length rs)
+  pub list : (p : List ℕ) → Within sizes 4 p → shown cells lists (boxOf sizes 4 0 p) ≡ indexesAt (take (length rs) rs) (startOf rows table 4 p)

@@ -1,4 +1,4 @@
-//! The archive's five functions. A lent slice is a pointer and a length in C. The form is any number: what is none is refused.
+//! The archive's six functions. A lent slice is a pointer and a length in C. The form is any number: what is none is refused.
 
 /// The form, then the sheet, the output buffer and the numbers, each as a pointer and a length.
 type Exported =
@@ -21,7 +21,13 @@ macro_rules! writing_exports {
     };
 }
 
-writing_exports!(hours_fold, hours_write_back, hours_line, hours_convert);
+writing_exports!(
+    hours_fold,
+    hours_fold_plain,
+    hours_write_back,
+    hours_line,
+    hours_convert
+);
 
 unsafe extern "C" {
     fn hours_lookup(
@@ -50,6 +56,11 @@ pub type Writing = fn(Given, &mut [u8], &mut [u64]) -> bool;
 /// Code, drained, emitted, left, bytes, place and why go into `numbers`; no where it is too short for them.
 pub fn fold(given: Given, out: &mut [u8], numbers: &mut [u64]) -> bool {
     lend(hours_fold, given, out, numbers)
+}
+
+/// The same by the plain engine.
+pub fn fold_plain(given: Given, out: &mut [u8], numbers: &mut [u64]) -> bool {
+    lend(hours_fold_plain, given, out, numbers)
 }
 
 /// Code, bytes and place go into `numbers`; no where it is too short for them.
@@ -120,27 +131,31 @@ mod tests {
 
     #[test]
     fn a_fold_takes_seven_numbers_and_writes_nothing_into_six() {
-        let mut out = [BYTE; 3];
-        let mut six = [NUMBER; 6];
-        assert!(!with_stack(|| fold(EMPTY_SHEET, &mut out, &mut six)));
-        assert_eq!((out, six), ([BYTE; 3], [NUMBER; 6]));
+        for engine in [fold, fold_plain] {
+            let mut out = [BYTE; 3];
+            let mut six = [NUMBER; 6];
+            assert!(!with_stack(|| engine(EMPTY_SHEET, &mut out, &mut six)));
+            assert_eq!((out, six), ([BYTE; 3], [NUMBER; 6]));
 
-        let mut seven = [NUMBER; 7];
-        assert!(with_stack(|| fold(EMPTY_SHEET, &mut out, &mut seven)));
-        assert_eq!((out, seven), ([0, 0, BYTE], [0, 0, 0, 0, 2, 0, 0]));
+            let mut seven = [NUMBER; 7];
+            assert!(with_stack(|| engine(EMPTY_SHEET, &mut out, &mut seven)));
+            assert_eq!((out, seven), ([0, 0, BYTE], [0, 0, 0, 0, 2, 0, 0]));
+        }
     }
 
     #[test]
     fn a_form_that_is_none_is_refused() {
         for form in [0, 3, (1 << 32) + 1, u64::MAX] {
-            let mut out = [BYTE; 3];
             let given = Given {
                 form,
                 ..EMPTY_SHEET
             };
-            let refused = with_stack(|| numbers(fold, given, &mut out));
-            assert_eq!(refused, [2, 0, 0, 0, 0, 0, 0]);
-            assert_eq!(out, [BYTE; 3]);
+            for engine in [fold, fold_plain] {
+                let mut out = [BYTE; 3];
+                let refused = with_stack(|| numbers(engine, given, &mut out));
+                assert_eq!(refused, [2, 0, 0, 0, 0, 0, 0]);
+                assert_eq!(out, [BYTE; 3]);
+            }
         }
     }
 }

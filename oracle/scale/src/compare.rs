@@ -1,4 +1,5 @@
-//! One sheet given to the archive, in its form, in the other one and in forms that are none, and held against what is expected of it.
+//! One sheet given to the archive, in its form, in the other one and in forms that are none, and held against what is expected of it; folds
+//! by both engines.
 
 use oracle::form::Form;
 
@@ -36,6 +37,9 @@ pub fn compare(
 
     for (entry, ample) in &expected {
         compare_rooms(entry, given, ample, random, tally)?;
+        if entry.has_two_engines() {
+            tally.plain.fold(&ample.numbers);
+        }
     }
 
     let moved = (converted.numbers[0] == 0).then_some(Given {

@@ -1,9 +1,10 @@
 //! The archive of crates/hours held against the Rust oracle, sheet for sheet, in one program.
 //!
-//! What a fold gives is the Rust's to say (`oracle::fold`), in either form. Where a sheet is refused, what a lookup finds, what a sheet's
-//! line is, what it is in the other form, and why a fold stopped, the Rust has no say: that is document 01 written plainly (`sheet`,
-//! `points`, `calendar`, `expected`), and 02's M-100 (`line`), M-101 (`overlap`), M-104 (`calendar`), M-105 (`why`), M-106 (`layout`,
-//! `convert`), M-107 (`counts`) and M-108 (`lists`), as in oracle/reference. The widths of the two forms stand once, with the Rust oracle (`oracle::form`).
+//! What a fold gives is the Rust's to say (`oracle::fold`), in either form; both engines of the archive, 02's M-102, are held against it.
+//! Where a sheet is refused, what a lookup finds, what a sheet's line is, what it is in the other form, and why a fold stopped, the Rust has
+//! no say: that is document 01 written plainly (`sheet`, `points`, `calendar`, `expected`), and 02's M-100 (`line`), M-101 (`overlap`), M-104
+//! (`calendar`), M-105 (`why`), M-106 (`layout`, `convert`), M-107 (`counts`) and M-108 (`lists`), as in oracle/reference. The widths of the
+//! two forms stand once, with the Rust oracle (`oracle::form`).
 //!
 //! For oracle/public, where a public evaluator is asked, there are sheets and moments (`public_sheets`, `public_moments`).
 

@@ -5,8 +5,9 @@ use std::path::Path;
 
 use oracle::bits::from_hex;
 
-use crate::answer::{Answer, FOLD_NUMBERS, LOOKUP_NUMBERS, Numbers, WRITTEN_NUMBERS};
-use crate::archive::{self, Given, Writing};
+use crate::answer::{Answer, LOOKUP_NUMBERS};
+use crate::archive::{self, Given};
+use crate::calls::{CONVERT, Entry, FOLD, LINE, WRITE_BACK, compare_in_room};
 use crate::expected::Sheet;
 use crate::stack::with_stack;
 
@@ -62,66 +63,49 @@ fn bytes(hex: &str) -> Vec<u8> {
     }
 }
 
-fn check_writing(file: &str, function: Writing, sort: Numbers, ample: fn(&Sheet) -> Answer) {
-    with_stack(|| check_cases(file, function, sort, ample));
+fn check_writing(file: &str, entry: &Entry, ample: fn(&Sheet) -> Answer) {
+    with_stack(|| check_cases(file, entry, ample));
 }
 
-fn check_cases(file: &str, function: Writing, sort: Numbers, ample: fn(&Sheet) -> Answer) {
-    for case in cases(file, 1 + sort.count) {
+fn check_cases(file: &str, entry: &Entry, ample: fn(&Sheet) -> Answer) {
+    for case in cases(file, 1 + entry.numbers.count) {
         let (form, sheet) = (case.form, &case.sheet);
         let room = case.numbers[0] as usize;
         let stored = Answer {
-            sort,
+            sort: entry.numbers,
             numbers: case.numbers[1..].to_vec(),
             result: case.result.clone(),
         };
+        let ample = ample(&Sheet::new(case.given()));
         assert_eq!(
-            ample(&Sheet::new(case.given())).in_room(room),
+            ample.in_room(room),
             stored,
             "expected of {sheet:02X?} in form {form}"
         );
 
-        let mut given = Answer {
-            sort,
-            numbers: vec![0; sort.count],
-            result: vec![0; room],
-        };
-        assert!(function(
-            case.given(),
-            &mut given.result,
-            &mut given.numbers
-        ));
-        given.result.truncate(stored.result.len());
-        assert_eq!(given, stored, "given for {sheet:02X?} in form {form}");
+        let compared = compare_in_room(entry, case.given(), &ample, room);
+        compared.unwrap_or_else(|difference| panic!("{difference:?} for {sheet:02X?}"));
     }
 }
 
 #[test]
 fn folds() {
-    check_writing("fold.txt", archive::fold, FOLD_NUMBERS, |sheet| {
-        sheet.fold()
-    });
+    check_writing("fold.txt", &FOLD, |sheet| sheet.fold());
 }
 
 #[test]
 fn write_backs() {
-    check_writing("back.txt", archive::write_back, WRITTEN_NUMBERS, |sheet| {
-        sheet.write_back()
-    });
+    check_writing("back.txt", &WRITE_BACK, |sheet| sheet.write_back());
 }
 
 #[test]
 fn lines() {
-    check_writing("line.txt", archive::line, WRITTEN_NUMBERS, |sheet| {
-        sheet.line()
-    });
+    check_writing("line.txt", &LINE, |sheet| sheet.line());
 }
 
 #[test]
 fn conversions() {
-    check_writing("convert.txt", archive::convert, WRITTEN_NUMBERS, |sheet| {
-        sheet.convert()
-    });
+    check_writing("convert.txt", &CONVERT, |sheet| sheet.convert());
 }
 
 #[test]

@@ -88,6 +88,38 @@ impl Display for Stopped {
     }
 }
 
+/// Sheets that the plain engine answered as the first one does, in every room, and those that it refused for its lists.
+#[derive(Default)]
+pub struct PlainFolds {
+    sheets: u64,
+    long_list: u64,
+    many_lists: u64,
+}
+
+impl PlainFolds {
+    pub fn fold(&mut self, numbers: &[u64]) {
+        self.sheets += 1;
+        self.long_list += u64::from(numbers[0] == 6);
+        self.many_lists += u64::from(numbers[0] == 14);
+    }
+
+    fn add(&mut self, other: &Self) {
+        self.sheets += other.sheets;
+        self.long_list += other.long_list;
+        self.many_lists += other.many_lists;
+    }
+}
+
+impl Display for PlainFolds {
+    fn fmt(&self, f: &mut Formatter<'_>) -> Result {
+        write!(
+            f,
+            "  sheets given to the plain engine: {}, of them {} refused by 6, {} by 14",
+            self.sheets, self.long_list, self.many_lists
+        )
+    }
+}
+
 /// What lines came out as.
 #[derive(Default)]
 struct Lines {
@@ -122,6 +154,7 @@ pub struct Tally {
     pub forms: Forms,
     pub large: Large,
     pub lists: ListsMet,
+    pub plain: PlainFolds,
     folded_whole: u64,
     at_limits: AtLimits,
     fold_codes: [u64; CODES],
@@ -187,6 +220,7 @@ impl Tally {
         self.forms.add(&other.forms);
         self.large.add(&other.large);
         self.lists.add(&other.lists);
+        self.plain.add(&other.plain);
         self.folded_whole += other.folded_whole;
         add_each(&mut self.at_limits.0, &other.at_limits.0);
         add_each(&mut self.fold_codes, &other.fold_codes);
@@ -214,6 +248,7 @@ impl Display for Tally {
             "  folded by the Rust: {} whole, {halved} with years and weeks that wrap as halves",
             self.folded_whole
         )?;
+        writeln!(f, "{}", self.plain)?;
         writeln!(f, "  lookups by code: {}", by_code(&self.lookup_codes))?;
         writeln!(f, "  short buffers, answered by 7: {}", self.short_buffers)?;
         writeln!(f, "  folds at a limit: {}", self.at_limits)?;

@@ -12,31 +12,63 @@ pub struct Times {
 /// A sample is as many runs as take this long, and the samples of all calls take turns, so that a busy moment meets all of them.
 const SAMPLE: Duration = Duration::from_micros(200);
 const SAMPLES: usize = 201;
-const LONGEST: Duration = Duration::from_secs(4);
+/// A call whose samples have taken this long gets no more, but for some that it gets in any case.
+const LONGEST: Duration = Duration::from_secs(2);
 const FEWEST_SAMPLES: usize = 5;
 
 /// Of each call.
-pub fn times<const N: usize>(mut calls: [&mut dyn FnMut(); N]) -> [Times; N] {
-    let runs = calls.each_mut().map(|call| runs_of_a_sample(call));
-    let mut samples = [const { Vec::new() }; N];
-    let began = Instant::now();
+pub fn times<const N: usize>(calls: [&mut dyn FnMut(); N]) -> [Times; N] {
+    let mut calls = calls.map(Sampled::new);
 
-    for taken in 0..SAMPLES {
-        if taken >= FEWEST_SAMPLES && began.elapsed() > LONGEST {
+    for _ in 0..SAMPLES {
+        // One slow call leaves the others their samples. Without two, the rest would find more of their own in the cache than before.
+        if calls.iter().filter(|call| call.has_enough()).count() > 1 {
             break;
         }
-        for ((call, runs), samples) in calls.iter_mut().zip(runs).zip(&mut samples) {
-            samples.push(time_of(call, runs).as_secs_f64() * 1e6 / runs as f64);
+        calls.iter_mut().for_each(Sampled::sample);
+    }
+    calls.map(Sampled::times)
+}
+
+/// A call, with the samples taken of it.
+struct Sampled<'a> {
+    call: &'a mut dyn FnMut(),
+    runs: usize,
+    taken: Duration,
+    samples: Vec<f64>,
+}
+
+impl<'a> Sampled<'a> {
+    fn new(call: &'a mut dyn FnMut()) -> Self {
+        Self {
+            runs: runs_of_a_sample(call),
+            call,
+            taken: Duration::ZERO,
+            samples: Vec::new(),
         }
     }
 
-    samples.map(|mut samples| {
-        samples.sort_by(f64::total_cmp);
-        Times {
-            best: samples[0],
-            median: samples[samples.len() / 2],
+    fn has_enough(&self) -> bool {
+        self.samples.len() >= FEWEST_SAMPLES && self.taken > LONGEST
+    }
+
+    fn sample(&mut self) {
+        if self.has_enough() {
+            return;
         }
-    })
+        let time = time_of(self.call, self.runs);
+        self.taken += time;
+        self.samples
+            .push(time.as_secs_f64() * 1e6 / self.runs as f64);
+    }
+
+    fn times(mut self) -> Times {
+        self.samples.sort_by(f64::total_cmp);
+        Times {
+            best: self.samples[0],
+            median: self.samples[self.samples.len() / 2],
+        }
+    }
 }
 
 fn runs_of_a_sample(call: &mut dyn FnMut()) -> usize {

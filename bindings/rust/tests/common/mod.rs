@@ -1,4 +1,8 @@
-//! Sheets are written in hex.
+//! Sheets are written in hex, and folded by both engines.
+
+mod engines;
+
+pub use engines::fold;
 
 pub fn bytes(hex: &str) -> Vec<u8> {
     hex.as_bytes()

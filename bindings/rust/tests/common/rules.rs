@@ -1,9 +1,12 @@
-//! Sheets that are written bit by bit, and their folds, asked on a stack no longer than the crate says a call needs.
+//! Sheets that are written bit by bit, and their folds by both engines, asked on a stack no longer than the crate says a call needs.
+
+mod engines;
 
 use std::fmt::Write;
 use std::thread;
 
-use hours::{Folded, Form, Reason, Refusal, STACK, fold};
+use engines::fold;
+use hours::{Folded, Form, Reason, Refusal, STACK};
 
 pub const PAINT: u8 = 0xC3;
 

@@ -6,7 +6,8 @@ use native.Mathlib.Omega.{arith}
 use lib.ListN.{length, getD}
 use borrow.Author.Needs.{needs}
 use borrow.Author.Tests.{ltb-false}
-use Rattle.draw_rules.proofs.Tables.{rule-there, tables-lawful}
+use Rattle.paving_points.proofs.Stepping.{rule-there}
+use Rattle.draw_rules.proofs.Tables.{tables-lawful}
 use Rattle.draw_rules.proofs.Going.{Going, places-kept, going-start, going-ready, going-node, going-settles, going-long, going-many, going-next, going-end}
 use Rattle.draw_rules.proofs.draw_rules.Statement.{statement}
 use Rattle.draw_rules.proofs.draw_rules.Tie as tie

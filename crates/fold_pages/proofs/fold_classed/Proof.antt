@@ -4,9 +4,10 @@ use mathlib.Core.Path.{_∙_}
 use native.Mathlib.Omega.{arith}
 use borrow.Author.Needs.{needs}
 use denote.Ref.{now}
-use Rattle.fold_pages.proofs.Ready.{list-ready, rows-cut}
-use Rattle.fold_pages.proofs.Numbered.{empty-class}
-use Rattle.fold_pages.proofs.Paging.{pages-end, pages-folded}
+use Rattle.tables.proofs.Stored.{store-names}
+use Rattle.paved.proofs.Ready.{list-ready, rows-cut}
+use Rattle.paved.proofs.Numbered.{empty-class}
+use Rattle.paved.proofs.Paging.{pages-end, pages-folded}
 use Rattle.fold_pages.proofs.fold_classed.Statement.{statement}
 use Rattle.fold_pages.proofs.fold_classed.Tie as tie
 
@@ -28,7 +29,7 @@ number-lists-requires c κs =
     let given = entry .pre .0 in
     let room = entry .pre .1 in (
       list-ready (now (a .states)) (now (a .span-counts)) (now (a .spans)) (given .0) (given .1) (now (a .row-starts)) (now (a .sizes)) (now (a .cuts))
-          (now (a .cells)) (now (a .lists)) (a .used) (given .2),
+          (now (a .cells)) (now (a .lists)) (a .used) (store-names _ _ _ _ _ _ _ (given .2)),
       record { hashed = room .2; numbered = room .0; classed = room .1; few = omega (arith, given .2 .stored .few) },
     )
 
@@ -50,10 +51,10 @@ pop-groups-requires c κs =
       (one-cell, given .2 .few-boxes, record { dims = omega (arith, cut .four); filled = cut .filled; below = omega (arith, one-cell) }),
       (
         rows-cut (now (a .states)) (now (a .span-counts)) (now (a .spans)) (given .0) (given .1) (now (a .row-starts)) (now (a .sizes)) (now (a .cuts))
-            (now (a .cells)) (now (a .lists)) (a .used) (given .2),
+            (now (a .cells)) (now (a .lists)) (a .used) (store-names _ _ _ _ _ _ _ (given .2)),
         (
           empty-class (now (a .states)) (now (a .span-counts)) (now (a .spans)) (now (a .row-starts)) (now (a .sizes)) (now (a .cuts)) (now (a .lists))
-              (now (a .cells)) _ _ _ (a .used) (given .0) (given .1) (given .2) (numbered .ensures) (renamed .rename .ensures),
+              (now (a .cells)) _ _ _ (a .used) (given .0) (given .1) (store-names _ _ _ _ _ _ _ (given .2)) (numbered .ensures) (renamed .rename .ensures),
           omega (arith, entry .pre .1 .3, numbered .kept .1 .1 .1 .1 .1 .0),
         ),
       ),
@@ -69,7 +70,7 @@ count-pages-requires c κs =
     let a = entry .args in
     let given = entry .pre .0 in
     let ended = pages-end (now (a .states)) (now (a .span-counts)) (now (a .spans)) (now (a .row-starts)) (now (a .sizes)) (now (a .cuts)) (now (a .lists))
-    (now (a .cells)) _ _ _ (a .used) (given .0) (given .1) (given .2) (numbered .ensures) (renamed .rename .ensures) (numbered .last .1 .1 .1 .1 .1 .0) _
+    (now (a .cells)) _ _ _ (a .used) (given .0) (given .1) (store-names _ _ _ _ _ _ _ (given .2)) (numbered .ensures) (renamed .rename .ensures) (numbered .last .1 .1 .1 .1 .1 .0) _
     (omega (arith, entry .pre .1 .3, numbered .kept .1 .1 .1 .1 .1 .0)) (popped .ensures .1) _ (popped .ensures .0) in
     (ended .0, omega (arith, ended .1, popped .kept .1 .1 .1 .1 .1 .0))
 
@@ -82,7 +83,7 @@ returns c =
     let entry = start (number renamed) in
     let a = entry .args in
     λ rs form tables boxed commented. pages-folded (now (a .states)) (now (a .span-counts)) (now (a .spans)) (now (a .row-starts)) (now (a .sizes)) (now (a .cuts))
-    (now (a .lists)) (now (a .cells)) _ _ _ (a .used) rs tables boxed (numbered .ensures) (renamed .rename .ensures) (numbered .last .1 .1 .1 .1 .1 .0) _
+    (now (a .lists)) (now (a .cells)) _ _ _ (a .used) rs tables (store-names _ _ _ _ _ _ _ boxed) (numbered .ensures) (renamed .rename .ensures) (numbered .last .1 .1 .1 .1 .1 .0) _
     (omega (arith, entry .pre .1 .3, numbered .kept .1 .1 .1 .1 .1 .0)) (popped .ensures .1) _ (popped .ensures .0) form commented _ (c .count-pages .ensures)
 
 pub fold-classed-spec : {M : Type 1} → statement M

@@ -1,7 +1,7 @@
 -- `fold_pages::pop_groups` meets its contract: the small marks are enough for 64 boxes, the others for as many as the limit allows.
 use native.Mathlib.Omega.{arith}
 use borrow.Author.Needs.{needs}
-use Rattle.fold_pages.proofs.Ready.{boxes-room}
+use Rattle.paved.proofs.Ready.{boxes-room}
 use Rattle.fold_pages.proofs.pop_groups.Statement.{statement}
 use Rattle.fold_pages.proofs.pop_groups.Tie as tie
 

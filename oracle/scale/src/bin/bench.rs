@@ -1,9 +1,10 @@
-//! The bench: `bench` times the archive and the Rust on the same sheets, from sheet bytes to result bytes, and prints a table; and, by the
-//! archive alone, lines of text, for which the Rust has no writer, and checks, which it does not make, in two more. `bench --growth` times
-//! both on sheets of which rules or boxes are four times as many from one to the next, and on sheets at the limits, `bench --lists` on sheets
-//! of many lists; `bench --stack` tells how deep each function goes on all these sheets. `bench --sheets` prints the sheets of the first
-//! table, in hex and in the Rust's own words; `bench --profile TABLE SHEET RUNS` runs one sheet of a table (`fold`, `growth`, `limit`,
-//! `lists`, `line` or `check`), by its number from 1, that many times by the archive alone, for a profiler.
+//! The bench: `bench` times the archive, by both engines, and the Rust on the same sheets, from sheet bytes to result bytes, and prints a
+//! table; and, by the archive alone, lines of text, for which the Rust has no writer, and checks, which it does not make, in two more.
+//! `bench --growth` times folds of sheets of which rules or boxes are four times as many from one to the next, and of sheets at the limits,
+//! `bench --lists` of sheets of many lists; `bench --stack` tells how deep each function goes on all these sheets. `bench --sheets` prints the
+//! sheets of the first table, in hex and in the Rust's own words; `bench --profile TABLE SHEET RUNS` runs one sheet of a table (`fold`,
+//! `growth`, `limit`, `lists`, `line` or `check`), by its number from 1, that many times by the archive alone, for a profiler, and with
+//! `plain` before the table, which is then one of the first four, by the plain engine.
 
 use std::hint::black_box;
 use std::process::ExitCode;
@@ -36,9 +37,9 @@ fn main() -> ExitCode {
         ["--lists"] => print_times(&list_sheets()),
         ["--stack"] => print_stacks(),
         ["--sheets"] => bench_sheets().iter().for_each(print_sheet),
-        ["--profile", table, sheet, runs] => match (table_of(table), sheet.parse(), runs.parse()) {
-            (Some((sheets, call)), Ok(sheet), Ok(runs)) => profile(&sheets, call, sheet, runs),
-            _ => return usage(),
+        ["--profile", words @ ..] => match profile(words) {
+            Some(()) => {}
+            None => return usage(),
         },
         _ => return usage(),
     }
@@ -48,7 +49,7 @@ fn main() -> ExitCode {
 
 fn usage() -> ExitCode {
     eprintln!(
-        "usage: bench [--growth | --lists | --stack | --sheets | --profile fold|growth|limit|lists|line|check SHEET RUNS]"
+        "usage: bench [--growth | --lists | --stack | --sheets | --profile fold|growth|limit|lists|line|check SHEET RUNS | --profile plain fold|growth|limit|lists SHEET RUNS]"
     );
     ExitCode::from(2)
 }
@@ -74,32 +75,56 @@ type Call = fn(Given, &mut [u8]);
 
 fn table_of(name: &str) -> Option<(Vec<BenchSheet>, Call)> {
     match name {
-        "fold" => Some((bench_sheets(), call_fold)),
-        "growth" => Some((growth_sheets(), call_fold)),
-        "limit" => Some((limit_sheets(), call_fold)),
-        "lists" => Some((list_sheets(), call_fold)),
         "line" => Some((line_sheets(), |sheet, out| _ = black_box(line(sheet, out)))),
         "check" => Some((check_sheets(), |sheet, _| _ = black_box(check(sheet)))),
+        _ => Some((folded_table(name)?, |sheet, out| {
+            _ = black_box(fold(sheet, out))
+        })),
+    }
+}
+
+/// A table of folds, by the plain engine.
+fn plain_table_of(name: &str) -> Option<(Vec<BenchSheet>, Call)> {
+    Some((folded_table(name)?, |sheet, out| {
+        _ = black_box(fold_plain(sheet, out))
+    }))
+}
+
+fn folded_table(name: &str) -> Option<Vec<BenchSheet>> {
+    match name {
+        "fold" => Some(bench_sheets()),
+        "growth" => Some(growth_sheets()),
+        "limit" => Some(limit_sheets()),
+        "lists" => Some(list_sheets()),
         _ => None,
     }
 }
 
-fn call_fold(sheet: Given, out: &mut [u8]) {
-    black_box(fold(sheet, out));
-}
-
-fn profile(sheets: &[BenchSheet], call: Call, sheet: usize, runs: usize) {
-    let given = sheets[sheet - 1].given();
+/// Runs what the words say, if they say something that can be run.
+fn profile(words: &[&str]) -> Option<()> {
+    let ((sheets, call), sheet, runs) = match words {
+        ["plain", table, sheet, runs] => (plain_table_of(table)?, sheet, runs),
+        [table, sheet, runs] => (table_of(table)?, sheet, runs),
+        _ => return None,
+    };
+    let (sheet, runs): (usize, usize) = (sheet.parse().ok()?, runs.parse().ok()?);
+    let given = sheets.get(sheet.checked_sub(1)?)?.given();
     let mut out = vec![0; ROOM];
 
     for _ in 0..runs {
         call(black_box(given), black_box(&mut out));
     }
+    Some(())
 }
 
 /// The seven numbers of a fold.
 fn fold(sheet: Given, out: &mut [u8]) -> [u64; 7] {
     numbers(archive::fold, sheet, out)
+}
+
+/// The same by the plain engine.
+fn fold_plain(sheet: Given, out: &mut [u8]) -> [u64; 7] {
+    numbers(archive::fold_plain, sheet, out)
 }
 
 /// Code, bytes and place of a line.
@@ -115,9 +140,9 @@ fn check(sheet: Given) -> u64 {
 
 fn print_times(sheets: &[BenchSheet]) {
     println!(
-        "| sheet | bytes in, out | emitted | archive best | median | Rust best | median | normalize alone | archive : Rust best | median | stack |"
+        "| sheet | bytes in, out | emitted | archive best | median | Rust best | median | normalize alone | archive : Rust best | median | stack | plain best | median | plain : archive best | plain stack |"
     );
-    println!("|---|---|---|---|---|---|---|---|---|---|---|");
+    println!("{}|", "|---".repeat(15));
 
     sheets.iter().for_each(print_row);
 
@@ -128,36 +153,50 @@ fn print_times(sheets: &[BenchSheet]) {
     }
 }
 
+/// The rules emitted and the bytes of a fold, on which both engines and the Rust agree.
+fn agreed(sheet: &BenchSheet) -> (u64, usize) {
+    let (given, name) = (sheet.given(), sheet.name);
+    let result =
+        normalize_sheet(sheet.form, &sheet.bytes).expect("the Rust holds every sheet of the bench");
+    let folded = [fold, fold_plain].map(|engine| {
+        let mut out = vec![0; ROOM];
+        let numbers = engine(given, &mut out);
+        let length = numbers[4] as usize;
+        assert!(
+            numbers[0] == 0 && out[..length] == result,
+            "each engine agrees with the Rust on {name}"
+        );
+        numbers
+    });
+    assert_eq!(folded[0], folded[1], "the engines agree on {name}");
+
+    (folded[0][2], result.len())
+}
+
 fn print_row(sheet: &BenchSheet) {
     let (given, form, bytes) = (sheet.given(), sheet.form, &sheet.bytes);
-    let mut out = vec![0; ROOM];
-    let numbers = fold(given, &mut out);
-    let result = normalize_sheet(form, bytes).expect("the Rust holds every sheet of the bench");
-    let length = numbers[4] as usize;
-    assert!(
-        numbers[0] == 0 && out[..length] == result,
-        "the two agree on {}",
-        sheet.name
-    );
+    let (emitted, length) = agreed(sheet);
 
     let expression = read_expression(form, bytes).expect("the Rust holds it, as above");
-    let [ours, rust, normalized] = times([
+    let (mut out, mut plain_out) = (vec![0; ROOM], vec![0; ROOM]);
+    // Each engine comes after a call of the Rust: the two share code, so that one would find the other's still in the cache.
+    let [ours, rust, plain, normalized] = times([
         &mut || {
             black_box(fold(black_box(given), &mut out));
         },
         &mut || drop(black_box(normalize_sheet(form, black_box(bytes)))),
+        &mut || {
+            black_box(fold_plain(black_box(given), &mut plain_out));
+        },
         &mut || drop(black_box(black_box(&expression).clone().normalize())),
     ]);
-    let mut room = vec![0; length];
-    let stack = stack_of(|| {
-        fold(given, &mut room);
-    });
+    let [stack, plain_stack] =
+        [archive::fold, archive::fold_plain].map(|engine| depth(engine, given, &mut out[..length]));
 
     println!(
-        "| {} | {}, {length} | {} | {:.1} | {:.1} | {:.1} | {:.1} | {:.1} | {:.2} | {:.2} | {stack} |",
+        "| {} | {}, {length} | {emitted} | {:.1} | {:.1} | {:.1} | {:.1} | {:.1} | {:.2} | {:.2} | {stack} | {:.1} | {:.1} | {:.2} | {plain_stack} |",
         sheet.name,
         bytes.len(),
-        numbers[2],
         ours.best,
         ours.median,
         rust.best,
@@ -165,13 +204,22 @@ fn print_row(sheet: &BenchSheet) {
         normalized.median,
         ours.best / rust.best,
         ours.median / rust.median,
+        plain.best,
+        plain.median,
+        plain.best / ours.best,
     );
+}
+
+fn depth(function: Writing, given: Given, out: &mut [u8]) -> usize {
+    stack_of(|| {
+        black_box(function(given, out, &mut [0; 7]));
+    })
 }
 
 /// How deep each function goes, in ample room, on every sheet that is folded here.
 fn print_stacks() {
-    println!("| sheet | fold | lookup | write-back | line | convert |");
-    println!("|---|---|---|---|---|---|");
+    println!("| sheet | fold | plain fold | lookup | write-back | line | convert |");
+    println!("|---|---|---|---|---|---|---|");
 
     for sheet in [
         bench_sheets(),
@@ -183,24 +231,20 @@ fn print_stacks() {
     {
         let given = sheet.given();
         let mut out = vec![0; ROOM];
-        let mut depth = |function: Writing| {
-            stack_of(|| {
-                black_box(function(given, &mut out, &mut [0; 7]));
-            })
-        };
-        let [folded, back, lined, moved] = [
+        let [folded, plain, back, lined, moved] = [
             archive::fold,
+            archive::fold_plain,
             archive::write_back,
             archive::line,
             archive::convert,
         ]
-        .map(&mut depth);
+        .map(|function| depth(function, given, &mut out));
         let looked_up = stack_of(|| {
             black_box(archive::lookup(given, MOMENT, &mut [0; 7]));
         });
 
         println!(
-            "| {} | {folded} | {looked_up} | {back} | {lined} | {moved} |",
+            "| {} | {folded} | {plain} | {looked_up} | {back} | {lined} | {moved} |",
             sheet.name
         );
     }

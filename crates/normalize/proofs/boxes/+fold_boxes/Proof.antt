@@ -1,10 +1,12 @@
--- `normalize::boxes::fold_boxes` meets its contract, in buffers of each size. The measure is how many boxes the room lacks at most.
+-- `normalize::boxes::fold_boxes` meets its contract, in buffers of each size and by either engine. The measure is how many boxes the room lacks at most.
 use Prim.Native.Nat.{ℕ, _-_, _<_}
 use native.Mathlib.Omega.{arith}
 use borrow.Author.Needs.{needs}
 use borrow.Fn.Kinds.{In}
 use borrow.Fn.PlainCycle.{Measures, is, falls, and}
 use Rattle.paving.proofs.place.size_of.Reads as size-of-reads
+use Rattle.normalize.proofs.plain_engine.fold_few_plain.Reads as fold-few-plain-reads
+use Rattle.normalize.proofs.plain_engine.fold_many_plain.Reads as fold-many-plain-reads
 use Rattle.normalize.proofs.boxes.fold_few_boxes.Reads as fold-few-boxes-reads
 use Rattle.normalize.proofs.boxes.fold_some_boxes.Reads as fold-some-boxes-reads
 use Rattle.normalize.proofs.boxes.fold_many_boxes.Reads as fold-many-boxes-reads
@@ -29,6 +31,10 @@ pub +fold-boxes-spec : {M : Type 1} → statement M
   size-of-reads.Learnt,
   fold-boxes-below t,
   fold-boxes.Post,
+  fold-few-plain-reads.Asked,
+  fold-few-plain-reads.Learnt,
+  fold-many-plain-reads.Asked,
+  fold-many-plain-reads.Learnt,
   fold-few-boxes-reads.Asked,
   fold-few-boxes-reads.Learnt,
   fold-some-boxes-reads.Asked,
@@ -51,19 +57,26 @@ pub +fold-boxes-spec : {M : Type 1} → statement M
     (λ c. search needs)
     (λ c. search needs)
     (λ c κs.
-    let sized = c .before .before .before in
-    let pre = sized .before .before .before .before .before .before .before .before .before .before .before .before .pre in
-    (pre .1 .0, omega (arith, c .before .if2 .taken, sized .size-of .ensures)))
-    (λ c. search needs)
-    (λ c. search needs)
-    (λ c κs.
     let sized = c .before .before .before .before in
     let pre = sized .before .before .before .before .before .before .before .before .before .before .before .before .pre in
     (pre .1 .0, omega (arith, c .before .if3 .taken, sized .size-of .ensures)))
     (λ c. search needs)
     (λ c. search needs)
+    (λ c κs. c .before .before .before .before .before .before .before .before .before .before .before .before .before .before .before .before .pre .1 .0)
+    (λ c. search needs)
+    (λ c. search needs)
     (λ c κs.
     let sized = c .before .before .before .before in
-    sized .before .before .before .before .before .before .before .before .before .before .before .before .pre .1 .0)
+    let pre = sized .before .before .before .before .before .before .before .before .before .before .before .before .pre in
+    (pre .1 .0, omega (arith, c .before .if4 .taken, sized .size-of .ensures)))
+    (λ c. search needs)
+    (λ c. search needs)
+    (λ c κs.
+    let sized = c .before .before .before .before .before in
+    let pre = sized .before .before .before .before .before .before .before .before .before .before .before .before .pre in
+    (pre .1 .0, omega (arith, c .before .if5 .taken, sized .size-of .ensures)))
+    (λ c. search needs)
+    (λ c. search needs)
+    (λ c κs. c .before .before .before .before .before .before .before .before .before .before .before .before .before .before .before .before .before .pre .1 .0)
     (λ c. search needs)
     (λ c. search needs)

@@ -1,4 +1,0 @@
-pub mod Carrying
-pub mod Ready
-pub mod Numbered
-pub mod Paging

@@ -1,0 +1,5 @@
+pub mod Told
+pub mod Carrying
+pub mod Ready
+pub mod Numbered
+pub mod Paging

@@ -1,0 +1,5 @@
+pub mod Widths
+pub mod Marked
+pub mod Good
+pub mod Growing
+pub mod Emptying

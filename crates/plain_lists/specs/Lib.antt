@@ -1,0 +1,4 @@
+pub mod Covers
+pub mod Draw
+pub mod Kinds
+pub mod Listing
