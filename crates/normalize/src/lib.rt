@@ -2,6 +2,7 @@
 // list for each box (6, 14), pages of the folded rules, and these written before the rules that are left (13, 7). From normalize/mod.rs. `plain` chooses
 // between two engines for what is done over boxes; no contract mentions it.
 pub mod boxes;
+mod columns_engine;
 mod plain_engine;
 mod written;
 

@@ -7,9 +7,9 @@ use borrow.Fn.PlainCycle.{Measures, is, falls, and}
 use Rattle.paving.proofs.place.size_of.Reads as size-of-reads
 use Rattle.normalize.proofs.plain_engine.fold_few_plain.Reads as fold-few-plain-reads
 use Rattle.normalize.proofs.plain_engine.fold_many_plain.Reads as fold-many-plain-reads
-use Rattle.normalize.proofs.boxes.fold_few_boxes.Reads as fold-few-boxes-reads
-use Rattle.normalize.proofs.boxes.fold_some_boxes.Reads as fold-some-boxes-reads
-use Rattle.normalize.proofs.boxes.fold_many_boxes.Reads as fold-many-boxes-reads
+use Rattle.normalize.proofs.columns_engine.fold_few_boxes.Reads as fold-few-boxes-reads
+use Rattle.normalize.proofs.columns_engine.fold_some_boxes.Reads as fold-some-boxes-reads
+use Rattle.normalize.proofs.columns_engine.fold_many_boxes.Reads as fold-many-boxes-reads
 use Rattle.normalize.proofs.boxes.+fold_boxes.{statement}
 use Rattle.normalize.proofs.boxes.+fold_boxes.Tie.{close}
 use Rattle.normalize.proofs.boxes.fold_boxes.Reads as fold-boxes

@@ -1,9 +1,9 @@
--- `normalize::boxes::fold_some_boxes` meets its contract: the store and the buffer are large enough for 1,024 boxes.
+-- `normalize::columns_engine::fold_some_boxes` meets its contract: the store and the buffer are large enough for 1,024 boxes.
 use native.Mathlib.Omega.{arith}
 use borrow.Author.Needs.{needs}
 use Rattle.draw_rules.proofs.Places.{cells-lent, all-places}
-use Rattle.normalize.proofs.boxes.fold_some_boxes.Statement.{statement}
-use Rattle.normalize.proofs.boxes.fold_some_boxes.Tie as tie
+use Rattle.normalize.proofs.columns_engine.fold_some_boxes.Statement.{statement}
+use Rattle.normalize.proofs.columns_engine.fold_some_boxes.Tie as tie
 
 slice-aggregate-fold-boxes-in : tie.Need-slice-aggregate-fold-boxes-in
 slice-aggregate-fold-boxes-in c =

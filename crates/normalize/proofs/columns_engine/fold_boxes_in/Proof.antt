@@ -1,8 +1,8 @@
--- `normalize::boxes::fold_boxes_in` meets its contract: the engine answers about the drained rules, and its answer is written.
+-- `normalize::columns_engine::fold_boxes_in` meets its contract: the engine answers about the drained rules, and its answer is written.
 use borrow.Author.Needs.{needs}
 use Rattle.normalize.proofs.ToWrite.{to-write}
-use Rattle.normalize.proofs.boxes.fold_boxes_in.Statement.{statement}
-use Rattle.normalize.proofs.boxes.fold_boxes_in.Tie as tie
+use Rattle.normalize.proofs.columns_engine.fold_boxes_in.Statement.{statement}
+use Rattle.normalize.proofs.columns_engine.fold_boxes_in.Tie as tie
 
 pave-requires : tie.Need-pave-requires
 pave-requires c κs =
