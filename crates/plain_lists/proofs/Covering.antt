@@ -10,7 +10,7 @@ use lib.ListN.{getD}
 use borrow.Author.Count.{below-more}
 use borrow.Author.Tests.{le-leb, lt-leb, ne-eqb}
 use Rattle.laws.specs.Lists.{from, every, count}
-use Rattle.laws.proofs.Flags.{not-true, and-true}
+use Rattle.laws.proofs.Flags.{not-true, and-true, and-false}
 use Rattle.laws.proofs.Lists.{all-every, every-append, any-same, any-map}
 use Rattle.laws.proofs.Numbers.{from-append, All-from, every-below, from-any, from-none}
 use Rattle.grid.specs.Cut.{holds}
@@ -80,11 +80,7 @@ module _ (rows sizes cuts counts ranges : List ℕ) (rule box : ℕ) where
 -- ## Combinations
 -- a product is 0 where a factor is
 some-both : (a b : ℕ) → not (eqb b 0) && not (eqb a 0) ≡ not (eqb (a * b) 0)
-some-both zero b = go (not (eqb b 0)) ∙ ap (λ n. not (eqb n 0)) (let z : 0 ≡ 0 * b = omega arith in z)
-  where
-    go : (t : Bool) → t && false ≡ false
-    go true = refl
-    go false = refl
+some-both zero b = and-false (not (eqb b 0)) ∙ ap (λ n. not (eqb n 0)) (let z : 0 ≡ 0 * b = omega arith in z)
 some-both (suc a) zero = ap (λ n. not (eqb n 0)) (let z : 0 ≡ suc a * 0 = omega arith in z)
 some-both (suc a) (suc b) = rw (ne-eqb (suc b) 0 (omega arith), ne-eqb (suc a) 0 (omega arith), ne-eqb (suc a * suc b) 0 (omega arith))
 

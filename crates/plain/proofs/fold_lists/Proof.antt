@@ -1,11 +1,12 @@
 -- `plain::fold_lists` meets its contract: the lists can be folded, the numbers behind the first are the boxes', and the pages in the buffer are those of the
 -- folded rules.
 use mathlib.Core.Path.{_≡_}
-use Prim.Native.Nat.{_+_, _-_}
+use mathlib.Core.List.{List}
+use Prim.Native.Nat.{ℕ, _+_, _-_}
 use native.Mathlib.Omega.{arith}
 use borrow.Author.Needs.{needs}
 use denote.Ref.{now}
-use Rattle.plain.proofs.Folding.{own-ready, own-numbering, own-room, own-rows, own-classless, own-ended, own-folded}
+use Rattle.plain.proofs.Folding.{own-numbered, own-popped, own-ended, own-folded}
 use Rattle.plain.proofs.fold_lists.Statement.{statement}
 use Rattle.plain.proofs.fold_lists.Tie as tie
 
@@ -19,7 +20,21 @@ sized c = c .before .before .before .before .before .before
 abbrev number : tie.After-pop-pages → tie.After-number-lists
 number c = c .before .before .before .before .before .before .before .before .before .before
 
--- ## What is needed there
+-- ## What numbering the days leaves
+abbrev pages : tie.After-number-lists → List ℕ
+pages c = c .number-lists .last .1 .1 .1 .1 .1 .0
+
+abbrev numbers : tie.After-number-lists → List ℕ
+numbers c = c .number-lists .last .1 .1 .1 .1 .1 .1 .0
+
+abbrev classes : tie.After-number-lists → List ℕ
+classes c = c .number-lists .last .1 .1 .1 .1 .1 .1 .1 .0
+
+-- as many numbers as boxes are lent
+whole : (c : tie.After-size-of) → c .size-of .result + 1 - 1 ≡ c .size-of .result
+whole c = omega arith
+
+-- ## What is needed
 size-of-requires : tie.Need-size-of-requires
 size-of-requires c κs =
     let given = c .before .before .before .before .before .before .before .before .before .pre .0 .2 in
@@ -30,34 +45,22 @@ number-lists-requires c κs =
     let size = c .before .before .before .before .before in
     let entry = start size in
     let a = entry .args in
-    let given = entry .pre .0 in (
-      own-ready (now (a .states)) (now (a .span-counts)) (now (a .spans)) (now (a .row-starts)) (now (a .sizes)) (now (a .cuts)) (now (a .lists)) (given .0) (given .1) (given .2) _
-          (size .size-of .ensures),
-      own-numbering (now (a .states)) (now (a .span-counts)) (now (a .spans)) (now (a .row-starts)) (now (a .sizes)) (now (a .cuts)) (now (a .lists)) (given .0) (given .1) (given .2) _ _ _ _
-          (size .size-of .ensures) (entry .pre .1 .1) (entry .pre .1 .0) (c .before .before .before .before .box-classes .ensures),
-    )
+    let given = entry .pre .0 in
+    own-numbered (now (a .states)) (now (a .span-counts)) (now (a .spans)) (now (a .row-starts)) (now (a .sizes)) (now (a .cuts)) (now (a .lists)) (given .0) (given .1) (given .2) _ _ _ _
+    (size .size-of .ensures) (entry .pre .1 .1) (entry .pre .1 .0) (c .before .before .before .before .box-classes .ensures)
 
 pop-pages-requires : tie.Need-pop-pages-requires
 pop-pages-requires c κs =
     let numbered = c .before .before .before .before .before .before .before .before .before in
+    let made = numbered .before .before .before .before in
     let size = sized numbered in
     let entry = start size in
     let a = entry .args in
     let given = entry .pre .0 in
-    let whole : size .size-of .result + 1 - 1 ≡ size .size-of .result = omega arith in (
-      own-room (now (a .states)) (now (a .span-counts)) (now (a .spans)) (now (a .row-starts)) (now (a .sizes)) (now (a .cuts)) (now (a .lists)) (given .0) (given .1) (given .2)
-          (numbered .number-lists .last .1 .1 .1 .1 .1 .1 .0) (numbered .number-lists .last .1 .1 .1 .1 .1 .1 .1 .0) _ _ (size .size-of .ensures) whole
-          (omega (arith, entry .pre .1 .0, numbered .number-lists .kept .1 .1 .1 .1 .1 .1 .0)) (numbered .number-lists .ensures) _ (omega (arith, given .2 .few-boxes, c .before .before .before .before .before .before .before .before .before .before .before .before .before .marks .ensures)),
-      (
-        own-rows (now (a .states)) (now (a .span-counts)) (now (a .spans)) (now (a .row-starts)) (now (a .sizes)) (now (a .cuts)) (now (a .lists)) (given .0) (given .1) (given .2),
-        (
-          own-classless (now (a .states)) (now (a .span-counts)) (now (a .spans)) (now (a .row-starts)) (now (a .sizes)) (now (a .cuts)) (now (a .lists)) (given .0) (given .1) (given .2)
-              (numbered .number-lists .last .1 .1 .1 .1 .1 .1 .0) (numbered .number-lists .last .1 .1 .1 .1 .1 .1 .1 .0) _ _ (size .size-of .ensures) whole
-              (omega (arith, entry .pre .1 .0, numbered .number-lists .kept .1 .1 .1 .1 .1 .1 .0)) (numbered .number-lists .ensures),
-          omega (arith, entry .pre .1 .1, numbered .number-lists .kept .1 .1 .1 .1 .1 .0),
-        ),
-      ),
-    )
+    own-popped (now (a .states)) (now (a .span-counts)) (now (a .spans)) (now (a .row-starts)) (now (a .sizes)) (now (a .cuts)) (now (a .lists)) (given .0) (given .1) (given .2)
+    (numbers numbered) (classes numbered) _ _ (size .size-of .ensures) (whole size)
+    (omega (arith, entry .pre .1 .0, numbered .number-lists .kept .1 .1 .1 .1 .1 .1 .0)) (numbered .number-lists .ensures) _ _
+    (omega (arith, given .2 .few-boxes, made .marks .ensures)) (omega (arith, entry .pre .1 .1, numbered .number-lists .kept .1 .1 .1 .1 .1 .0))
 
 count-pages-requires : tie.Need-count-pages-requires
 count-pages-requires c κs =
@@ -67,10 +70,9 @@ count-pages-requires c κs =
     let entry = start size in
     let a = entry .args in
     let given = entry .pre .0 in
-    let whole : size .size-of .result + 1 - 1 ≡ size .size-of .result = omega arith in
     let ended = own-ended (now (a .states)) (now (a .span-counts)) (now (a .spans)) (now (a .row-starts)) (now (a .sizes)) (now (a .cuts)) (now (a .lists)) (given .0) (given .1) (given .2)
-    (numbered .number-lists .last .1 .1 .1 .1 .1 .1 .0) (numbered .number-lists .last .1 .1 .1 .1 .1 .1 .1 .0) _ _ (size .size-of .ensures) whole
-    (omega (arith, entry .pre .1 .0, numbered .number-lists .kept .1 .1 .1 .1 .1 .1 .0)) (numbered .number-lists .ensures) (numbered .number-lists .last .1 .1 .1 .1 .1 .0) _
+    (numbers numbered) (classes numbered) _ _ (size .size-of .ensures) (whole size)
+    (omega (arith, entry .pre .1 .0, numbered .number-lists .kept .1 .1 .1 .1 .1 .1 .0)) (numbered .number-lists .ensures) (pages numbered) _
     (omega (arith, entry .pre .1 .1, numbered .number-lists .kept .1 .1 .1 .1 .1 .0)) (popped .pop-pages .ensures .1) _ (popped .pop-pages .ensures .0) in
     (ended .0, omega (arith, ended .1, popped .pop-pages .kept .1 .1 .1 .1 .1 .1 .0))
 
@@ -81,10 +83,9 @@ returns c =
     let size = sized numbered in
     let entry = start size in
     let a = entry .args in
-    let whole : size .size-of .result + 1 - 1 ≡ size .size-of .result = omega arith in
     λ rs form times given commented. own-folded (now (a .states)) (now (a .span-counts)) (now (a .spans)) (now (a .row-starts)) (now (a .sizes)) (now (a .cuts)) (now (a .lists)) rs times given
-    (numbered .number-lists .last .1 .1 .1 .1 .1 .1 .0) (numbered .number-lists .last .1 .1 .1 .1 .1 .1 .1 .0) _ _ (size .size-of .ensures) whole
-    (omega (arith, entry .pre .1 .0, numbered .number-lists .kept .1 .1 .1 .1 .1 .1 .0)) (numbered .number-lists .ensures) (numbered .number-lists .last .1 .1 .1 .1 .1 .0) _
+    (numbers numbered) (classes numbered) _ _ (size .size-of .ensures) (whole size)
+    (omega (arith, entry .pre .1 .0, numbered .number-lists .kept .1 .1 .1 .1 .1 .1 .0)) (numbered .number-lists .ensures) (pages numbered) _
     (omega (arith, entry .pre .1 .1, numbered .number-lists .kept .1 .1 .1 .1 .1 .0)) (popped .pop-pages .ensures .1) _ (popped .pop-pages .ensures .0) form commented _
     (c .count-pages .ensures)
 
