@@ -1,5 +1,6 @@
 -- Groups as pages of numbers: the value, how many items each sort has, then the items' first and last values, sort after sort. Sorts count
 -- from years; dimensions go from weekdays, so that the first dimension is the last sort.
+use mathlib.Core.Path.{_≡_}
 use mathlib.Core.List.{List, [], _∷_, _++_, map, flatMap}
 use Prim.Native.Nat.{ℕ, zero, suc, _+_, _≤_, _<_}
 use lib.ListN.{length, getD}
@@ -9,6 +10,7 @@ use Rattle.grid.specs.Cut.{joined}
 use Rattle.definition.specs.Range.{Ends}
 use Rattle.definition.specs.Group.{itemsOf}
 use Rattle.paving.specs.Grid.{chosen}
+use Rattle.paving.specs.Sweep.{groupsFrom, leftFrom, TakenOut}
 use Rattle.date_items.specs.Runs.{cutOf, Cuts}
 use Rattle.tables.specs.Cuts.{intervalAt}
 use Rattle.tables.specs.Items.{endNumbers}
@@ -61,3 +63,11 @@ module _ (rows cuts sizes : List ℕ) (l : ℕ) where
   -- a page more
   unfoldable pub putPage : State → Group ℕ ℕ → State
   putPage s g = state (sets (s .pages) (s .next) (groupNumbers g)) (s .next + length (groupNumbers g))
+
+-- ## All groups
+-- THE PAGES OF ALL GROUPS of four dimensions, class after class: so many numbers, at the front of the buffer; and what becomes of the cells and the marks
+abbrev pub PopsPages : (rows cuts sizes classes cells marks pages cells′ marks′ pages′ : List ℕ) → ℕ → Type 0
+PopsPages rows cuts sizes classes cells marks pages cells′ marks′ pages′ r =
+    (r ≡ length (groupsNumbers rows cuts sizes 4 (groupsFrom cells classes sizes 5 1 4)))
+    × (pages′ ≡ sets pages 0 (groupsNumbers rows cuts sizes 4 (groupsFrom cells classes sizes 5 1 4)))
+    × TakenOut sizes 4 cells marks cells′ marks′ (groupsFrom cells classes sizes 5 1 4) (leftFrom cells classes sizes 5 1 4)

@@ -4,10 +4,9 @@ use casts::u16_to_usize;
 ghost use mathlib.Core.Path.{_≡_};
 ghost use Prim.Native.Nat.{_+_, _*_, _≤_, _<_};
 ghost use lib.ListN.{length, getD};
-ghost use lib.Seq.{sets};
 ghost use Rattle.paving.specs.Grid.{Room, sizeOf, widthOf, chosen};
 ghost use Rattle.paving.specs.Sweep.{swept, groupsFrom, emitted, leftFrom, TakenOut};
-ghost use Rattle.paving_pages.specs.Pages.{CutRows, markedItems, laidItems, state, groupNumbers, groupsNumbers, putPage};
+ghost use Rattle.paving_pages.specs.Pages.{CutRows, markedItems, laidItems, state, groupNumbers, groupsNumbers, putPage, PopsPages};
 ghost use Rattle.tables.specs.Items.{endNumbers};
 
 // Appends the items of the marked set, sort after sort, and puts how many each sort has from another place on.
@@ -221,13 +220,8 @@ pub fn pop_pages(
     requires { ⌜ Room (length (now cells)) (length (now marks)) (now sizes) 4 0 0 ⌝ }
     requires { ⌜ CutRows (now «row_starts») (now cuts) (now sizes) 4 ⌝ }
     requires { ⌜ (getD (now classes) 0 0 ≡ 0) × (13 * sizeOf (now sizes) 4 ≤ length (now pages)) ⌝ }
-    ensures { λ r. ⌜ (r ≡ length (groupsNumbers (now («row_starts» .entry)) (now (cuts .entry)) (now (sizes .entry)) 4
-        (groupsFrom (now (cells .entry)) (now (classes .entry)) (now (sizes .entry)) 5 1 4)))
-        × (now (pages .exit) ≡ sets (now (pages .entry)) 0 (groupsNumbers (now («row_starts» .entry)) (now (cuts .entry)) (now (sizes .entry)) 4
-        (groupsFrom (now (cells .entry)) (now (classes .entry)) (now (sizes .entry)) 5 1 4)))
-        × TakenOut (now (sizes .entry)) 4 (now (cells .entry)) (now (marks .entry)) (now (cells .exit)) (now (marks .exit))
-        (groupsFrom (now (cells .entry)) (now (classes .entry)) (now (sizes .entry)) 5 1 4)
-        (leftFrom (now (cells .entry)) (now (classes .entry)) (now (sizes .entry)) 5 1 4) ⌝ }
+    ensures { λ r. ⌜ PopsPages (now («row_starts» .entry)) (now (cuts .entry)) (now (sizes .entry)) (now (classes .entry)) (now (cells .entry)) (now (marks .entry)) (now (pages .entry))
+        (now (cells .exit)) (now (marks .exit)) (now (pages .exit)) r ⌝ }
 {
     pop_classes(
         cells,

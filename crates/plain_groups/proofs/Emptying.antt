@@ -9,7 +9,8 @@ use native.Mathlib.Nat.{mul-le-mul-right}
 use lib.Dec.{eqb, ltb}
 use lib.ListN.{length, getD, set}
 use lib.Seq.{getD-set-same, getD-set-other}
-use borrow.Author.Tests.{eqb-true, eqb-false, ltb-true, ltb-false}
+use borrow.Author.Count.{below-more}
+use borrow.Author.Tests.{eqb-true, eqb-false, ltb-true}
 use Rattle.grid.specs.Group.{Set, inside, clear}
 use Rattle.grid.proofs.Value.{clear-value}
 use Rattle.paving.specs.Grid.{sizeOf, grid, chosen, Cleared}
@@ -33,15 +34,10 @@ module _ (sizes marks : List ℕ) (l : ℕ) (cells : List ℕ) where
       → getD after₁ end 0 ≡ cond (boxMarked sizes marks end l 0) 0 (getD after end 0) → ((box : ℕ) → (box ≡ end → ⊥) → getD after₁ box 0 ≡ getD after box 0)
       → EmptiedBefore sizes marks l cells after₁ (end + 1)
   emptied-more after after₁ end h here others = record {
-    passed = λ box lt. go box lt (ltb box end) refl;
+    passed = below-more (λ box. getD after₁ box 0 ≡ cond (boxMarked sizes marks box l 0) 0 (getD cells box 0)) end (λ box lt. others box (omega arith) ∙ h .passed box lt)
+        (here ∙ ap (cond (boxMarked sizes marks end l 0) 0) (h .later end (omega arith)));
     later = λ box le. others box (omega arith) ∙ h .later box (omega arith);
   }
-    where
-      go : (box : ℕ) → box < end + 1 → (t : Bool) → ltb box end ≡ t → getD after₁ box 0 ≡ cond (boxMarked sizes marks box l 0) 0 (getD cells box 0)
-      go box lt true t = let low = ltb-true box end t in others box (omega arith) ∙ h .passed box low
-      go box lt false t =
-          let z : box ≡ end = omega (arith, ltb-false box end t) in
-          rw z (here ∙ ap (cond (boxMarked sizes marks end l 0) 0) (h .later end (omega arith)))
 
   module _ (after after₁ : List ℕ) (end : ℕ) (b : Bool) (h : EmptiedBefore sizes marks l cells after end) (m : b ≡ boxMarked sizes marks end l 0) where
     pub emptied-in : b ≡ true → end < length after → after₁ ≡ set after end 0 → EmptiedBefore sizes marks l cells after₁ (end + 1)

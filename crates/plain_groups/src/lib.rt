@@ -13,10 +13,9 @@ use paving_pages::put_page;
 ghost use mathlib.Core.Path.{_≡_};
 ghost use Prim.Native.Nat.{_+_, _*_, _≤_};
 ghost use lib.ListN.{length, getD};
-ghost use lib.Seq.{sets};
 ghost use Rattle.paving.specs.Grid.{Room, sizeOf};
-ghost use Rattle.paving.specs.Sweep.{swept, groupsFrom, emitted, leftFrom, TakenOut};
-ghost use Rattle.paving_pages.specs.Pages.{CutRows, state, groupsNumbers, putPage};
+ghost use Rattle.paving.specs.Sweep.{swept, emitted, TakenOut};
+ghost use Rattle.paving_pages.specs.Pages.{CutRows, state, groupsNumbers, putPage, PopsPages};
 
 // "While a point matches": the first box of the class, its group, and on to the next box. Each group is appended as a page and emptied.
 fn pop_class(
@@ -67,13 +66,8 @@ pub fn pop_pages(
     requires { ⌜ Room (length (now cells)) (length (now marks)) (now sizes) 4 0 0 ⌝ }
     requires { ⌜ CutRows (now «row_starts») (now cuts) (now sizes) 4 ⌝ }
     requires { ⌜ (getD (now classes) 0 0 ≡ 0) × (13 * sizeOf (now sizes) 4 ≤ length (now pages)) ⌝ }
-    ensures { λ r. ⌜ (r ≡ length (groupsNumbers (now («row_starts» .entry)) (now (cuts .entry)) (now (sizes .entry)) 4
-        (groupsFrom (now (cells .entry)) (now (classes .entry)) (now (sizes .entry)) 5 1 4)))
-        × (now (pages .exit) ≡ sets (now (pages .entry)) 0 (groupsNumbers (now («row_starts» .entry)) (now (cuts .entry)) (now (sizes .entry)) 4
-        (groupsFrom (now (cells .entry)) (now (classes .entry)) (now (sizes .entry)) 5 1 4)))
-        × TakenOut (now (sizes .entry)) 4 (now (cells .entry)) (now (marks .entry)) (now (cells .exit)) (now (marks .exit))
-        (groupsFrom (now (cells .entry)) (now (classes .entry)) (now (sizes .entry)) 5 1 4)
-        (leftFrom (now (cells .entry)) (now (classes .entry)) (now (sizes .entry)) 5 1 4) ⌝ }
+    ensures { λ r. ⌜ PopsPages (now («row_starts» .entry)) (now (cuts .entry)) (now (sizes .entry)) (now (classes .entry)) (now (cells .entry)) (now (marks .entry)) (now (pages .entry))
+        (now (cells .exit)) (now (marks .exit)) (now (pages .exit)) r ⌝ }
 {
     let mut next = 0;
     let mut class: u8 = 1;
