@@ -42,3 +42,26 @@ wrote-as {old} {xs} {ys} {out} {at} {next} e w = subst (λ new. Wrote old at new
 -- nothing written
 pub wrote-none : {old new : List ℕ} {at : ℕ} → new ≡ [] → Wrote old at new old at
 wrote-none {old} {new} {at} e = wrote-as e (record { behind = let z : at ≡ at + 0 = omega arith in z; stored = refl })
+
+-- ## Writers in a loop: `rest` is still to be written, behind what stands in `out`
+pub record Still (old : List ℕ) (at : ℕ) (all out : List ℕ) (next : ℕ) (rest : List ℕ) : Type 0 where
+  pub size : length out ≡ length old
+  pub room : RoomFor (length out) next rest
+  -- written there, it leaves what all of it leaves
+  pub whole : (final : List ℕ) (end : ℕ) → Wrote out next rest final end → Wrote old at all final end
+
+pub still-all : {old all : List ℕ} {at : ℕ} → RoomFor (length old) at all → Still old at all old at all
+still-all r = record { size = refl; room = r; whole = λ final end w. w }
+
+module _ {old all out rest : List ℕ} {at next : ℕ} (still : Still old at all out next rest) where
+  -- some of it written
+  pub still-next : {xs ys mid : List ℕ} {place : ℕ} → rest ≡ xs ++ ys → Wrote out next xs mid place → Still old at all mid place ys
+  still-next {xs} {ys} e first = record {
+    size = same-size first ∙ still .size;
+    room = room-rest first ys (room-as e (still .room));
+    whole = λ final end w. still .whole final end (wrote-as e (wrote-then first w));
+  }
+
+  -- all of it written
+  pub still-none : rest ≡ [] → Wrote old at all out next
+  still-none e = still .whole out next (wrote-none e)

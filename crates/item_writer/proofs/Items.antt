@@ -2,16 +2,26 @@
 use mathlib.Core.Path.{_≡_, sym, ap, _∙_}
 use mathlib.Core.List.{_++_, append-assoc, append-nil}
 use mathlib.Core.Bool.{true, _&&_}
-use Prim.Native.Nat.{ℕ, _-_, _/_, _%_, _^_, _≤_, _<_}
+use Prim.Native.Nat.{ℕ, _+_, _-_, _*_, _/_, _%_, _^_, _≤_, _<_}
+use native.Mathlib.Omega.{arith}
 use lib.Dec.{eqb, leb, ltb}
 use borrow.Author.Tests.{ltb-true, lt-ltb, le-ltb, ne-eqb}
 use Rattle.laws.proofs.Flags.{split-and}
 use Rattle.definition.specs.Field.{bits, Layout, field, plain, noBits, _then_, via, tagged}
+use Rattle.definition.specs.Day.{simple}
 use Rattle.definition.specs.Rule.{bySize}
 use Rattle.definition.specs.Sheet.{weekdayOf, weekDayRange, timeOf, time, repeatsOf, flagBit, repeatsLayout, span}
 use Rattle.codes.specs.Number.{timeAt, repeatsAt, spanAt}
 use Rattle.codes.proofs.Numbers.{flag-number}
+use Rattle.codes.proofs.Laws.{simple-bounds}
+use Rattle.writer.proofs.Bytes.{bits-joined}
 use Rattle.item_writer.specs.Written.{daysFrom}
+
+-- a number behind a flag that is 0
+flagged : (width n : ℕ) → n < 2 ^ width → bits 1 0 ++ bits width n ≡ bits (1 + width) n
+flagged width n h =
+    let same : 0 * 2 ^ width + n ≡ n = omega arith in
+    bits-joined 1 width 0 n (omega arith) h ∙ ap (bits (1 + width)) same
 
 -- ## Weekdays
 pub days-bits : (a b : ℕ) → weekDayRange .write (daysFrom a b) ≡ (bits 1 0 ++ (bits 3 a ++ bits 3 b)) ++ (bits 16 0 ++ (bits 5 31 ++ bits 5 31))
@@ -19,6 +29,14 @@ unfolding weekDayRange weekdayOf tagged via _then_ field
 days-bits a b =
     let rest = bits 16 0 ++ (bits 5 31 ++ bits 5 31) in
     sym (append-assoc (bits 1 0) (bits 3 a ++ bits 3 b) rest ∙ ap (bits 1 0 ++_) (append-assoc (bits 3 a) (bits 3 b) rest))
+
+-- in three parts
+pub days-joined : (a b : ℕ) → a < 7 → b < 7 → (n : ℕ) → n ≡ a * 2 ^ 3 + b → weekDayRange .write (daysFrom a b) ≡ bits 7 n ++ (bits 16 0 ++ bits 10 1023)
+unfolding bits
+days-joined a b h l n made =
+    days-bits a b
+    ∙ ap (_++ (bits 16 0 ++ bits 10 1023))
+    (ap (bits 1 0 ++_) (bits-joined 3 3 a b (omega arith) (omega arith)) ∙ flagged 6 (a * 2 ^ 3 + b) (omega arith) ∙ ap (bits 7) (sym made))
 
 -- ## Times
 module _ (n : ℕ) (early : n < 262144) where
@@ -77,3 +95,13 @@ module _ (n s e : ℕ) (starts : s ≡ n / 8589934592) (ends : e ≡ n / 16384 %
         rw ends (second .0),
         split-and ((plain 1) .fits (flagBit (eqb (n / 8192 % 2) 1))) (repeatsLayout .fits (repeatsAt (n % 8192))) (second .1) .1,
       )
+
+  -- a simple span: two times whose tags are 0, and two flags that are 0
+  pub simple-bits : simple (spanAt n) ≡ true → span .write (spanAt n) ≡ bits 13 s ++ (bits 13 e ++ bits 2 0)
+  simple-bits h =
+      let within = simple-bounds n h in
+      let timed : (t : ℕ) → t ≤ 1440 → time .write (timeAt t) ≡ bits 13 t =
+      λ t l. fixed-bits t (omega arith) ∙ flagged 12 t (omega arith) in
+      let shut : n / 8192 % 2 ≡ 0 = omega (arith, within) in
+      span-bits
+      ∙ rw (timed s (omega (arith, within, starts, ends)), timed e (omega (arith, within, ends)), shut, no-repeats (n % 8192) (omega (arith, within)), flagged 1 0 (omega arith))

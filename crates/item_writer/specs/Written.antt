@@ -11,7 +11,7 @@ use Rattle.definition.specs.Stop.{everyNth}
 
 -- a number that a field of some bits can carry
 abbrev pub Fits : ℕ → ℕ → Type 0
-Fits width value = (width ≤ 32) × (value < 2 ^ width)
+Fits width value = (width ≤ 56) × (value < 2 ^ width)
 
 -- a buffer of so many bytes has room for some bits from a place on, and places fit a machine word
 pub record RoomFor (size at : ℕ) (new : List ℕ) : Type 0 where

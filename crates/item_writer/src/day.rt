@@ -1,6 +1,7 @@
 // Writes the items of days: years, months, weeks and weekdays.
 use crate::put::put_three;
 use field::width;
+use writer::joined;
 ghost use Prim.Native.Nat.{_<_};
 ghost use lib.ListN.{length};
 ghost use Rattle.definition.specs.Field.{Layout};
@@ -13,7 +14,8 @@ const STEP: u64 = 1;
 
 const OFFSET: u64 = 0;
 
-const EVERY_NTH: u64 = 31;
+// Two sets of five bits.
+const EVERY_NTHS: u64 = 1023;
 
 // "Year: start 14, end 14 (each 1900 to 9999), step 16 (from 1)."
 pub fn put_years(out: &mut [u8], at: usize, start: u64, end: u64) -> usize
@@ -75,24 +77,14 @@ pub fn put_weekdays(out: &mut [u8], at: usize, start: u64, end: u64) -> usize
     requires { ⌜ RoomFor (length (now out)) at (weekDayRange .write (daysFrom start end)) ⌝ }
     ensures { λ r. ⌜ Wrote (now (out .entry)) at (weekDayRange .write (daysFrom start end)) (now (out .exit)) r ⌝ }
 {
-    let offset_at = put_three(
-        out,
-        at,
-        width::FLAG,
-        0,
-        width::WEEKDAY,
-        start,
-        width::WEEKDAY,
-        end,
-    );
     put_three(
         out,
-        offset_at,
+        at,
+        width::FLAG + width::WEEKDAY + width::WEEKDAY,
+        joined(start, width::WEEKDAY, end),
         width::OFFSET,
         OFFSET,
-        width::NTH,
-        EVERY_NTH,
-        width::NTH,
-        EVERY_NTH,
+        width::NTH + width::NTH,
+        EVERY_NTHS,
     )
 }

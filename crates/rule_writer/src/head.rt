@@ -5,8 +5,8 @@ use field::width;
 use forms::Form;
 use forms::comment_width;
 use forms::item_count_width;
-use item_writer::put::put;
 use item_writer::put::put_three;
+use item_writer::put::put_two;
 ghost use Prim.Native.Nat.{_≤_, _<_, _^_};
 ghost use lib.ListN.{length};
 ghost use Rattle.definition.specs.Field.{Layout};
@@ -53,6 +53,12 @@ pub fn put_counts(form: Form, out: &mut [u8], at: usize, item_counts: &[u16], sp
         width,
         u16_to_u64(item_counts[2]),
     );
-    let spans_at = put(out, weekdays_at, width, u16_to_u64(item_counts[3]));
-    put(out, spans_at, width, spans)
+    put_two(
+        out,
+        weekdays_at,
+        width,
+        u16_to_u64(item_counts[3]),
+        width,
+        spans,
+    )
 }

@@ -15,7 +15,7 @@ ghost use Rattle.definition.specs.Field.{Layout};
 ghost use Rattle.definition.specs.Sheet.{span};
 ghost use Rattle.item_writer.specs.Written.{RoomFor, Wrote};
 ghost use Rattle.rule_writer.specs.Rows.{itemBits, rowBits, rowsBits, spansAt};
-ghost use Rattle.tables.specs.Items.{upperOf, Below, endsAt, Rows, rowPlace};
+ghost use Rattle.tables.specs.Items.{upperOf, Below, endsAt, Rows};
 ghost use Rattle.tables.specs.Days.{FitsSpan};
 
 // An item of a sort: 0 years, 1 months, 2 weeks, 3 weekdays.
@@ -46,46 +46,39 @@ pub fn put_row(
     requires { ⌜ RoomFor (length (now out)) at (rowBits sort (endsAt (now ends) place «item_count»)) ⌝ }
     ensures { λ r. ⌜ Wrote (now (out .entry)) at (rowBits sort (endsAt (now (ends .entry)) place «item_count»)) (now (out .exit)) r ⌝ }
 {
-    if item_count == 0 {
-        return at;
+    let mut next = at;
+    let mut from = place;
+    let mut items_left = item_count;
+    while items_left > 0 {
+        next = put_item(
+            out,
+            next,
+            sort,
+            u16_to_u64(ends[from]),
+            u16_to_u64(ends[from + 1]),
+        );
+        from += 2;
+        items_left -= 1;
     }
-    let next = put_item(
-        out,
-        at,
-        sort,
-        u16_to_u64(ends[place]),
-        u16_to_u64(ends[place + 1]),
-    );
-    put_row(out, next, sort, ends, place + 2, item_count - 1)
+    next
 }
 
-// Writes the rows of the sorts from `sort` on, whose ends stand from `place` on.
-pub fn put_rows(
-    out: &mut [u8],
-    at: usize,
-    ends: &[u16],
-    item_counts: &[u16],
-    sort: usize,
-    place: usize,
-) -> usize
+// Writes the rows of the four sorts, one behind the other.
+pub fn put_rows(out: &mut [u8], at: usize, ends: &[u16], item_counts: &[u16]) -> usize
     requires { ⌜ Rows (now ends) (now «item_counts») ⌝ }
-    requires { ⌜ (sort ≤ 4) × (place ≡ rowPlace (now «item_counts») sort) ⌝ }
-    requires { ⌜ RoomFor (length (now out)) at (rowsBits (now ends) (now «item_counts») sort) ⌝ }
-    ensures { λ r. ⌜ Wrote (now (out .entry)) at (rowsBits (now (ends .entry)) (now («item_counts» .entry)) sort) (now (out .exit)) r ⌝ }
+    requires { ⌜ RoomFor (length (now out)) at (rowsBits (now ends) (now «item_counts») 0) ⌝ }
+    ensures { λ r. ⌜ Wrote (now (out .entry)) at (rowsBits (now (ends .entry)) (now («item_counts» .entry)) 0) (now (out .exit)) r ⌝ }
 {
-    if sort == 4 {
-        return at;
+    let mut next = at;
+    let mut place: usize = 0;
+    let mut sort: usize = 0;
+    while sort < 4 {
+        let item_count = u16_to_usize(item_counts[sort]);
+        next = put_row(out, next, sort, ends, place, item_count);
+        place += 2 * item_count;
+        sort += 1;
     }
-    let item_count = u16_to_usize(item_counts[sort]);
-    let next = put_row(out, at, sort, ends, place, item_count);
-    put_rows(
-        out,
-        next,
-        ends,
-        item_counts,
-        sort + 1,
-        place + 2 * item_count,
-    )
+    next
 }
 
 // Writes `span_count` spans, whose numbers stand from `first` on.
@@ -95,9 +88,13 @@ pub fn put_spans(out: &mut [u8], at: usize, spans: &[u64], first: usize, span_co
     requires { ⌜ RoomFor (length (now out)) at (flatMap (span .write) (spansAt (now spans) first «span_count»)) ⌝ }
     ensures { λ r. ⌜ Wrote (now (out .entry)) at (flatMap (span .write) (spansAt (now (spans .entry)) first «span_count»)) (now (out .exit)) r ⌝ }
 {
-    if span_count == 0 {
-        return at;
+    let mut next = at;
+    let mut from = first;
+    let mut spans_left = span_count;
+    while spans_left > 0 {
+        next = put_span(out, next, spans[from]);
+        from += 1;
+        spans_left -= 1;
     }
-    let next = put_span(out, at, spans[first]);
-    put_spans(out, next, spans, first + 1, span_count - 1)
+    next
 }

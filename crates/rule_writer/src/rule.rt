@@ -36,6 +36,6 @@ pub fn put_rule(
 {
     let counts_at = put_title(form, out, at, operator, state);
     let rows_at = put_counts(form, out, counts_at, item_counts, span_count as u64);
-    let spans_at = put_rows(out, rows_at, ends, item_counts, 0, 0);
+    let spans_at = put_rows(out, rows_at, ends, item_counts);
     put_spans(out, spans_at, spans, first, span_count)
 }

@@ -3,19 +3,18 @@
 use mathlib.Core.Path.{_≡_, sym, ap, ap₂, _∙_, subst}
 use mathlib.Core.List.{List, _∷_, _++_, flatMap, append-assoc}
 use Prim.Native.Nat.{ℕ, suc, _+_, _*_, _-_, _/_, _%_, _^_, _≤_, _<_}
-use native.Mathlib.Nat.{mod-lt}
+use native.Mathlib.Nat.{mod-lt, mul-le-mul-right}
 use native.Mathlib.Omega.{arith}
-use lib.ListN.{length, set, take, drop, length-append, take-append-drop}
+use lib.ListN.{length, set, take, drop, getD, length-append, take-append-drop}
 use lib.Seq.{sets, sets-eq, set-split, take-add, drop-drop}
-use lib.Pow.{pow-pos, shr-lt, split, mod-mod-pow}
-use Rattle.laws.proofs.Lists.{All-append}
+use lib.Pow.{pow-add, pow-pos, shr-lt, split, high, low}
+use Rattle.laws.proofs.Lists.{All-append, All-at}
 use Rattle.laws.proofs.Spread.{flatMap-append}
 use Rattle.laws.proofs.Stores.{sets-behind}
 use Rattle.definition.specs.Field.{bits, number, sheetBits, fieldAt}
 use Rattle.definition.proofs.Bits.{Bits, Bytes, length-bits, number-bits, number-below, bits-number, bits-are-bits, Bits-take, Bits-drop, sheet-bits, length-sheetBits}
-use Rattle.field.proofs.FieldAt.{number-append, field-length, field-front, field-back}
-use Rattle.field.proofs.Bytes.{take-bytes, drop-bytes, first, past, behind, spelled, spanned-bits, spanned-place}
-use Rattle.writer.specs.Number.{numberWith}
+use Rattle.field.proofs.FieldAt.{number-append, field-none, field-length, field-front, field-back}
+use Rattle.field.proofs.Bytes.{take-bytes, drop-bytes, bytes-more, first, past, behind, spanned-bits, spanned-place}
 
 -- ## A number by its bits
 by-bits : (bs : List ℕ) → Bits bs → (n v : ℕ) → length bs ≡ n → number bs ≡ v → (bits n v ≡ bs) × (v < 2 ^ n)
@@ -59,17 +58,26 @@ rest-below first index rest l few =
     let n : 8 * (index - first) ≡ 8 * (index - 1 - first) + 8 = omega arith in
     shr-lt (8 * (index - 1 - first)) 8 (subst (λ k. rest < 2 ^ k) n few)
 
-pub stored-all : (s : List ℕ) (first index rest : ℕ) → index ≤ first → s ≡ sets s (8 * first) (bits (8 * (index - first)) rest)
+-- a number in no bits
+pub none-stored : (s : List ℕ) (at width value : ℕ) → width ≡ 0 → s ≡ sets s at (bits width value)
 unfolding bits
-stored-all s first index rest l = let z : 8 * (index - first) ≡ 0 = omega arith in sym (ap (λ k. sets s (8 * first) (bits k rest)) z)
+none-stored s at width value z = sym (ap (λ k. sets s at (bits k value)) z)
+
+-- ## Two numbers as one
+pub joined-below : {high low : ℕ} (j k : ℕ) → high < 2 ^ j → low < 2 ^ k → high * 2 ^ k + low < 2 ^ (j + k)
+joined-below {high} {low} j k h l =
+    let most : suc high * 2 ^ k ≤ 2 ^ j * 2 ^ k = mul-le-mul-right (2 ^ k) h in
+    omega (arith, pow-add 2 j k)
+
+pub bits-joined : (a b x y : ℕ) → x < 2 ^ a → y < 2 ^ b → bits a x ++ bits b y ≡ bits (a + b) (x * 2 ^ b + y)
+bits-joined a b x y h l =
+    sym (bits-split a b (x * 2 ^ b + y) (joined-below a b h l) ∙ ap₂ (λ u v. bits a u ++ bits b v) (high x b l) (low x b l))
 
 -- ## A value among bits: `before` bits stand before it, `behind` bits behind it
 module _ (s : List ℕ) (o : Bits s) (p before width behind value : ℕ) (h : p + (before + (width + behind)) ≤ length s) (fits : value < 2 ^ width) where
-  abbrev old : ℕ
-  old = fieldAt s p (before + (width + behind))
-
+  -- all of them as one number
   abbrev new : ℕ
-  new = numberWith old (width + behind) behind value
+  new = (fieldAt s p before * 2 ^ width + value) * 2 ^ behind + fieldAt s (p + before + width) behind
 
   abbrev kept : List ℕ
   kept = take before (drop p s)
@@ -94,20 +102,11 @@ module _ (s : List ℕ) (o : Bits s) (p before width behind value : ℕ) (h : p 
   )
 
   row-number : number (kept ++ (stored ++ after)) ≡ new
-  unfolding fieldAt numberWith
+  unfolding fieldAt
   row-number =
-      let back = sym (mod-mod-pow old width behind) ∙ ap (_% 2 ^ behind) (field-back s o p before (width + behind) h) ∙ field-back s o (p + before)
-      width behind (omega arith) in
       number-append kept (stored ++ after)
-      ∙ rw (
-        number-append stored after,
-        length-append stored after,
-        length-bits width value,
-        after-length,
-        number-bits width value fits,
-        field-front s o p before (width + behind) h,
-        back,
-      )
+      ∙ rw (number-append stored after, length-append stored after, length-bits width value, after-length, number-bits width value fits, pow-add 2 width behind)
+      (omega arith)
 
   with-parts : (bits (before + (width + behind)) new ≡ kept ++ (stored ++ after)) × (new < 2 ^ (before + (width + behind)))
   with-parts =
@@ -132,25 +131,56 @@ module _ (s : List ℕ) (o : Bits s) (p before width behind value : ℕ) (h : p 
       ∙ ap₂ (λ u v. u ++ stored ++ v) (sym (take-add p before s)) tail
       ∙ sym (sets-eq stored s (p + before) (omega (arith, length-bits width value)))
 
--- ## In the bytes that a field spans, in the code's numbers: `old` is taken from them, `number` is made of it
-module _ (s : List ℕ) (o : Bytes s) (at width value : ℕ) (h : at + width ≤ 8 * length s) (fits : value < 2 ^ width)
-    (old number : ℕ) (taken : old ≡ spelled at width s) (made : number ≡ numberWith old (behind at width + width) (behind at width) value) where
-  in-parts : number ≡ numberWith (fieldAt (sheetBits s) (8 * first at width) (at % 8 + (width + behind at width))) (width + behind at width)
-      (behind at width) value
-  in-parts =
-      let from : behind at width + width ≡ width + behind at width = omega arith in
-      made ∙ ap₂ (λ n k. numberWith n k (behind at width) value) (taken ∙ ap (fieldAt (sheetBits s) (8 * first at width)) (sym (spanned-bits at width))) from
+-- ## In the bytes that a field spans, in the code's numbers: the first byte has the bits before it, the last one those behind it
+module _ (s : List ℕ) (o : Bytes s) where
+  byte-field : (i : ℕ) → i < length s → fieldAt (sheetBits s) (8 * i) 8 ≡ getD s i 0
+  byte-field i h =
+      let one : 8 * (i + 1 - i) ≡ 8 = omega arith in
+      let none : 8 * (i - i) ≡ 0 = omega arith in
+      ap (fieldAt (sheetBits s) (8 * i)) (sym one) ∙ bytes-more s o i i (omega arith) h ∙ rw (none, field-none) (omega arith)
 
-  all-bits : 8 * first at width + (at % 8 + (width + behind at width)) ≤ length (sheetBits s)
-  all-bits = omega (arith, length-sheetBits s)
+  module _ (at width value : ℕ) (h : at + width ≤ 8 * length s) (some : 0 < width) (fits : value < 2 ^ width) where
+    -- before it there are fewer bits than fill the byte
+    pub before-below : getD s (first at width) 0 / 2 ^ (8 - at % 8) < 2 ^ (at % 8)
+    before-below =
+        let n : 8 ≡ at % 8 + (8 - at % 8) = omega arith in
+        shr-lt (at % 8) (8 - at % 8) (subst (λ k. getD s (first at width) 0 < 2 ^ k) n (All-at _ s 0 o (first at width) (omega arith)))
 
-  pub spanned-below : number < 2 ^ (8 * (past at width - first at width))
-  spanned-below =
-      subst (λ n. number < 2 ^ n) (spanned-bits at width)
-      (rw in-parts (with-parts (sheetBits s) (sheet-bits s o) (8 * first at width) (at % 8) width (behind at width) value all-bits fits .1))
+    kept-before : fieldAt (sheetBits s) (8 * first at width) (at % 8) ≡ getD s (first at width) 0 / 2 ^ (8 - at % 8)
+    kept-before =
+        let n : at % 8 + (8 - at % 8) ≡ 8 = omega arith in
+        sym (field-front (sheetBits s) (sheet-bits s o) (8 * first at width) (at % 8) (8 - at % 8) (omega (arith, length-sheetBits s)))
+        ∙ ap (λ k. fieldAt (sheetBits s) (8 * first at width) k / 2 ^ (8 - at % 8)) n ∙ ap (_/ 2 ^ (8 - at % 8)) (byte-field (first at width) (omega arith))
 
-  pub spanned-stored : sets (sheetBits s) (8 * first at width) (bits (8 * (past at width - first at width)) number) ≡ sets (sheetBits s) at (bits width value)
-  spanned-stored =
-      ap₂ (λ n x. sets (sheetBits s) (8 * first at width) (bits n x)) (sym (spanned-bits at width)) in-parts
-      ∙ with-stored (sheetBits s) (sheet-bits s o) (8 * first at width) (at % 8) width (behind at width) value all-bits fits
-      ∙ ap (λ q. sets (sheetBits s) q (bits width value)) (spanned-place at width)
+    kept-behind : fieldAt (sheetBits s) (8 * first at width + at % 8 + width) (behind at width) ≡ getD s (past at width - 1) 0 % 2 ^ behind at width
+    kept-behind =
+        let last = past at width - 1 in
+        let n : 8 - behind at width + behind at width ≡ 8 = omega arith in
+        let inside : past at width - 1 < length s = omega arith in
+        let whole : 8 * (past at width - 1) + 8 ≤ length (sheetBits s) = omega (arith, length-sheetBits s, inside) in
+        let q : 8 * (past at width - 1) + (8 - behind at width) ≡ 8 * first at width + at % 8 + width = omega arith in
+        ap (λ k. fieldAt (sheetBits s) k (behind at width)) (sym q)
+        ∙ sym (field-back (sheetBits s) (sheet-bits s o) (8 * last) (8 - behind at width) (behind at width) (rw n whole))
+        ∙ ap (λ k. fieldAt (sheetBits s) (8 * last) k % 2 ^ behind at width) n ∙ ap (_% 2 ^ behind at width) (byte-field last inside)
+
+    all-bits : 8 * first at width + (at % 8 + (width + behind at width)) ≤ length (sheetBits s)
+    all-bits = omega (arith, length-sheetBits s)
+
+    -- the number that is stored in them
+    module _ (number : ℕ)
+        (made : number ≡ (getD s (first at width) 0 / 2 ^ (8 - at % 8) * 2 ^ width + value) * 2 ^ behind at width + getD s (past at width - 1) 0 % 2 ^ behind at width) where
+      in-parts : number
+          ≡ (fieldAt (sheetBits s) (8 * first at width) (at % 8) * 2 ^ width + value) * 2 ^ behind at width
+          + fieldAt (sheetBits s) (8 * first at width + at % 8 + width) (behind at width)
+      in-parts = rw (kept-before, kept-behind) made
+
+      pub spanned-below : number < 2 ^ (8 * (past at width - first at width))
+      spanned-below =
+          subst (λ n. number < 2 ^ n) (spanned-bits at width)
+          (rw in-parts (with-parts (sheetBits s) (sheet-bits s o) (8 * first at width) (at % 8) width (behind at width) value all-bits fits .1))
+
+      pub spanned-stored : sets (sheetBits s) (8 * first at width) (bits (8 * (past at width - first at width)) number) ≡ sets (sheetBits s) at (bits width value)
+      spanned-stored =
+          ap₂ (λ n x. sets (sheetBits s) (8 * first at width) (bits n x)) (sym (spanned-bits at width)) in-parts
+          ∙ with-stored (sheetBits s) (sheet-bits s o) (8 * first at width) (at % 8) width (behind at width) value all-bits fits
+          ∙ ap (λ q. sets (sheetBits s) q (bits width value)) (spanned-place at width)

@@ -1,12 +1,12 @@
 // Bits written into a lent buffer: a field, bits copied from a sheet to any offset. What a buffer then holds is said of its
 // bits: `sets` stores a row of them from a place on, and every other bit stays.
+use casts::u8_to_u64;
 use field::low_bits;
 ghost use mathlib.Core.Path.{_≡_};
 ghost use Prim.Native.Nat.{_+_, _*_, _-_, _%_, _≤_, _<_, _^_};
 ghost use lib.ListN.{length, take, drop};
 ghost use lib.Seq.{sets};
 ghost use Rattle.definition.specs.Field.{bits, sheetBits};
-ghost use Rattle.writer.specs.Number.{numberWith};
 
 fn smaller(x: usize, y: usize) -> usize
     ensures { λ r. ⌜ (r ≤ x) × (r ≤ y) × (0 < x → 0 < y → 0 < r) ⌝ }
@@ -14,12 +14,12 @@ fn smaller(x: usize, y: usize) -> usize
     if x < y { x } else { y }
 }
 
-// A number with another one in place of those of its last `from` bits that aren't among its last `to`.
-fn number_with(old: u64, from: usize, to: usize, value: u64) -> u64
-    requires { ⌜ (to ≤ from) × (from ≤ 40) × (old < 2 ^ 40) × (value < 2 ^ (from - to)) ⌝ }
-    ensures { λ r. ⌜ r ≡ numberWith old from to value ⌝ }
+// Two numbers as one: the bits of the first, then those of the second, which are `width`.
+pub fn joined(high: u64, width: usize, low: u64) -> u64
+    requires { ⌜ (width < 64) × (high < 2 ^ (64 - width)) × (low < 2 ^ width) ⌝ }
+    ensures { λ r. ⌜ r ≡ high * 2 ^ width + low ⌝ }
 {
-    (old - low_bits(old, from)) + (value << to) + low_bits(old, to)
+    (high << width) + low
 }
 
 // A number in whole bytes, from the byte `first` up to `past`: the last byte first, which holds the number's last bits.
@@ -36,21 +36,26 @@ fn put_bytes(out: &mut [u8], first: usize, past: usize, number: u64)
     }
 }
 
-// A number in `width` bits: the whole bytes which they span are taken, and stored with the number in its place.
+// A number in `width` bits. What stands before it in its first byte and behind it in its last one is stored again with it; the bytes in between are its
+// own, so nothing is read there: a byte that was just written would have to be waited for.
 pub fn put_field(out: &mut [u8], at: usize, width: usize, value: u64)
-    requires { ⌜ (width ≤ 32) × (at < 2 ^ 62) × (at + width ≤ 8 * length (now out)) × (value < 2 ^ width) ⌝ }
+    requires { ⌜ (width ≤ 56) × (at < 2 ^ 62) × (at + width ≤ 8 * length (now out)) × (value < 2 ^ width) ⌝ }
     ensures { λ _. ⌜ sheetBits (now (out .exit)) ≡ sets (sheetBits (now (out .entry))) at (bits width value) ⌝ }
 {
+    if width == 0 {
+        return;
+    }
     let end = at + width;
     let first = at / 8;
     let past = (end + 7) / 8;
-    let to = 8 * past - end;
-    let spanned = field::bytes_at(out, first, past);
+    let behind = 8 * past - end;
+    let kept = u8_to_u64(out[first]) >> (8 - at % 8);
+    let after = low_bits(u8_to_u64(out[past - 1]), behind);
     put_bytes(
         out,
         first,
         past,
-        number_with(spanned, to + width, to, value),
+        joined(joined(kept, width, value), behind, after),
     );
 }
 

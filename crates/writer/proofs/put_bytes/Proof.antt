@@ -7,7 +7,7 @@ use lib.ListN.{length, length-set}
 use lib.Seq.{sets}
 use borrow.Author.Needs.{needs}
 use Rattle.definition.specs.Field.{bits, sheetBits}
-use Rattle.writer.proofs.Bytes.{last-byte, rest-below, stored-all}
+use Rattle.writer.proofs.Bytes.{last-byte, rest-below, none-stored}
 use Rattle.writer.proofs.put_bytes.Statement.{statement}
 use Rattle.writer.proofs.put_bytes.Tie as tie
 
@@ -34,7 +34,7 @@ loop-again c =
 returns : tie.Need-returns Inv-loop μ-loop
 returns c =
     let loop = c .before .loop in
-    stored-all (sheetBits (loop .out)) (c .before .before .args .first) (loop .index) (loop .rest) (omega arith) ∙ loop .inv .3
+    none-stored (sheetBits (loop .out)) (8 * c .before .before .args .first) _ (loop .rest) (omega arith) ∙ loop .inv .3
 
 pub put-bytes-spec : {M : Type 1} → statement M
 put-bytes-spec =

@@ -11,7 +11,7 @@ unfolding yearRange via _then_ field
 put-three-requires c κs =
     let entry = c .before .before in
     let pre = entry .pre in
-    (((omega arith, omega (arith, pre .0)), (omega arith, omega (arith, pre .0)), (omega arith, omega arith)), pre .1)
+    (((omega arith, omega (arith, pre .0)), (omega arith, omega (arith, pre .0)), (omega arith, omega arith), omega arith), pre .1)
 
 returns : tie.Need-returns
 unfolding yearRange via _then_ field

@@ -1,33 +1,26 @@
 -- `item_writer::time::put_time` meets its contract, fixed and variable.
 use native.Mathlib.Omega.{arith}
 use borrow.Author.Needs.{needs}
-use Rattle.item_writer.proofs.Chain.{wrote-then, room-first, room-rest, room-as, wrote-as}
+use Rattle.item_writer.proofs.Chain.{room-as, wrote-as}
 use Rattle.item_writer.proofs.Items.{fixed-bits, fixed-low, variable-bits, variable-low}
 use Rattle.item_writer.proofs.time.put_time.Statement.{statement}
 use Rattle.item_writer.proofs.time.put_time.Tie as tie
 
-put-requires : tie.Need-put-requires
-put-requires c κs =
+put-two-requires : tie.Need-put-two-requires
+put-two-requires c κs =
     let entry = c .before .before .before in
-    ((omega arith, omega arith), room-first _ _ (room-as (fixed-bits (entry .args .number) (c .before .if1 .taken)) (entry .pre .1)))
-
-put-requires-2 : tie.Need-put-requires-2
-put-requires-2 c κs =
-    let put = c .before .before .before in
-    let if1 = put .before .before in
-    let entry = if1 .before .before in
-    let pre = entry .pre in
-    let early = if1 .if1 .taken in
-    let number = entry .args .number in
-    ((omega arith, fixed-low number early (pre .0)), room-rest (put .put .ensures) _ (room-as (fixed-bits number early) (pre .1)))
+    let early = c .before .if1 .taken in
+    let number = entry .args .number in (
+      ((omega arith, omega arith), (omega arith, fixed-low number early (entry .pre .0)), omega arith),
+      room-as (fixed-bits number early) (entry .pre .1),
+    )
 
 returns : tie.Need-returns
 returns c =
-    let put2 = c .before .before in
-    let put = put2 .before .before .before .before in
-    let if1 = put .before .before in
+    let put-two = c .before .before in
+    let if1 = put-two .before .before in
     let entry = if1 .before .before in
-    wrote-as (fixed-bits (entry .args .number) (if1 .if1 .taken)) (wrote-then (put .put .ensures) (put2 .put2 .ensures))
+    wrote-as (fixed-bits (entry .args .number) (if1 .if1 .taken)) (put-two .put-two .ensures)
 
 put-three-requires : tie.Need-put-three-requires
 put-three-requires c κs =
@@ -35,7 +28,7 @@ put-three-requires c κs =
     let pre = entry .pre in
     let late = c .before .if1 .left in
     let number = entry .args .number in (
-      ((omega arith, omega arith), (omega arith, variable-low number late (pre .0)), (omega arith, omega arith)),
+      ((omega arith, omega arith), (omega arith, variable-low number late (pre .0)), (omega arith, omega arith), omega arith),
       room-as (variable-bits number late) (pre .1),
     )
 
@@ -48,4 +41,4 @@ returns-2 c =
 
 pub put-time-spec : {M : Type 1} → statement M
 put-time-spec =
-    tie.close (tie.spec put-requires put-requires-2 (λ c. search needs) returns (λ c. search needs) put-three-requires (λ c. search needs) returns-2)
+    tie.close (tie.spec put-two-requires (λ c. search needs) returns (λ c. search needs) put-three-requires (λ c. search needs) returns-2)

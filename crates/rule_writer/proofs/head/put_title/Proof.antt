@@ -24,6 +24,7 @@ put-three-requires c κs =
         (omega arith, omega (arith, pre .0)),
         (omega arith, omega (arith, kind, kind-number state)),
         (omega (arith, width .comment-width .ensures .1), omega (arith, c .comment-of .ensures, low)),
+        omega (arith, width .comment-width .ensures .1),
       ),
       room-as (title-bits _ (args .operator) state _ _ _ (pre .0 .0) kind (c .comment-of .ensures) (width .comment-width .ensures .0)) (pre .1),
     )

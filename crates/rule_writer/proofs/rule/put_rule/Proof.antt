@@ -32,7 +32,6 @@ put-counts-requires c κs =
     ((pre .1 .0 .0 .four, pre .1 .0 .1, pre .1 .1 .0 .1), room-first _ _ (room-rest (put-title .put-title .ensures) _ whole))
 
 put-rows-requires : tie.Need-put-rows-requires
-unfolding rowPlace
 put-rows-requires c κs =
     let put-counts = c .before .before .before in
     let put-title = put-counts .before .before .before .before in
@@ -43,7 +42,7 @@ put-rows-requires c κs =
     (rule-parts _ (a .operator) (a .state) (a .ends .now) (a .item-counts .now) (a .spans .now) (a .first) (a .span-count) (pre .1 .0 .0 .inside) (pre .1 .1 .0 .0))
     (pre .1 .1 .1) in (
       pre .1 .0 .0,
-      ((omega arith, refl), room-first _ _ (room-rest (put-counts .put-counts .ensures) _ (room-rest (put-title .put-title .ensures) _ whole))),
+      room-first _ _ (room-rest (put-counts .put-counts .ensures) _ (room-rest (put-title .put-title .ensures) _ whole)),
     )
 
 put-spans-requires : tie.Need-put-spans-requires
