@@ -17,7 +17,7 @@ pub const MANY_RULES: u32 = 64;
 
 #[derive(Clone)]
 pub struct BenchSheet {
-    pub name: &'static str,
+    pub name: String,
     pub form: Form,
     pub bytes: Vec<u8>,
 }
@@ -60,9 +60,9 @@ pub fn named<const N: usize>(sheets: [(&'static str, Vec<Rule>); N]) -> Vec<Benc
         .into()
 }
 
-pub fn bench_sheet(name: &'static str, form: Form, rules: Vec<Rule>) -> BenchSheet {
+pub fn bench_sheet(name: impl Into<String>, form: Form, rules: Vec<Rule>) -> BenchSheet {
     BenchSheet {
-        name,
+        name: name.into(),
         form,
         bytes: write_sheet(form, rules),
     }

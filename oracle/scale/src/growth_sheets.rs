@@ -11,8 +11,8 @@ use crate::points::DIMENSIONS;
 use crate::random::Random;
 use crate::rule::{ADDITIONAL, ITEM_LIMIT, NORMAL, OPEN, RULE_LIMIT, Rule, UNKNOWN, fixed};
 
-const SOME_BOXES: Shape = [4, 4, 4, 4];
-const SOME_RULES: usize = 16;
+pub const SOME_BOXES: Shape = [4, 4, 4, 4];
+pub const SOME_RULES: usize = 16;
 const MOST_BOXES: Shape = [4, 8, 8, 16];
 
 /// 4 to 256 rules over 256 boxes, then 16 rules over 16 to 4,096 boxes, then 256 over 4,096.
@@ -33,20 +33,26 @@ pub fn growth_sheets() -> Vec<BenchSheet> {
     let of_both = bench_sheet(
         "256 rules, 4,096 boxes, one rule in four appends",
         Form::One,
-        mostly_replacing(over_stretches(RULE_LIMIT, MOST_BOXES)),
+        mostly_replacing(over_own_stretches(RULE_LIMIT, MOST_BOXES)),
     );
 
     by_rules
         .into_iter()
         .chain(by_boxes)
-        .map(|(name, rules, shape)| bench_sheet(name, Form::One, over_stretches(rules, shape)))
+        .map(|(name, rules, shape)| bench_sheet(name, Form::One, over_own_stretches(rules, shape)))
         .chain([of_both])
         .collect()
 }
 
-/// A rule that cuts all boxes of a shape, then rules over stretches of its intervals.
-fn over_stretches(count: usize, shape: Shape) -> Vec<Rule> {
-    let mut random = Random::new(count as u64, shape.iter().product::<u32>().into());
+/// Rules over stretches of their own for each count and shape.
+fn over_own_stretches(count: usize, shape: Shape) -> Vec<Rule> {
+    let boxes = shape.iter().product::<u32>();
+    over_stretches(Random::new(count as u64, boxes.into()), count, shape)
+}
+
+/// A rule that cuts all boxes of a shape, then rules over stretches of its intervals. By the same random numbers fewer rules are the first of
+/// more, and over more intervals they begin and end at about the same part of them.
+pub fn over_stretches(mut random: Random, count: usize, shape: Shape) -> Vec<Rule> {
     let cuts: [Vec<u32>; 4] = std::array::from_fn(|dimension| {
         let values = &DIMENSIONS[dimension];
         (values.start..values.start + shape[dimension])

@@ -10,6 +10,7 @@ use crate::many_lists::MANY_LISTS;
 use crate::overlapping::overlapping;
 use crate::random::Random;
 use crate::recipes::{MIXED, Recipe, rules};
+use crate::rule::Rule;
 use crate::sheet::write_sheet;
 use crate::shrink::shrunk;
 use crate::tally::Tally;
@@ -30,6 +31,14 @@ impl Sheets {
             Self::Lists => &MANY_LISTS,
         }
     }
+
+    /// Form and rules of the sound sheet of a number, and the random numbers that follow.
+    pub fn sound(self, seed: u64, number: u64) -> (Random, Form, Vec<Rule>) {
+        let mut random = Random::new(seed, number);
+        let form = random.of(&[Form::One, Form::Two]);
+        let rules = rules(&mut random, form, self.recipes());
+        (random, form, rules)
+    }
 }
 
 /// What was met among sound, among overlapping and among damaged sheets, and the sheets that differ.
@@ -44,9 +53,7 @@ pub struct Report {
 impl Report {
     /// Compares the sound sheet of a number, one made from it in which ranges overlap or touch, and a damaged copy of it.
     pub fn compare_number(&mut self, sheets: Sheets, seed: u64, number: u64) {
-        let mut random = Random::new(seed, number);
-        let form = random.of(&[Form::One, Form::Two]);
-        let mut rules = rules(&mut random, form, sheets.recipes());
+        let (mut random, form, mut rules) = sheets.sound(seed, number);
         let sheet = write_sheet(form, rules.clone());
         let changed = write_sheet(form, overlapping(&mut random, &rules));
         let (copy_form, copy) = damaged(&mut random, form, &mut rules, &sheet);

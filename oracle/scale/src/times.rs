@@ -30,6 +30,16 @@ pub fn times<const N: usize>(calls: [&mut dyn FnMut(); N]) -> [Times; N] {
     calls.map(Sampled::times)
 }
 
+/// The best of so many samples of one call, in microseconds.
+pub fn best_of(samples: usize, call: &mut dyn FnMut()) -> f64 {
+    let mut sampled = Sampled::new(call);
+
+    for _ in 0..samples {
+        sampled.sample();
+    }
+    sampled.times().best
+}
+
 /// A call, with the samples taken of it.
 struct Sampled<'a> {
     call: &'a mut dyn FnMut(),
