@@ -2,7 +2,7 @@
 //! table; and, by the archive alone, lines of text, for which the Rust has no writer, and checks and lookups, which it does not make, in three
 //! more. `bench --growth` times folds of sheets of which rules or boxes are four times as many from one to the next, and of sheets at the
 //! limits, `bench --lists` of sheets of many lists, `bench --series` of sheets of which one thing grows, a table for each such thing, which
-//! oracle/plot.py draws; `bench --stack` tells how deep each function goes on the sheets of the first three. `bench --random SEED COUNT` times
+//! oracle/plot.py draws; `bench --stack` tells how deep each function goes on the sheets of all but the last. `bench --random SEED COUNT` times
 //! folds of generated sheets by the archive alone, for oracle/slower.py. `bench --sheets` prints the sheets of the first table, in hex and in
 //! the Rust's own words; `bench --profile TABLE SHEET RUNS` runs one sheet of a table (`fold`, `growth`, `limit`, `lists`, `series`, `line`,
 //! `check` or `lookup`), by its number from 1, that many times by the archive alone, for a profiler, and with `plain` before the table, which

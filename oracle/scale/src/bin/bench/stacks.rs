@@ -12,7 +12,7 @@ use crate::calls::{ROOM, depth, lookup};
 /// 1 January 2001 at noon.
 const MOMENT: Moment = [2001, 1, 1, 720];
 
-/// In ample room, on every sheet that is folded but those of the series, of which most are among them.
+/// In ample room, on the sheets of all tables of folds but the series.
 pub fn print_stacks() {
     println!("| sheet | fold | plain fold | lookup | write-back | line | convert |");
     println!("|---|---|---|---|---|---|---|");
