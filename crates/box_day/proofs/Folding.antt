@@ -1,4 +1,4 @@
--- A box's list is lent to `canonical_time` as a part of all lists: what that call requires, and that the words which come back are the box's.
+-- A box's list is lent as a part of all lists to be folded: what that call requires, and that the words which come back are the box's.
 use mathlib.Core.Path.{_≡_, refl, sym, ap, _∙_, subst}
 use mathlib.Core.List.{List, _∷_, map}
 use Prim.Native.Nat.{ℕ, zero, suc, _+_, _-_, _*_, _≤_}
@@ -6,15 +6,13 @@ use native.Mathlib.Omega.{arith}
 use lib.ListN.{length, take, drop, getD}
 use lib.Seq.{sets}
 use Rattle.laws.specs.Lists.{from}
-use Rattle.definition.specs.Day.{day}
 use Rattle.words.specs.Words.{part}
-use Rattle.day_flat.specs.Day.{flat, listRules}
 use Rattle.tables.specs.Days.{Tables, boxWords, Ready}
 use Rattle.words.proofs.Sets.{part-sets, part-taken}
 use Rattle.tables.specs.Sizes.{listPlaces, listLimit}
 use Rattle.tables.specs.Lists.{listOf}
 use Rattle.tables.proofs.Lists.{list-length}
-use Rattle.box_day.specs.Boxes.{Scratch}
+use Rattle.box_day.specs.Boxes.{listWords, Folded}
 
 -- ## A box's list is what stands behind its count
 part-map : (s : List ℕ) (at k n : ℕ) → map (λ j. getD s (at + j) 0) (from k n) ≡ part s (at + k) n
@@ -42,39 +40,23 @@ module _ (states counts spans lists : List ℕ) (room box : ℕ) (ready : Ready 
       ∙ sym (list-part lists box)
 
   -- what folding it requires
-  pub fold-needs : (spanStates spanCodes strokes minuteCuts intervalStates : ℕ) → Scratch spanStates spanCodes strokes minuteCuts intervalStates
-      → Tables states counts spans slice
-      × ((length slice ≤ 1024) × (16 * length slice ≤ spanStates)
-      × (16 * length slice ≤ spanCodes) × (32 * length slice + 2 ≤ strokes)
-      × (32 * length slice + 2 ≤ minuteCuts) × (32 * length slice + 2 ≤ intervalStates))
-  fold-needs spanStates spanCodes strokes minuteCuts intervalStates scratch =
+  pub fold-needs : Tables states counts spans slice × (length slice ≤ listLimit)
+  fold-needs =
       let s : getD lists (box * listPlaces) 0 ≤ listLimit = ready .short in
-      let n : length slice ≡ getD lists (box * listPlaces) 0 = ap length slice-list ∙ list-length lists box in (
-        subst (Tables states counts spans) (sym slice-list) (ready .tabled),
-        (
-          omega (arith, s, n),
-          omega (arith, s, n, scratch .spans .0),
-          omega (arith, s, n, scratch .spans .1),
-          omega (arith, s, n, scratch .ends .0),
-          omega (arith, s, n, scratch .ends .1),
-          omega (arith, s, n, scratch .ends .2),
-        ),
-      )
+      (subst (Tables states counts spans) (sym slice-list) (ready .tabled), omega (arith, s, ap length slice-list, list-length lists box))
 
   -- and what it gives
-  pub fold-gives : (before after : List ℕ) (r : ℕ) → room ≡ length before
-      → after ≡ sets before 0 (flat (day (listRules states counts spans slice 0 (length slice))))
-      → r ≡ length (flat (day (listRules states counts spans slice 0 (length slice))))
+  pub fold-gives : (before after : List ℕ) (r : ℕ) → room ≡ length before → Folded states counts spans slice before after r
       → (part after 0 r ≡ boxWords states counts spans lists box) × (r ≡ length (boxWords states counts spans lists box))
   unfolding boxWords
-  fold-gives before after r m h k = (
+  fold-gives before after r m h = (
     ap (part after 0) sized ∙ ap (λ s. part s 0 (length (boxWords states counts spans lists box))) laid
         ∙ part-sets before 0 (boxWords states counts spans lists box) (let w : length (boxWords states counts spans lists box) ≤ room = ready .wordy in omega (arith, w)),
     sized,
   )
     where
       sized : r ≡ length (boxWords states counts spans lists box)
-      sized = k ∙ ap (λ l. length (flat (day (listRules states counts spans l 0 (length l))))) slice-list
+      sized = h .1 ∙ ap (λ l. length (listWords states counts spans l)) slice-list
 
       laid : after ≡ sets before 0 (boxWords states counts spans lists box)
-      laid = h ∙ ap (λ l. sets before 0 (flat (day (listRules states counts spans l 0 (length l))))) slice-list
+      laid = h .0 ∙ ap (λ l. sets before 0 (listWords states counts spans l)) slice-list

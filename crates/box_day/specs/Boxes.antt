@@ -1,8 +1,15 @@
--- How long the scratch buffers of a day must be, so that any list within the limit can be folded in them.
-use Prim.Native.Nat.{ℕ, _+_, _*_, _≤_}
-use Rattle.tables.specs.Sizes.{listLimit}
+-- A list folded into a buffer: the words of its day at the front, and how many they are.
+use mathlib.Core.Path.{_≡_}
+use mathlib.Core.List.{List}
+use Prim.Native.Nat.{ℕ}
+use lib.ListN.{length}
+use lib.Seq.{sets}
+use Rattle.definition.specs.Day.{day}
+use Rattle.day_flat.specs.Day.{flat, listRules}
 
--- room to fold any list within the limit
-pub record Scratch (spanStates spanCodes strokes minuteCuts intervalStates : ℕ) : Type 0 where
-  pub spans : (16 * listLimit ≤ spanStates) × (16 * listLimit ≤ spanCodes)
-  pub ends : (32 * listLimit + 2 ≤ strokes) × (32 * listLimit + 2 ≤ minuteCuts) × (32 * listLimit + 2 ≤ intervalStates)
+-- the words of a list's day, over the tables of the rules' times
+abbrev pub listWords : (states counts spans list : List ℕ) → List ℕ
+listWords states counts spans list = flat (day (listRules states counts spans list 0 (length list)))
+
+abbrev pub Folded : (states counts spans list old new : List ℕ) → ℕ → Type 0
+Folded states counts spans list old new r = (new ≡ sets old 0 (listWords states counts spans list)) × (r ≡ length (listWords states counts spans list))

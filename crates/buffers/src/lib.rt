@@ -1,16 +1,60 @@
-// Scratch arrays: for the words of a day and for folding a list, as large as the limits allow, and for what a fold notes of days and boxes. Each
+// Scratch arrays: for the words of a day and for folding a list, by how long the list is, and for what a fold notes of days and boxes. Each
 // array is made in a function of its own, so that a proof knows its length from the contract and never looks at the array.
 ghost use mathlib.Core.Path.{_≡_};
 ghost use lib.ListN.{length};
 
-// A day of a list of 32 rules: 64 words for each rule, and one.
+// The words of a day of a list of up to 4 rules, and of up to 32: 64 words for each rule, and one.
+pub fn few_words() -> [u64; 257]
+    ensures { λ r. ⌜ 257 ≡ length r ⌝ }
+{
+    [0u64; 257]
+}
+
 pub fn words() -> [u64; 2049]
     ensures { λ r. ⌜ 2049 ≡ length r ⌝ }
 {
     [0u64; 2049]
 }
 
-// The states and the spans of a list: 32 rules of 16 spans.
+// The states and the spans of a list of up to 4 rules of 16 spans, and both ends of these spans and of the day.
+pub fn few_states() -> [u32; 64]
+    ensures { λ r. ⌜ 64 ≡ length r ⌝ }
+{
+    [0u32; 64]
+}
+
+pub fn few_spans() -> [u64; 64]
+    ensures { λ r. ⌜ 64 ≡ length r ⌝ }
+{
+    [0u64; 64]
+}
+
+pub fn few_ends() -> [u64; 130]
+    ensures { λ r. ⌜ 130 ≡ length r ⌝ }
+{
+    [0u64; 130]
+}
+
+// The same for up to 12 rules.
+pub fn some_states() -> [u32; 192]
+    ensures { λ r. ⌜ 192 ≡ length r ⌝ }
+{
+    [0u32; 192]
+}
+
+pub fn some_spans() -> [u64; 192]
+    ensures { λ r. ⌜ 192 ≡ length r ⌝ }
+{
+    [0u64; 192]
+}
+
+pub fn some_ends() -> [u64; 386]
+    ensures { λ r. ⌜ 386 ≡ length r ⌝ }
+{
+    [0u64; 386]
+}
+
+// The same for up to 32 rules, the most that a list has.
 pub fn states() -> [u32; 512]
     ensures { λ r. ⌜ 512 ≡ length r ⌝ }
 {
@@ -23,7 +67,6 @@ pub fn spans() -> [u64; 512]
     [0u64; 512]
 }
 
-// Both ends of these spans, and of the day.
 pub fn ends() -> [u64; 1026]
     ensures { λ r. ⌜ 1026 ≡ length r ⌝ }
 {

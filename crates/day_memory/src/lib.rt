@@ -1,12 +1,10 @@
 // Looks for the day of a list among the days of the lists before: where the hash is the same, that list is folded again and the words are
-// compared. `find_day` has more than twelve parameters: the scratch of a day is six slices (`other`, `span_states`, `span_codes`, `strokes`,
-// `minute_cuts`, `interval_states`), the rules' times are three, and the language lends no struct of slices.
+// compared.
 use box_day::same_day;
 ghost use mathlib.Core.Path.{_≡_};
 ghost use Prim.Native.Nat.{ℕ, suc, _≤_, _<_};
 ghost use lib.ListN.{length, getD};
 ghost use Rattle.words.specs.Words.{part};
-ghost use Rattle.box_day.specs.Boxes.{Scratch};
 ghost use Rattle.tables.specs.Days.{boxWords, Ready, numberWords};
 ghost use Rattle.day_memory.specs.Days.{FirstSame, hashOf, DaysHashed};
 
@@ -30,11 +28,6 @@ fn next_place(hashes: &[u16], hash: u16, next: usize, end: usize) -> usize
 pub fn find_day(
     words: &[u64],
     other: &mut [u64],
-    span_states: &mut [u32],
-    span_codes: &mut [u64],
-    strokes: &mut [u64],
-    minute_cuts: &mut [u64],
-    interval_states: &mut [u64],
     states: &[u32],
     span_counts: &[u8],
     spans: &[u64],
@@ -45,8 +38,6 @@ pub fn find_day(
     place: usize,
 ) -> usize
     requires { ⌜ ((i : ℕ) → i < place → Ready (now states) (now «span_counts») (now spans) (now lists) (length (now other)) i) ⌝ }
-    requires { ⌜ Scratch (length (now «span_states»)) (length (now «span_codes»)) (length (now strokes)) (length (now «minute_cuts»))
-        (length (now «interval_states»)) ⌝ }
     requires { ⌜ («word_count» ≤ length (now words)) × (place < length (now hashes)) ⌝ }
     requires { ⌜ (part (now words) 0 «word_count» ≡ boxWords (now states) (now «span_counts») (now spans) (now lists) place)
         × («day_hash» ≡ hashOf (boxWords (now states) (now «span_counts») (now spans) (now lists) place))
@@ -62,11 +53,6 @@ pub fn find_day(
         if same_day(
             words,
             other,
-            span_states,
-            span_codes,
-            strokes,
-            minute_cuts,
-            interval_states,
             states,
             span_counts,
             spans,

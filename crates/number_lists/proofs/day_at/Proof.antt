@@ -8,23 +8,23 @@ use denote.Ref.{now}
 use Rattle.definition.specs.Group.{dayClass}
 use Rattle.day_flat.specs.Day.{unflat}
 use Rattle.tables.specs.Days.{boxWords}
-use Rattle.box_day.proofs.Kept.{ready-kept, scratch-kept}
+use Rattle.box_day.proofs.Kept.{ready-kept}
 use Rattle.day_memory.specs.Days.{hashOf}
 use Rattle.number_lists.proofs.day_at.Statement.{statement}
 use Rattle.number_lists.proofs.day_at.Tie as tie
 
 -- ## Places of the code
 abbrev start : tie.After-fold-box → tie.Start
-start c = c .before .before .before .before .before .before .before .before .before .before .before .before .before .before .before .before .before .before .before
+start c = c .before .before .before .before .before .before .before .before .before
 
 abbrev fold : tie.After-u64-to-u16 → tie.After-fold-box
-fold c = c .before .before .before .before .before .before .before .before .before .before .before .before .before .before .before
+fold c = c .before .before .before .before .before
 
 abbrev hash : tie.After-find-day → tie.After-u64-to-u16
-hash c = c .before .before .before .before .before .before .before .before
+hash c = c .before .before .before
 
 abbrev find : tie.After-day-class → tie.After-find-day
-find c = c .before .before .before .before .before .before .before .before .before .before .before .before .before .before
+find c = c .before .before .before .before
 
 -- ## What is known there
 -- the words of the place's day
@@ -44,17 +44,13 @@ hashed c = c .u64-to-u16 .ensures ∙ ap (λ n. n % 65536) (c .before .fingerpri
 -- ## What is needed there
 find-day-requires : tie.Need-find-day-requires
 find-day-requires c κs =
-    let hash = c .before .before .before .before .before .before .before in
+    let hash = c .before .before in
     let folded = fold hash in
     let entry = start folded in
     let a = entry .args in
-    let pre = entry .pre in
-    let kept = folded .fold-box .kept in (
+    let pre = entry .pre in (
       λ i l. ready-kept (now (a .states)) (now (a .span-counts)) (now (a .spans)) (now (a .lists)) _ _ _ (pre .0 .1) (pre .0 .0) i (omega (arith, l)),
-      (
-        scratch-kept _ _ _ _ _ _ _ _ _ _ (kept .1 .0) (kept .1 .1 .0) (kept .1 .1 .1 .0) (kept .1 .1 .1 .1 .0) (kept .1 .1 .1 .1 .1 .0) (pre .1 .0),
-        ((words-fit folded, pre .1 .1 .0), (folded .fold-box .ensures .0, hashed hash, pre .1 .1 .1)),
-      ),
+      ((words-fit folded, pre .1 .0), (folded .fold-box .ensures .0, hashed hash, pre .1 .1)),
     )
 
 returns : tie.Need-returns
@@ -70,18 +66,11 @@ pub day-at-spec : {M : Type 1} → statement M
 day-at-spec =
     tie.close
     (tie.spec
-    (λ c κs.
-    let entry = c .before .before .before .before .before .before .before .before .before .before .before .before .before .before .before .before .before .before in
-    (entry .pre .0 .0 (entry .args .place) (omega arith), entry .pre .1 .0))
-    (λ c κs. words-fit (c .before .before .before .before .before .before .before .before .before .before .before .before .before))
+    (λ c κs. let entry = c .before .before .before .before .before .before .before .before in entry .pre .0 .0 (entry .args .place) (omega arith))
+    (λ c κs. words-fit (c .before .before .before))
     (λ c κs. omega arith)
     find-day-requires
-    (λ c κs. words-fit (fold (hash (c .before .before .before .before .before .before .before .before .before .before .before .before .before))))
+    (λ c κs. words-fit (fold (hash (c .before .before .before))))
     (λ c. fold (hash (find c)) .fold-box .kept .0)
     (λ c. find c .find-day .kept .1 .0)
-    (λ c. let step = find c in step .find-day .kept .1 .1 .0 ∙ fold (hash step) .fold-box .kept .1 .0)
-    (λ c. let step = find c in step .find-day .kept .1 .1 .1 .0 ∙ fold (hash step) .fold-box .kept .1 .1 .0)
-    (λ c. let step = find c in step .find-day .kept .1 .1 .1 .1 .0 ∙ fold (hash step) .fold-box .kept .1 .1 .1 .0)
-    (λ c. let step = find c in step .find-day .kept .1 .1 .1 .1 .1 .0 ∙ fold (hash step) .fold-box .kept .1 .1 .1 .1 .0)
-    (λ c. let step = find c in step .find-day .kept .1 .1 .1 .1 .1 .1 .0 ∙ fold (hash step) .fold-box .kept .1 .1 .1 .1 .1 .0)
     returns)
