@@ -1,4 +1,4 @@
 pub mod Numbering
 pub mod OneMore
 pub mod InUse
-pub mod FewWords
+pub mod There

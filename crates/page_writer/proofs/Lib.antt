@@ -1,3 +1,4 @@
 pub mod Reading
 pub mod Walking
 pub mod Folding
+pub mod Brief

@@ -1,5 +1,4 @@
--- The invariants of the loops that measure and write pages: what is done and the pages left are all of them, and the scratch of a day keeps its
--- lengths. Rests on the laws of one page more.
+-- The invariants of the loops that measure and write pages: what is done and the pages left are all of them. Rests on the laws of one page more.
 use mathlib.Core.Path.{_≡_, refl, sym, ap, _∙_}
 use mathlib.Core.List.{List, [], _++_, append-nil, append-assoc}
 use mathlib.Core.Bool.{Bool, true, false, _||_}
@@ -14,9 +13,7 @@ use Rattle.item_writer.proofs.Chain.{wrote-then, room-first, room-rest, room-as
 use Rattle.definition.specs.Sheet.{Form}
 use Rattle.definition.specs.Fold.{manyItems}
 use Rattle.day_writer.specs.Rules.{Countable, rulesBits}
-use Rattle.box_day.specs.Boxes.{Scratch}
 use Rattle.tables.specs.Days.{boxWords}
-use Rattle.tables.specs.Sizes.{dayRoom}
 use Rattle.tables.specs.Pages.{pageSize, pageAt, pagesAt, pageRules, pagesRules, PageReady, Pages}
 use Rattle.page_writer.proofs.Reading.{cutOut, cut-page, none-bits, none-counted, none-size, more-bits, more-counted, more-size, pages-first, pages-later}
 
@@ -28,29 +25,14 @@ or-moves true false false = refl
 or-moves false true past = refl
 or-moves false false past = sym (or-false past)
 
--- ## The scratch of a day
-pub record Sized (ws bs cs ds es fs : List ℕ) : Type 0 where
-  pub words : dayRoom ≡ length ws
-  pub states : 512 ≡ length bs
-  pub codes : 512 ≡ length cs
-  pub strokes : 1026 ≡ length ds
-  pub cuts : 1026 ≡ length es
-  pub intervals : 1026 ≡ length fs
-
-pub sized-scratch : {ws bs cs ds es fs : List ℕ} → Sized ws bs cs ds es fs → Scratch (length bs) (length cs) (length ds) (length es) (length fs)
-sized-scratch s = record {
-  spans = (omega (arith, s .states), omega (arith, s .codes));
-  ends = (omega (arith, s .strokes), omega (arith, s .cuts), omega (arith, s .intervals));
-}
-
 -- ## What is done so far
-module _ (form : Form) (states counts spans lists pages : List ℕ) (count : ℕ) where
+module _ (form : Form) (states counts spans lists pages : List ℕ) (room count : ℕ) where
   abbrev rulesFrom : ℕ → ℕ → List Rule
   rulesFrom n place = pagesRules (boxWords states counts spans lists) (pagesAt n pages place)
 
   -- so many rules and bits so far, whether one has more items than the form can count, and so many pages left from here on
   pub record Measured (left here rules bits : ℕ) (past : Bool) : Type 0 where
-    pub ready : Pages form states counts spans lists pages dayRoom left here
+    pub ready : Pages form states counts spans lists pages room left here
     pub ruled : length (rulesFrom count 0) ≡ rules + length (rulesFrom left here)
     pub sized : length (rulesBits form (rulesFrom count 0)) ≡ bits + length (rulesBits form (rulesFrom left here))
     pub counted : anyOf (manyItems form) (rulesFrom count 0) ≡ anyOf (manyItems form) (rulesFrom left here) || past
@@ -59,7 +41,7 @@ module _ (form : Form) (states counts spans lists pages : List ℕ) (count : ℕ
 
   -- some bits are written, which with those of so many pages left from here on are all; for these there is room
   pub record Writing (old : List ℕ) (place left here : ℕ) (out : List ℕ) (next : ℕ) : Type 0 where
-    pub ready : Pages form states counts spans lists pages dayRoom left here
+    pub ready : Pages form states counts spans lists pages room left here
     pub done : List ℕ
     pub wrote : Wrote old place done out next
     pub whole : rulesBits form (rulesFrom count 0) ≡ done ++ rulesBits form (rulesFrom left here)
@@ -67,21 +49,21 @@ module _ (form : Form) (states counts spans lists pages : List ℕ) (count : ℕ
     pub roomy : RoomFor (length out) next (rulesBits form (rulesFrom left here))
 
   -- at the beginning
-  pub measured-none : Pages form states counts spans lists pages dayRoom count 0 → Measured count 0 0 0 false
+  pub measured-none : Pages form states counts spans lists pages room count 0 → Measured count 0 0 0 false
   measured-none ready = record { ready = ready; ruled = omega arith; sized = omega arith; counted = sym (or-false (anyOf (manyItems form) (rulesFrom count 0))); few = omega arith; short = omega arith }
 
-  pub writing-none : Pages form states counts spans lists pages dayRoom count 0 → Countable form (rulesFrom count 0) → (old : List ℕ) (place : ℕ) → RoomFor (length old) place (rulesBits form (rulesFrom count 0))
+  pub writing-none : Pages form states counts spans lists pages room count 0 → Countable form (rulesFrom count 0) → (old : List ℕ) (place : ℕ) → RoomFor (length old) place (rulesBits form (rulesFrom count 0))
       → Writing old place count 0 old place
   writing-none ready countable old place room = record { ready = ready; done = []; wrote = wrote-none refl; whole = refl; countable = countable; roomy = room }
 
 -- ## Measuring
-module _ {form : Form} {states counts spans lists pages : List ℕ} {count left here rules bits : ℕ} {past : Bool}
-    (m : Measured form states counts spans lists pages count left here rules bits past) where
+module _ {form : Form} {states counts spans lists pages : List ℕ} {room count left here rules bits : ℕ} {past : Bool}
+    (m : Measured form states counts spans lists pages room count left here rules bits past) where
   abbrev W : ℕ → List ℕ
   W = boxWords states counts spans lists
 
   abbrev from : ℕ → ℕ → List Rule
-  from = rulesFrom form states counts spans lists pages count
+  from = rulesFrom form states counts spans lists pages room count
 
   pub measured-all : left ≡ 0
       → (length (from count 0) ≡ rules) × (length (rulesBits form (from count 0)) ≡ bits) × (anyOf (manyItems form) (from count 0) ≡ past)
@@ -95,20 +77,20 @@ module _ {form : Form} {states counts spans lists pages : List ℕ} {count left 
         omega (arith, m .short),
       )
 
-  pub measured-page : 0 < left → PageReady form states counts spans lists pages dayRoom here
-  measured-page some = pages-first form states counts spans lists pages dayRoom left here some (m .ready)
+  pub measured-page : 0 < left → PageReady form states counts spans lists pages room here
+  measured-page some = pages-first form states counts spans lists pages room left here some (m .ready)
 
   -- one page more
   pub measured-more : (some : 0 < left) {size : ℕ} (sized : size ≡ pageSize pages here) → {r b : ℕ} {page : Bool} → length (pageRules W (pageAt (cutOut pages here size) 0)) ≡ r
       → length (rulesBits form (pageRules W (pageAt (cutOut pages here size) 0))) ≡ b
       → anyOf (manyItems form) (pageRules W (pageAt (cutOut pages here size) 0)) ≡ page → r ≤ 4096 → b ≤ 2 ^ 31
-      → Measured form states counts spans lists pages count (left - 1) (here + size) (rules + r) (bits + b) (past || page)
+      → Measured form states counts spans lists pages room count (left - 1) (here + size) (rules + r) (bits + b) (past || page)
   measured-more some {size} sized {r} {b} {page} p q k u v =
       let read = cut-page pages here size sized (omega (arith, sized, measured-page some .inside)) in
       let later = from (left - 1) (here + size) in
       let more = more-size form W pages here left some size sized _ read r (length later) b (length (rulesBits form later)) p refl q refl in
       record {
-        ready = pages-later form states counts spans lists pages dayRoom left here size some sized (m .ready);
+        ready = pages-later form states counts spans lists pages room left here size some sized (m .ready);
         ruled = omega (arith, m .ruled, more .0);
         sized = omega (arith, m .sized, more .1);
         counted = m .counted ∙ ap (λ b. b || past) (more-counted form W pages here left some size sized _ read ∙ ap (λ b. b || anyOf (manyItems form) later) k)
@@ -118,19 +100,19 @@ module _ {form : Form} {states counts spans lists pages : List ℕ} {count left 
       }
 
 -- ## Writing
-module _ {form : Form} {states counts spans lists pages : List ℕ} {count : ℕ} {old : List ℕ} {place left here : ℕ} {out : List ℕ} {next : ℕ}
-    (w : Writing form states counts spans lists pages count old place left here out next) where
+module _ {form : Form} {states counts spans lists pages : List ℕ} {room count : ℕ} {old : List ℕ} {place left here : ℕ} {out : List ℕ} {next : ℕ}
+    (w : Writing form states counts spans lists pages room count old place left here out next) where
   abbrev X : ℕ → List ℕ
   X = boxWords states counts spans lists
 
   abbrev behind : ℕ → ℕ → List ℕ
-  behind n at = rulesBits form (rulesFrom form states counts spans lists pages count n at)
+  behind n at = rulesBits form (rulesFrom form states counts spans lists pages room count n at)
 
   pub writing-all : left ≡ 0 → Wrote old place (behind count 0) out next
   writing-all e = wrote-as (w .whole ∙ ap (w .done ++_) (none-bits form X pages here left e) ∙ append-nil (w .done)) (w .wrote)
 
-  pub writing-page : 0 < left → PageReady form states counts spans lists pages dayRoom here
-  writing-page some = pages-first form states counts spans lists pages dayRoom left here some (w .ready)
+  pub writing-page : 0 < left → PageReady form states counts spans lists pages room here
+  writing-page some = pages-first form states counts spans lists pages room left here some (w .ready)
 
   -- one page more
   module _ (some : 0 < left) {size : ℕ} (sized : size ≡ pageSize pages here) where
@@ -138,7 +120,7 @@ module _ {form : Form} {states counts spans lists pages : List ℕ} {count : ℕ
     pageRules′ = pageRules X (pageAt (cutOut pages here size) 0)
 
     abbrev laterRules : List Rule
-    laterRules = rulesFrom form states counts spans lists pages count (left - 1) (here + size)
+    laterRules = rulesFrom form states counts spans lists pages room count (left - 1) (here + size)
 
     abbrev pageBits : List ℕ
     pageBits = rulesBits form pageRules′
@@ -161,9 +143,9 @@ module _ {form : Form} {states counts spans lists pages : List ℕ} {count : ℕ
     pub page-room : RoomFor (length out) next pageBits
     page-room = room-first pageBits later (room-as more (w .roomy))
 
-    pub writing-more : {out′ : List ℕ} {next′ : ℕ} → Wrote out next pageBits out′ next′ → Writing form states counts spans lists pages count old place (left - 1) (here + size) out′ next′
+    pub writing-more : {out′ : List ℕ} {next′ : ℕ} → Wrote out next pageBits out′ next′ → Writing form states counts spans lists pages room count old place (left - 1) (here + size) out′ next′
     writing-more v = record {
-      ready = pages-later form states counts spans lists pages dayRoom left here size some sized (w .ready);
+      ready = pages-later form states counts spans lists pages room left here size some sized (w .ready);
       done = w .done ++ pageBits;
       wrote = wrote-then (w .wrote) v;
       whole = w .whole ∙ ap (w .done ++_) more ∙ sym (append-assoc (w .done) pageBits later);

@@ -1,96 +1,17 @@
--- `fold_write::emit` meets its contract: what was measured decides, and all three answers are the definition's.
-use mathlib.Core.Path.{sym, _∙_}
-use Prim.Native.Nat.{_+_, _-_, _/_, _≤_}
-use native.Mathlib.Omega.{arith}
-use lib.ListN.{length}
+-- `fold_write::emit` meets its contract, by a book for short lists' days or for any.
 use borrow.Author.Needs.{needs}
-use borrow.Author.Tests.{ltb-true, ltb-false}
-use Rattle.fold_write.proofs.Answer.{not-counted, count-fits, countable, row-bits, no-room, with-room}
+use Rattle.forms.specs.Form.{asForm}
 use Rattle.fold_write.proofs.emit.Statement.{statement}
 use Rattle.fold_write.proofs.emit.Tie as tie
 
-measure-pages-requires : tie.Need-measure-pages-requires
-measure-pages-requires c κs = let entry = c .before .before .before .before .before .before .before in let paged = entry .pre .1 in (paged .ready, omega (arith, paged .few))
-
--- from what the form can carry back to what was measured, and to where the function begins
-abbrev measuring : tie.After-most-rules → tie.After-measure-pages
-measuring c = c .before .before .before
-
-abbrev start : tie.After-measure-pages → tie.Start
-start c = c .before .before .before .before .before .before .before .before
-
--- from the test of the room back to the test of the counts, behind which the form can carry the result
-abbrev counting : tie.After-lacks-room → tie.Else1
-counting c = c .before .before .before
-
-abbrev asking : tie.Else1 → tie.After-most-rules
-asking c = c .before .before
-
--- behind the test the result has room
-enough : (c : tie.Else2)
-    → let measured = measuring (asking (counting (c .before))) in
-    let args = start measured .args in
-    (c .before .before .before .opening-width .result + measured .measure-pages .result .bits + (args .left .end - args .left .start) + 7) / 8 ≤ length (args .out .now)
-enough c = ltb-false _ _ (sym (c .before .lacks-room .ensures) ∙ c .if2 .left)
-
-add-rules : tie.Need-add-rules
-add-rules c = let measured = c .before .before in let pre = start measured .pre in omega (arith, measured .measure-pages .ensures .3, pre .1 .few, pre .2 .left-few)
-
-returns : tie.Need-returns
-returns c =
-    let asked = c .before .before .before in
-    let measured = measuring asked in
-    λ rs paged leaving. let m = measured .measure-pages .ensures in
-    let past = not-counted (start measured .args .form) paged leaving (m .0) (m .2) (asked .most-rules .ensures) (c .before .if1 .taken) (start measured .args .out .now) in
-    (c .fold-refused .ensures ∙ past .0, past .1)
-
-returns-2 : tie.Need-returns-2
-returns-2 c =
-    let room = c .before .before in
-    let branch = counting room in
-    let measured = measuring (asking branch) in
-    λ rs paged leaving. let m = measured .measure-pages .ensures in
-    let lacking = ltb-true _ _ (sym (room .lacks-room .ensures) ∙ c .before .if2 .taken) in
-    let full = no-room (start measured .args .form) paged leaving (m .0) (m .1) (room .before .before .opening-width .ensures .0) (m .2) (asking branch .most-rules .ensures)
-    (branch .if1 .left) (start measured .args .out .now) lacking in
-    (c .fold-refused2 .ensures ∙ full .0, full .1)
-
-write-sheet-requires : tie.Need-write-sheet-requires
-write-sheet-requires c κs =
-    let fitting = c .before in
-    let branch = counting (fitting .before) in
-    let asked = asking branch in
-    let measured = measuring asked in
-    let paged = start measured .pre .1 in
-    let leaving = start measured .pre .2 in
-    let m = measured .measure-pages .ensures in
-    let opened = fitting .before .before .before .opening-width .ensures in
-    let form = start measured .args .form in
-    let long = row-bits form paged leaving (m .0) (m .1) (opened .0) in (
-      paged .ready,
-      (
-        (leaving .ordered, leaving .inside, omega (arith, leaving .low)),
-        (
-          count-fits form paged leaving (m .0) (m .2) (asked .most-rules .ensures) (branch .if1 .left),
-          (
-            countable form paged leaving (m .0) (m .2) (asked .most-rules .ensures) (branch .if1 .left),
-            (omega (arith, long, enough fitting), omega (arith, long, m .4, paged .few, leaving .low, opened .1)),
-          ),
-        ),
-      ),
-    )
-
-returns-3 : tie.Need-returns-3
-returns-3 c =
-    let fitting = c .before .before .before .before in
-    let branch = counting (fitting .before) in
-    let measured = measuring (asking branch) in
-    λ rs paged leaving. let m = measured .measure-pages .ensures in
-    with-room (start measured .args .form) paged leaving (m .0) (m .1) (fitting .before .before .before .opening-width .ensures .0) (m .2) (asking branch .most-rules .ensures)
-    (branch .if1 .left) (start measured .args .out .now) _ (enough fitting) (c .before .before .write-sheet .ensures)
+emit-short-requires : tie.Need-emit-short-requires
+emit-short-requires c κs =
+    let asked = c .before .before in
+    let entry = asked .before .before .before .before .before .before .before .before in
+    let a = entry .args in
+    (entry .pre, asked .all-short .ensures (c .before .if1 .taken) (asForm (a .form)) (a .states .now) (a .span-counts .now) (a .spans .now) (entry .pre .1 .ready))
 
 pub emit-spec : {M : Type 1} → statement M
 emit-spec =
     tie.close
-    (tie.spec measure-pages-requires add-rules (λ c κs. search needs) (λ c κs. search needs) returns (λ c κs. search needs) (λ c. search needs) (λ c. search needs)
-    (λ c. search needs) (λ c. search needs) (λ c κs. search needs) (λ c κs. search needs) returns-2 write-sheet-requires (λ c. search needs) returns-3)
+    (tie.spec (λ c κs. search needs) emit-short-requires (λ c. search needs) (λ c. search needs) (λ c κs. search needs) (λ c. search needs) (λ c. search needs))

@@ -4,7 +4,7 @@ use native.Mathlib.Omega.{arith}
 use denote.Ref.{now}
 use borrow.Author.Needs.{needs}
 use Rattle.box_day.proofs.Kept.{ready-kept}
-use Rattle.number_lists.proofs.FewWords.{all-there}
+use Rattle.number_lists.proofs.There.{all-there}
 use Rattle.number_lists.proofs.number_lists.Statement.{statement}
 use Rattle.number_lists.proofs.number_lists.Tie as tie
 

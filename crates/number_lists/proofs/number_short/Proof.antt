@@ -3,8 +3,7 @@ use mathlib.Core.Path.{sym}
 use native.Mathlib.Omega.{arith}
 use denote.Ref.{now}
 use borrow.Author.Needs.{needs}
-use Rattle.box_day.proofs.Kept.{ready-kept}
-use Rattle.number_lists.proofs.FewWords.{short-ready}
+use Rattle.box_day.proofs.Kept.{ready-kept, short-ready}
 use Rattle.number_lists.proofs.number_short.Statement.{statement}
 use Rattle.number_lists.proofs.number_short.Tie as tie
 
@@ -14,9 +13,10 @@ number-in-requires c κs =
     let first = second .before in
     let entry = first .before .before .before .before .before .before .before .before in
     let a = entry .args in
-    let ready = short-ready (now (a .states)) (now (a .span-counts)) (now (a .spans)) (now (a .lists)) _ (entry .pre .0 .0) (entry .pre .0 .1) in (
+    let all = entry .pre .0 in (
       (
-        ready-kept (now (a .states)) (now (a .span-counts)) (now (a .spans)) (now (a .lists)) _ _ _ (sym (first .few-words .ensures)) ready,
+        ready-kept (now (a .states)) (now (a .span-counts)) (now (a .spans)) (now (a .lists)) _ _ _ (sym (first .few-words .ensures))
+            (λ i l. short-ready (now (a .states)) (now (a .span-counts)) (now (a .spans)) (now (a .lists)) i (all .0 i l) (all .1 i l)),
         omega (arith, first .few-words .ensures, second .few-words2 .ensures),
       ),
       entry .pre .1,
