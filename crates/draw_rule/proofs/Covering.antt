@@ -3,7 +3,7 @@ use mathlib.Core.Path.{_≡_, refl, sym, ap, ap₂, _∙_}
 use mathlib.Core.Bool.{Bool, true, false, _&&_, cond}
 use mathlib.Core.List.{List, [], _∷_, _++_, map, flatMap}
 use mathlib.Core.Logic.{inl, inr}
-use Prim.Native.Nat.{ℕ, zero, suc, _+_, _-_, _*_, _≤_, _<_}
+use Prim.Native.Nat.{ℕ, zero, suc, _+_, _*_, _≤_, _<_}
 use native.Mathlib.Omega.{arith}
 use native.Mathlib.Nat.{add-mul}
 use lib.Dec.{eqb}
@@ -13,7 +13,7 @@ use Rattle.laws.specs.Lists.{from, count, sum, Mem}
 use Rattle.grid.specs.Cut.{Range, holds}
 use Rattle.paving.proofs.Emptying.{number-eq}
 use Rattle.definition.specs.Point.{combinations}
-use Rattle.draw_rule.specs.Update.{covered, overColumns, overRanges, leaves}
+use Rattle.draw_rule.specs.Update.{covered, overColumns, leaves}
 use Rattle.tables.specs.Cuts.{cutOf}
 use Rattle.tables.specs.Ranges.{rangeOf, selectorOf}
 use Rattle.tables.specs.Lists.{Within, boxOf, startOf}
@@ -99,7 +99,7 @@ module _ (sizes counts rows cuts ranges : List ℕ) where
   -- THE COVERED BOXES: below its own node as often as there are combinations, below any other never
   pub covered-times : (l c d : ℕ) (p : List ℕ) → Within sizes l p
       → count (eqb (boxOf sizes l d p)) (leaves sizes counts rows cuts ranges l c) ≡ cond (eqb d c) (combinations (selectorOf counts ranges l) (startOf rows cuts l p)) 0
-  unfolding leaves boxOf startOf selectorOf combinations count overRanges overColumns covered
+  unfolding leaves boxOf startOf selectorOf combinations count overColumns covered
   covered-times zero c d [] w = go (eqb d c)
     where
       go : (b : Bool) → cond b 1 0 + 0 ≡ cond b 1 0
@@ -108,12 +108,11 @@ module _ (sizes counts rows cuts ranges : List ℕ) where
   covered-times zero c d (x ∷ p) w = absurd w
   covered-times (suc i) c d [] w = absurd w
   covered-times (suc i) c d (x ∷ p) w =
-      count-flat (eqb N) (λ q. overColumns sizes counts rows cuts ranges i (leaves sizes counts rows cuts ranges i) c q 0) (from 0 (getD counts i 0 - 0))
-      ∙ sum-ext (λ q. count (eqb N) (overColumns sizes counts rows cuts ranges i (leaves sizes counts rows cuts ranges i) c q 0))
-      (λ q. cond (eqb d c) (cond (holds (cutOf rows cuts i x) (rangeOf ranges i q)) k 0) 0) 0 (getD counts i 0 - 0)
+      count-flat (eqb N) (overColumns sizes counts rows cuts ranges i (leaves sizes counts rows cuts ranges i) c) (from 0 (getD counts i 0))
+      ∙ sum-ext (λ q. count (eqb N) (overColumns sizes counts rows cuts ranges i (leaves sizes counts rows cuts ranges i) c q))
+      (λ q. cond (eqb d c) (cond (holds (cutOf rows cuts i x) (rangeOf ranges i q)) k 0) 0) 0 (getD counts i 0)
       (λ q _ _. one (λ y. covered-times i (c * getD sizes i 0 + y) (d * getD sizes i 0 + x) p (w .1)) q)
-      ∙ sum-count (eqb d c) (cutOf rows cuts i x) (rangeOf ranges i) k (from 0 (getD counts i 0 - 0))
-      ∙ ap (λ n. cond (eqb d c) (count (holds (cutOf rows cuts i x)) (map (rangeOf ranges i) (from 0 n)) * k) 0) all
+      ∙ sum-count (eqb d c) (cutOf rows cuts i x) (rangeOf ranges i) k (from 0 (getD counts i 0))
     where
       N : ℕ
       N = boxOf sizes i (d * getD sizes i 0 + x) p
@@ -121,25 +120,22 @@ module _ (sizes counts rows cuts ranges : List ℕ) where
       k : ℕ
       k = combinations (selectorOf counts ranges i) (startOf rows cuts i p)
 
-      all : getD counts i 0 - 0 ≡ getD counts i 0
-      all = omega arith
-
       one : ((y : ℕ) → count (eqb N) (leaves sizes counts rows cuts ranges i (c * getD sizes i 0 + y)) ≡ cond (eqb (d * getD sizes i 0 + x) (c * getD sizes i 0 + y)) k 0)
-          → (q : ℕ) → count (eqb N) (overColumns sizes counts rows cuts ranges i (leaves sizes counts rows cuts ranges i) c q 0)
+          → (q : ℕ) → count (eqb N) (overColumns sizes counts rows cuts ranges i (leaves sizes counts rows cuts ranges i) c q)
           ≡ cond (eqb d c) (cond (holds (cutOf rows cuts i x) (rangeOf ranges i q)) k 0) 0
       one ih q =
-          count-flat (eqb N) (λ y. cond (covered rows cuts ranges i q y) (leaves sizes counts rows cuts ranges i (c * getD sizes i 0 + y)) []) (from 0 (getD sizes i 0 - 0))
+          count-flat (eqb N) (λ y. cond (covered rows cuts ranges i q y) (leaves sizes counts rows cuts ranges i (c * getD sizes i 0 + y)) []) (from 0 (getD sizes i 0))
           ∙ sum-ext (λ y. count (eqb N) (cond (covered rows cuts ranges i q y) (leaves sizes counts rows cuts ranges i (c * getD sizes i 0 + y)) []))
-          (λ y. cond (eqb x y) (cond (eqb d c) (cond (covered rows cuts ranges i q x) k 0) 0) 0) 0 (getD sizes i 0 - 0)
+          (λ y. cond (eqb x y) (cond (eqb d c) (cond (covered rows cuts ranges i q x) k 0) 0) 0) 0 (getD sizes i 0)
           (λ y _ m. column N i c d x q y k (w .0) (omega arith) (ih y))
-          ∙ sum-one x (cond (eqb d c) (cond (covered rows cuts ranges i q x) k 0) 0) 0 (getD sizes i 0 - 0) (omega arith) (omega (arith, w .0))
+          ∙ sum-one x (cond (eqb d c) (cond (covered rows cuts ranges i q x) k 0) 0) 0 (getD sizes i 0) (omega arith) (omega (arith, w .0))
 
   -- each covered box is one of the boxes below its node
   pub leaf-box : (l c m : ℕ) → Mem m (leaves sizes counts rows cuts ranges l c) → (p : List ℕ) × Within sizes l p × (boxOf sizes l c p ≡ m)
-  unfolding leaves boxOf Mem overRanges overColumns flatMap from
+  unfolding leaves boxOf Mem overColumns flatMap from
   leaf-box zero c m (inl e) = ([], tt, sym e)
   leaf-box zero c m (inr e) = absurd e
-  leaf-box (suc i) c m h = ranges-of (λ y. leaf-box i (c * getD sizes i 0 + y) m) (from 0 (getD counts i 0 - 0)) h
+  leaf-box (suc i) c m h = ranges-of (λ y. leaf-box i (c * getD sizes i 0 + y) m) (from 0 (getD counts i 0)) h
     where
       Found : Type 0
       Found = (p : List ℕ) × Within sizes (suc i) p × (boxOf sizes (suc i) c p ≡ m)
@@ -163,7 +159,7 @@ module _ (sizes counts rows cuts ranges : List ℕ) where
           split (cond (covered rows cuts ranges i q s) (leaves sizes counts rows cuts ranges i (c * getD sizes i 0 + s)) []) _ (below ih s (omega arith) (covered rows cuts ranges i q s))
           (columns-of ih q (suc s) n (omega arith)) h
 
-      ranges-of : Below → (qs : List ℕ) → Mem m (flatMap (λ q. overColumns sizes counts rows cuts ranges i (leaves sizes counts rows cuts ranges i) c q 0) qs) → Found
+      ranges-of : Below → (qs : List ℕ) → Mem m (flatMap (overColumns sizes counts rows cuts ranges i (leaves sizes counts rows cuts ranges i) c) qs) → Found
       ranges-of ih [] h = absurd h
       ranges-of ih (q ∷ qs) h =
-          split (overColumns sizes counts rows cuts ranges i (leaves sizes counts rows cuts ranges i) c q 0) _ (columns-of ih q 0 (getD sizes i 0 - 0) (omega arith)) (ranges-of ih qs) h
+          split (overColumns sizes counts rows cuts ranges i (leaves sizes counts rows cuts ranges i) c q) _ (columns-of ih q 0 (getD sizes i 0) (omega arith)) (ranges-of ih qs) h

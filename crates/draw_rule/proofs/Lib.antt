@@ -1,4 +1,6 @@
-pub mod Walk
-pub mod Run
+pub mod Passing
+pub mod Level
+pub mod Finding
+pub mod Reaching
 pub mod Covering
 pub mod Meaning

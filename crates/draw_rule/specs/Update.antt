@@ -1,8 +1,7 @@
 -- The boxes of a grid that a rule's ranges cover, once for each combination of one covering range per dimension.
-use mathlib.Core.Path.{_≡_}
-use mathlib.Core.Bool.{Bool, true, false, cond}
+use mathlib.Core.Bool.{Bool, cond}
 use mathlib.Core.List.{List, [], _∷_, flatMap}
-use Prim.Native.Nat.{ℕ, zero, suc, _+_, _-_, _*_, _≤_, _<_}
+use Prim.Native.Nat.{ℕ, zero, suc, _+_, _*_, _≤_, _<_}
 use lib.Dec.{eqb}
 use lib.ListN.{length, getD}
 use Rattle.laws.specs.Lists.{from, anyOf}
@@ -24,33 +23,16 @@ pub record Lawful (sizes counts rows cuts ranges : List ℕ) : Type 0 where
 unfoldable pub covered : List ℕ → List ℕ → List ℕ → ℕ → ℕ → ℕ → Bool
 covered rows cuts ranges i r x = holds (cutOf rows cuts i x) (rangeOf ranges i r)
 
--- y is the first column, from x up to the width, that a range covers
-pub record NextCovered (rows cuts ranges : List ℕ) (i r width x y : ℕ) : Type 0 where
-  pub from-first : x ≤ y
-  pub to-end : y ≤ width
-  pub passed : (k : ℕ) → x ≤ k → k < y → covered rows cuts ranges i r k ≡ false
-  pub reached : y < width → covered rows cuts ranges i r y ≡ true
-
 -- ## The covered boxes, with repeats
 module _ (sizes counts rows cuts ranges : List ℕ) where
-  -- below the columns of a node from x on that the range r of dimension i covers; `below` gives those of a column
-  unfoldable pub overColumns : ℕ → (ℕ → List ℕ) → ℕ → ℕ → ℕ → List ℕ
-  overColumns i below node r x =
-      flatMap (λ y. cond (covered rows cuts ranges i r y) (below (node * getD sizes i 0 + y)) []) (from x (getD sizes i 0 - x))
-
-  -- the same for the ranges from r on
-  unfoldable pub overRanges : ℕ → (ℕ → List ℕ) → ℕ → ℕ → List ℕ
-  overRanges i below node r = flatMap (λ q. overColumns i below node q 0) (from r (getD counts i 0 - r))
+  -- below the columns of a node that the range r of dimension i covers; `below` gives those of a column
+  unfoldable pub overColumns : ℕ → (ℕ → List ℕ) → ℕ → ℕ → List ℕ
+  overColumns i below node r = flatMap (λ y. cond (covered rows cuts ranges i r y) (below (node * getD sizes i 0 + y)) []) (from 0 (getD sizes i 0))
 
   -- all that lie below a node with l dimensions left
   unfoldable pub leaves : ℕ → ℕ → List ℕ
   leaves zero node = node ∷ []
-  leaves (suc i) node = overRanges i (leaves i) node 0
-
-  -- those of the last `rest` ranges of the first dimension
-  unfoldable pub leavesOf : ℕ → ℕ → ℕ → List ℕ
-  leavesOf zero node rest = node ∷ []
-  leavesOf (suc i) node rest = overRanges i (leaves i) node (getD counts i 0 - rest)
+  leaves (suc i) node = flatMap (overColumns i (leaves i) node) (from 0 (getD counts i 0))
 
   -- does the rule cover a box, of all four dimensions?
   unfoldable pub coveredBox : ℕ → Bool

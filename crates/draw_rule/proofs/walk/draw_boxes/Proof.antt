@@ -1,4 +1,4 @@
--- `draw_rule::last::draw_boxes` meets its contract. The loop's invariant: the boxes before the one at hand are walked over.
+-- `draw_rule::walk::draw_boxes` meets its contract. The loop's invariant: the boxes before the one at hand are walked over.
 use mathlib.Core.Path.{_≡_, refl, _∙_}
 use Prim.Native.Nat.{_-_, _≤_}
 use native.Mathlib.Omega.{arith}
@@ -6,9 +6,9 @@ use lib.ListN.{length}
 use Rattle.laws.specs.Lists.{from}
 use Rattle.list_store.specs.Draw.{Walked}
 use Rattle.list_store.proofs.Walking.{walked-as, walked-none, walked-append}
-use Rattle.draw_rule.proofs.Run.{boxes-none, boxes-more}
-use Rattle.draw_rule.proofs.last.draw_boxes.Statement.{statement}
-use Rattle.draw_rule.proofs.last.draw_boxes.Tie as tie
+use Rattle.draw_rule.proofs.Passing.{boxes-none, boxes-more}
+use Rattle.draw_rule.proofs.walk.draw_boxes.Statement.{statement}
+use Rattle.draw_rule.proofs.walk.draw_boxes.Tie as tie
 
 abbrev Inv-loop : tie.InvT-loop
 Inv-loop cells₀ lists₀ memo₀ rule replaces before first end drawn₀ box₀ cells lists memo drawn box =
