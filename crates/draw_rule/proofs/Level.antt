@@ -59,11 +59,10 @@ module _ {cells₀ lists₀ memo₀ : List ℕ} {used₀ : ℕ} {over₀ : Bool}
 
       module _ (planned : Planned sizes counts runs) (few : i < 4) (all : count ≡ getD counts i 0) (nodes : Nodes (length cells₀) sizes (suc i) end) where
         -- it stands in the table, and its numbers fit
-        pub run-there : (i < length sizes) × (i * rangePlaces + 2 * range + 1 < length runs)
-        run-there = (omega (arith, planned .all-sizes), omega (arith, planned .all-runs, planned .count i few))
-
-        pub node-fits : node * getD sizes i 0 ≤ length cells₀
-        node-fits = let h = nodes-in i (nodes-child i node 0 nodes inside (omega arith)) in omega arith
+        pub run-there : (i < length sizes) × (i * rangePlaces + 2 * range + 1 < length runs) × (node * getD sizes i 0 ≤ length cells₀)
+        run-there =
+            let h = nodes-in i (nodes-child i node 0 nodes inside (omega arith)) in
+            (omega (arith, planned .all-sizes), omega (arith, planned .all-runs, planned .count i few), omega arith)
 
         -- its cells are there
         pub run-nodes : {start stop : ℕ} → start ≡ firstBelow sizes runs i node range → stop ≡ endBelow sizes runs i node range → Nodes (length cells) sizes i stop × (start ≤ stop)

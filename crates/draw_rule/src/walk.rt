@@ -35,7 +35,7 @@ fn run_below(sizes: &[u16], runs: &[u16], dimension: usize, node: usize, range: 
 }
 
 // Draws a rule at the boxes from `first` up to `end`, excluded.
-fn draw_boxes(
+fn draw_each(
     cells: &mut [u16],
     lists: &mut [u16],
     memo: &mut [u16],
@@ -58,6 +58,30 @@ fn draw_boxes(
         box_index += 1;
     }
     drawn
+}
+
+// The same: once for a rule that replaces and once for one that appends, since the loop then needn't ask at each box which of them it is.
+fn draw_boxes(
+    cells: &mut [u16],
+    lists: &mut [u16],
+    memo: &mut [u16],
+    rule: u16,
+    replaces: bool,
+    before: usize,
+    drawn: Drawn,
+    first: usize,
+    end: usize,
+) -> Drawn
+    requires { ⌜ Making (now cells) (now lists) (now memo) rule before (drawn .used) ⌝ }
+    requires { ⌜ (first ≤ end) × (end ≤ length (now cells)) ⌝ }
+    ensures { λ r. ⌜ Walked (now (cells .entry)) (now (lists .entry)) (drawn .used) (drawn .overflowed)
+        (now (cells .exit)) (now (lists .exit)) (now (memo .exit)) (r .used) (r .overflowed) rule replaces before (from first (end - first)) ⌝ }
+{
+    if replaces {
+        draw_each(cells, lists, memo, rule, true, before, drawn, first, end)
+    } else {
+        draw_each(cells, lists, memo, rule, false, before, drawn, first, end)
+    }
 }
 
 // Draws a rule below the nodes from `first` up to `end`, excluded, that have the years left: over the runs of the years, at the boxes.
