@@ -13,7 +13,7 @@ use Rattle.tables.specs.Sizes.{listLimit, listPlaces}
 use Rattle.tables.specs.Lists.{listOf}
 use Rattle.tables.specs.Copied.{Copied}
 use Rattle.tables.proofs.Lists.{list-length}
-use Rattle.tables.proofs.Copied.{list-same, list-kept}
+use Rattle.tables.proofs.Copied.{list-words, list-kept}
 use Rattle.list_reclaim.specs.Reclaim.{NewPlace, OldPlace, Moved, MovedOne}
 
 -- words that stay where they are
@@ -31,14 +31,15 @@ module _ (lists memo : List ℕ) (place next number : ℕ) (n : number ≡ suc p
     marked = λ e. absurd (h (ap (λ k. getD memo k 0) n ∙ e));
   }
 
-  pub moved-one : (lists′ : List ℕ) → next ≤ place → number < length memo → getD memo number 0 ≡ 1 → Copied lists lists′ (place * listPlaces) (next * listPlaces) listPlaces
+  pub moved-one : (lists′ : List ℕ) → next ≤ place → getD lists (place * listPlaces) 0 ≤ listLimit → number < length memo → getD memo number 0 ≡ 1
+      → Copied lists lists′ (place * listPlaces) (next * listPlaces) (getD lists (place * listPlaces) 0 + 1)
       → MovedOne lists memo lists′ (set memo number (next + 1)) place next (next + 1)
-  moved-one lists′ d r e c = record {
+  moved-one lists′ d short r e c = record {
     others = λ k ne. getD-set-other memo number k (next + 1) 0 (λ q. ne (q ∙ n));
     low = c .low;
     high = λ i l. c .high i (omega arith);
     unmarked = λ h. absurd (h (ap (λ k. getD memo k 0) (sym n) ∙ e));
-    marked = λ _. (refl, ap (λ k. getD (set memo number (next + 1)) k 0) (sym n) ∙ getD-set-same memo number (next + 1) 0 r ∙ omega arith, c .copied);
+    marked = λ _. (refl, ap (λ k. getD (set memo number (next + 1)) k 0) (sym n) ∙ getD-set-same memo number (next + 1) 0 r ∙ omega arith, λ k l. c .copied k (omega arith));
   }
 
 -- ## Lists moved down
@@ -76,8 +77,8 @@ module _ (lists memo lists′ memo′ lists″ memo″ : List ℕ) (place next n
   -- this one moves, if it is marked
   moves : getD memo (suc place) 0 ≡ 1 → listOf lists″ next ≡ listOf lists place
   moves e =
-      list-same lists′ lists″ place next (omega (arith, m .words (place * listPlaces) (omega arith), short place (omega arith))) (s .marked (mark-now ∙ e) .2)
-      ∙ list-same lists lists′ place place (short place (omega arith)) (λ k l. m .words (place * listPlaces + k) (omega arith))
+      list-words lists′ lists″ place next (s .marked (mark-now ∙ e) .2)
+      ∙ list-words lists lists′ place place (λ k l. m .words (place * listPlaces + k) (omega arith))
 
   module _ (grown : next ≤ next″) where
     earlier : (l : ℕ) → l < place → NewPlace lists memo lists″ memo″ next″ l

@@ -38,7 +38,7 @@ pub record MovedOne (lists memo lists′ memo′ : List ℕ) (place next next′
   pub high : (i : ℕ) → (place + 1) * listPlaces ≤ i → getD lists′ i 0 ≡ getD lists i 0
   pub unmarked : (getD memo (suc place) 0 ≡ 1 → ⊥) → next′ ≡ next
   pub marked : getD memo (suc place) 0 ≡ 1 → (next′ ≡ next + 1) × (getD memo′ (suc place) 0 ≡ suc next)
-      × ((k : ℕ) → k < listPlaces → getD lists′ (next * listPlaces + k) 0 ≡ getD lists (place * listPlaces + k) 0)
+      × ((k : ℕ) → k ≤ getD lists (place * listPlaces) 0 → getD lists′ (next * listPlaces + k) 0 ≡ getD lists (place * listPlaces + k) 0)
 
 -- THE ANSWER: the store shows at each box what it showed; each of its lists was there, and is held by a box; and there are as many of them as
 -- the boxes have distinct lists that are not empty

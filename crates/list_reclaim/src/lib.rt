@@ -35,26 +35,29 @@ fn mark(cells: &[u16], memo: &mut [u16])
     }
 }
 
-// A place's words at a place not behind it; a list that stays where it is isn't copied.
-fn move_words(lists: &mut [u16], place: usize, next: usize)
-    requires { ⌜ (next ≤ place) × (place * listPlaces + listPlaces ≤ length (now lists)) ⌝ }
-    ensures { λ _. ⌜ Copied (now (lists .entry)) (now (lists .exit)) (place * listPlaces) (next * listPlaces) listPlaces ⌝ }
+// A place's list, its number of rules and these, at a place not behind it; a list that stays where it is isn't copied.
+fn copy_list(lists: &mut [u16], place: usize, next: usize)
+    requires { ⌜ (next ≤ place) × (place * listPlaces + listPlaces ≤ length (now lists)) × (getD (now lists) (place * listPlaces) 0 ≤ listLimit) ⌝ }
+    ensures { λ _. ⌜ Copied (now (lists .entry)) (now (lists .exit)) (place * listPlaces) (next * listPlaces) (getD (now (lists .entry)) (place * listPlaces) 0 + 1) ⌝ }
 {
     if next == place {
         return;
     }
-    copy_words(lists, place * LIST_PLACES, next * LIST_PLACES, LIST_PLACES);
+    let from = place * LIST_PLACES;
+    let rules = u16_to_usize(lists[from]);
+    copy_words(lists, from, next * LIST_PLACES, rules + 1);
 }
 
 // Moves a place's list to the next free place, if its number is marked; answers the next free place then.
 fn move_list(lists: &mut [u16], memo: &mut [u16], place: usize, next: usize) -> usize
-    requires { ⌜ (next ≤ place) × (place * listPlaces + listPlaces ≤ length (now lists)) × (place + 1 < length (now memo)) × (place + 1 < 65536) ⌝ }
+    requires { ⌜ (next ≤ place) × (place * listPlaces + listPlaces ≤ length (now lists)) × (getD (now lists) (place * listPlaces) 0 ≤ listLimit)
+        × (place + 1 < length (now memo)) × (place + 1 < 65536) ⌝ }
     ensures { λ r. ⌜ MovedOne (now (lists .entry)) (now (memo .entry)) (now (lists .exit)) (now (memo .exit)) place next r ⌝ }
 {
     if memo[place + 1] != 1 {
         return next;
     }
-    move_words(lists, place, next);
+    copy_list(lists, place, next);
     memo[place + 1] = (next + 1) as u16;
     next + 1
 }

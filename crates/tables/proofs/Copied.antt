@@ -40,17 +40,20 @@ module _ (words s : List ℕ) (at to count i : ℕ) (e : length s ≡ length wor
   }
 
 -- ## Lists at places
--- a list is told by its place's words
-pub list-same : (s t : List ℕ) (p q : ℕ) → getD s (p * listPlaces) 0 ≤ listLimit
-    → ((k : ℕ) → k < listPlaces → getD t (q * listPlaces + k) 0 ≡ getD s (p * listPlaces + k) 0) → listOf t q ≡ listOf s p
+-- a list is told by its place's words: how many rules it has, and their numbers
+pub list-words : (s t : List ℕ) (p q : ℕ) → ((k : ℕ) → k ≤ getD s (p * listPlaces) 0 → getD t (q * listPlaces + k) 0 ≡ getD s (p * listPlaces + k) 0) → listOf t q ≡ listOf s p
 unfolding listOf
-list-same s t p q short same =
+list-words s t p q same =
     ap (λ n. map (λ k. getD t (q * listPlaces + 1 + k) 0) (from 0 n)) (word 0 (q * listPlaces) (p * listPlaces) (omega arith) (omega arith) (omega arith))
     ∙ map-from (λ k. getD t (q * listPlaces + 1 + k) 0) (λ k. getD s (p * listPlaces + 1 + k) 0) 0 (getD s (p * listPlaces) 0)
     (λ k _ l. word (suc k) (q * listPlaces + 1 + k) (p * listPlaces + 1 + k) (omega arith) (omega arith) (omega arith))
   where
-    word : (k i j : ℕ) → k < listPlaces → i ≡ q * listPlaces + k → p * listPlaces + k ≡ j → getD t i 0 ≡ getD s j 0
+    word : (k i j : ℕ) → k ≤ getD s (p * listPlaces) 0 → i ≡ q * listPlaces + k → p * listPlaces + k ≡ j → getD t i 0 ≡ getD s j 0
     word k i j l a b = ap (λ n. getD t n 0) a ∙ same k l ∙ ap (λ n. getD s n 0) b
+
+pub list-same : (s t : List ℕ) (p q : ℕ) → getD s (p * listPlaces) 0 ≤ listLimit
+    → ((k : ℕ) → k < listPlaces → getD t (q * listPlaces + k) 0 ≡ getD s (p * listPlaces + k) 0) → listOf t q ≡ listOf s p
+list-same s t p q short same = list-words s t p q (λ k l. same k (omega arith))
 
 -- places whose words are as they were
 pub list-kept : (lists after : List ℕ) (place p : ℕ) → KeptBelow lists after place → p < place → getD lists (p * listPlaces) 0 ≤ listLimit → listOf after p ≡ listOf lists p

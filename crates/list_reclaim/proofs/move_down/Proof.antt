@@ -1,8 +1,9 @@
 -- `list_reclaim::move_down` meets its contract: the marked lists before the place at hand are moved down.
 use mathlib.Core.Path.{_≡_, refl, _∙_}
-use Prim.Native.Nat.{_-_, _≤_}
+use Prim.Native.Nat.{_-_, _*_, _≤_}
 use native.Mathlib.Omega.{arith}
 use lib.ListN.{length}
+use Rattle.tables.specs.Sizes.{listPlaces}
 use Rattle.list_reclaim.specs.Reclaim.{Moved}
 use Rattle.list_reclaim.proofs.Moving.{moved-none, moved-more}
 use Rattle.list_reclaim.proofs.move_down.Statement.{statement}
@@ -27,7 +28,7 @@ move-down-spec =
     let inv = loop .loop .inv in
     let pre = loop .before .before .before .pre in
     let inside = test .loop-test .taken in
-    (inv .3 .down, omega (arith, inv .1, pre .0, inside), omega (arith, inv .2, pre .1, inside), omega (arith, pre .2, inside)))
+    (inv .3 .down, omega (arith, inv .1, pre .0, inside), omega (arith, inv .3 .words (loop .loop .place * listPlaces) (omega arith), pre .3 (loop .loop .place) inside), omega (arith, inv .2, pre .1, inside), omega (arith, pre .2, inside)))
     (λ c. let test = c .before .before .before .before .before .before .before in omega (arith, test .loop-test .taken, test .before .before .before .before .pre .2))
     (λ c. omega (arith, c .before .before .before .before .before .before .before .loop-test .taken))
     (λ c.

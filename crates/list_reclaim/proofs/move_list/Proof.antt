@@ -15,4 +15,4 @@ move-list-spec =
     (λ c. search needs)
     (λ c.
     let entry = c .before .before .before .before .before .before .before .before in
-    moved-one _ _ _ _ _ (add-one _) _ (entry .pre .0) (entry .pre .2) (c .before .before .before .before .if1 .left) (c .before .before .move-words .ensures)))
+    moved-one _ _ _ _ _ (add-one _) _ (entry .pre .0) (entry .pre .2) (entry .pre .3) (c .before .before .before .before .if1 .left) (c .before .before .copy-list .ensures)))
