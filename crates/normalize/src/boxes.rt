@@ -16,6 +16,17 @@ ghost use Rattle.definition.specs.Rule.{Rule};
 ghost use Rattle.forms.specs.Form.{asForm};
 ghost use Rattle.normalize.specs.Folds.{Foldable, Folds};
 
+// For how many boxes buffers are taken: where many rules are drawn over few boxes for more than there are, since a larger store of lists seldom has to be
+// searched for those that no box holds any longer.
+fn buffers_for(boxes: usize, rules: usize) -> usize
+    ensures { λ r. ⌜ boxes ≤ r ⌝ }
+{
+    if rules <= 64 {
+        return boxes;
+    }
+    if boxes <= 16 { 17 } else { boxes }
+}
+
 // Folds the boxes, in buffers for `room` of them or, where there are more, in larger ones: clearing those of 4,096 boxes would take longer than the fold of
 // a few. The choice calls itself for the next larger buffers: the compiler puts no function with large arrays into one that calls itself, so that a
 // sheet with few boxes has small arrays on its stack only; put together, all their pages would be touched on every call, one after the other.
@@ -95,7 +106,8 @@ pub fn fold_boxes(
             cuts,
         );
     }
-    if boxes <= 16 {
+    let wanted = buffers_for(boxes, states.len());
+    if wanted <= 16 {
         return fold_few_boxes(
             form,
             sheet,
@@ -112,7 +124,7 @@ pub fn fold_boxes(
             cuts,
         );
     }
-    if boxes <= 1024 {
+    if wanted <= 1024 {
         return fold_some_boxes(
             form,
             sheet,

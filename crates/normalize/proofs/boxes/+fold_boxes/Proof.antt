@@ -7,6 +7,7 @@ use borrow.Fn.PlainCycle.{Measures, is, falls, and}
 use Rattle.paving.proofs.place.size_of.Reads as size-of-reads
 use Rattle.normalize.proofs.plain_engine.fold_few_plain.Reads as fold-few-plain-reads
 use Rattle.normalize.proofs.plain_engine.fold_many_plain.Reads as fold-many-plain-reads
+use Rattle.normalize.proofs.boxes.buffers_for.Reads as buffers-for-reads
 use Rattle.normalize.proofs.columns_engine.fold_few_boxes.Reads as fold-few-boxes-reads
 use Rattle.normalize.proofs.columns_engine.fold_some_boxes.Reads as fold-some-boxes-reads
 use Rattle.normalize.proofs.columns_engine.fold_many_boxes.Reads as fold-many-boxes-reads
@@ -35,6 +36,8 @@ pub +fold-boxes-spec : {M : Type 1} → statement M
   fold-few-plain-reads.Learnt,
   fold-many-plain-reads.Asked,
   fold-many-plain-reads.Learnt,
+  buffers-for-reads.Asked,
+  buffers-for-reads.Learnt,
   fold-few-boxes-reads.Asked,
   fold-few-boxes-reads.Learnt,
   fold-some-boxes-reads.Asked,
@@ -65,18 +68,21 @@ pub +fold-boxes-spec : {M : Type 1} → statement M
     (λ c κs. c .before .before .before .before .before .before .before .before .before .before .before .before .before .before .before .before .pre .1 .0)
     (λ c. search needs)
     (λ c. search needs)
+    (λ c κs. search needs)
     (λ c κs.
-    let sized = c .before .before .before .before in
+    let wanted = c .before .before in
+    let sized = wanted .before .before .before in
     let pre = sized .before .before .before .before .before .before .before .before .before .before .before .before .pre in
-    (pre .1 .0, omega (arith, c .before .if4 .taken, sized .size-of .ensures)))
+    (pre .1 .0, omega (arith, c .before .if4 .taken, wanted .buffers-for .ensures, sized .size-of .ensures)))
     (λ c. search needs)
     (λ c. search needs)
     (λ c κs.
-    let sized = c .before .before .before .before .before in
+    let wanted = c .before .before .before in
+    let sized = wanted .before .before .before in
     let pre = sized .before .before .before .before .before .before .before .before .before .before .before .before .pre in
-    (pre .1 .0, omega (arith, c .before .if5 .taken, sized .size-of .ensures)))
+    (pre .1 .0, omega (arith, c .before .if5 .taken, wanted .buffers-for .ensures, sized .size-of .ensures)))
     (λ c. search needs)
     (λ c. search needs)
-    (λ c κs. c .before .before .before .before .before .before .before .before .before .before .before .before .before .before .before .before .before .pre .1 .0)
+    (λ c κs. c .before .before .before .before .before .before .before .before .before .before .before .before .before .before .before .before .before .before .pre .1 .0)
     (λ c. search needs)
     (λ c. search needs)
