@@ -45,14 +45,14 @@ module _ (lists : List ℕ) (number place rule : ℕ) (room : place * listPlaces
       once : List ℕ
       once = set lists (place * listPlaces) 1
 
-  -- the list's words copied to s, then its count and the rule
-  pub appended-more : (s : List ℕ) (n at : ℕ) → length s ≡ length lists → (number ≡ 0 → ⊥) → n < listLimit → n ≡ getD lists ((number - 1) * listPlaces) 0
-      → Copied lists s ((number - 1) * listPlaces + 1) (place * listPlaces + 1) n → at ≡ place * listPlaces + 1 + n
+  -- the list's words copied to s, and maybe some behind them, then its count and the rule
+  pub appended-more : (s : List ℕ) (n words at : ℕ) → n ≤ words → length s ≡ length lists → (number ≡ 0 → ⊥) → n < listLimit → n ≡ getD lists ((number - 1) * listPlaces) 0
+      → Copied lists s ((number - 1) * listPlaces + 1) (place * listPlaces + 1) words → at ≡ place * listPlaces + 1 + n
       → Appended lists (set (set s (place * listPlaces) (n + 1)) at rule) number place rule
-  appended-more s n at same h few z c p = record {
+  appended-more s n words at more same h few z c p = record {
     ended =
         list-more lists (set once at rule) (number - 1) place n rule z (getD-set-other once at (place * listPlaces) rule 0 (omega arith) ∙ getD-set-same s (place * listPlaces) (n + 1) 0 (omega arith))
-        (λ k l. getD-set-other once at (place * listPlaces + 1 + k) rule 0 (omega arith) ∙ getD-set-other s (place * listPlaces) (place * listPlaces + 1 + k) (n + 1) 0 (omega arith) ∙ c .copied k l)
+        (λ k l. getD-set-other once at (place * listPlaces + 1 + k) rule 0 (omega arith) ∙ getD-set-other s (place * listPlaces) (place * listPlaces + 1 + k) (n + 1) 0 (omega arith) ∙ c .copied k (omega arith))
         (ap (λ m. getD (set once at rule) m 0) (sym p) ∙ getD-set-same once at rule 0 (omega (arith, length-set s (place * listPlaces) (n + 1))))
         ∙ ap (_++ (rule ∷ [])) (sym (named-place lists number h));
     kept = λ i l. getD-set-other once at i rule 0 (omega arith) ∙ getD-set-other s (place * listPlaces) i (n + 1) 0 (omega arith) ∙ c .low i (omega arith);

@@ -33,7 +33,8 @@ fn has_room(lists: &[u16], number: usize) -> bool
     entry_allowed(lists[(number - 1) * LIST_PLACES])
 }
 
-// Puts the list that a number names, with a rule at its end, at a place behind it.
+// Puts the list that a number names, with a rule at its end, at a place behind it. Words are copied by eights, which the compiler copies at once: those
+// behind a list are no one's.
 fn append(lists: &mut [u16], number: usize, place: usize, rule: u16)
     requires { ⌜ (number ≤ place) × (place * listPlaces + listPlaces ≤ length (now lists)) × (length (named (now lists) number) < listLimit) ⌝ }
     ensures { λ _. ⌜ Appended (now (lists .entry)) (now (lists .exit)) number place rule ⌝ }
@@ -47,7 +48,8 @@ fn append(lists: &mut [u16], number: usize, place: usize, rule: u16)
     let from = (number - 1) * LIST_PLACES;
     let count = lists[from];
     let entries = u16_to_usize(count);
-    copy_words(lists, from + 1, to + 1, entries);
+    let words = (entries + 7) / 8 * 8;
+    copy_words(lists, from + 1, to + 1, words);
     lists[to] = count + 1;
     lists[to + 1 + entries] = rule;
 }

@@ -23,7 +23,7 @@ append-spec =
     (λ c. simp length-set (omega (arith, c .before .before .pre .1)))
     (λ c. search needs)
     (λ c. appended-first _ _ _ _ (c .before .before .pre .1) (c .if1 .taken))
-    (λ c. search needs) (λ c. search needs) (λ c. search needs) (λ c. search needs) (λ c κs. search needs) (λ c. search needs) (λ c. search needs)
+    (λ c. search needs) (λ c. search needs) (λ c. search needs) (λ c. search needs) (λ c κs. search needs) (λ c. search needs) (λ c. search needs) (λ c. search needs) (λ c. search needs)
     (λ c κs.
     let read = c .before in
     let pre = start read .pre in
@@ -40,4 +40,4 @@ append-spec =
     let read = c .before .before .before .before in
     let count = read .u16-to-usize .ensures .0 in
     let copy = c .before .before .copy-words in
-    appended-more _ _ _ _ (start read .pre .1) _ _ _ (copy .kept .0) (read .before .before .if1 .left) (few read) refl (rw count at (copy .ensures)) (omega (arith, count))))
+    appended-more _ _ _ _ (start read .pre .1) _ _ _ _ (omega (arith, count)) (copy .kept .0) (read .before .before .if1 .left) (few read) refl (copy .ensures) (omega (arith, count))))
