@@ -105,3 +105,16 @@ pub fn marks() -> [u8; 4099]
 {
     [0u8; 4099]
 }
+
+// The number of each box of a group: of up to 64 boxes, and of as many as there may be.
+pub fn few_boxes() -> [u16; 64]
+    ensures { λ r. ⌜ 64 ≡ length r ⌝ }
+{
+    [0u16; 64]
+}
+
+pub fn boxes() -> [u16; 4096]
+    ensures { λ r. ⌜ 4096 ≡ length r ⌝ }
+{
+    [0u16; 4096]
+}

@@ -15,8 +15,8 @@ ghost use Rattle.tables.specs.Rules.{AllCommented, RuleTimes};
 ghost use Rattle.tables.specs.Lists.{BoxLists};
 ghost use Rattle.tables.specs.Pages.{Paged};
 
-// All groups of boxes that have one day, as pages; answers how many numbers these have. The marks are its own: for few boxes there are few to
-// clear.
+// All groups of boxes that have one day, as pages; answers how many numbers these have. The marks and the list of a group's boxes are its own: for
+// few boxes there are few to clear.
 fn pop_groups(
     cells: &mut [u16],
     classes: &[u8],
@@ -35,10 +35,30 @@ fn pop_groups(
 {
     if cells.len() <= 64 {
         let mut marks = buffers::few_marks();
-        return paving_pages::pop_pages(cells, classes, sizes, &mut marks, row_starts, cuts, pages);
+        let mut boxes = buffers::few_boxes();
+        return paving_pages::pop_pages(
+            cells,
+            classes,
+            sizes,
+            &mut marks,
+            &mut boxes,
+            row_starts,
+            cuts,
+            pages,
+        );
     }
     let mut marks = buffers::marks();
-    paving_pages::pop_pages(cells, classes, sizes, &mut marks, row_starts, cuts, pages)
+    let mut boxes = buffers::boxes();
+    paving_pages::pop_pages(
+        cells,
+        classes,
+        sizes,
+        &mut marks,
+        &mut boxes,
+        row_starts,
+        cuts,
+        pages,
+    )
 }
 
 // From boxes with lists to pages of the folded rules, with a class for each list and one for the empty list; answers how many pages there are.

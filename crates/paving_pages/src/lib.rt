@@ -1,11 +1,15 @@
 // The groups of a paving, popped class after class and appended as pages: the value, how many items each sort has (years, months, weeks,
 // weekdays), then the items' first and last values in that order.
+use box_groups::pop_group;
+use box_groups::search::next_box;
+use box_groups::width_of_all;
 use casts::u16_to_usize;
+use paving::place::size_of;
 ghost use mathlib.Core.Path.{_≡_};
-ghost use Prim.Native.Nat.{_+_, _*_, _≤_, _<_};
+ghost use Prim.Native.Nat.{_+_, _*_, _≤_};
 ghost use lib.ListN.{length, getD};
 ghost use Rattle.paving.specs.Grid.{Room, sizeOf, widthOf, chosen};
-ghost use Rattle.paving.specs.Sweep.{swept, groupsFrom, emitted, leftFrom, TakenOut};
+ghost use Rattle.paving.specs.Sweep.{swept, emitted, TakenOut};
 ghost use Rattle.paving_pages.specs.Pages.{CutRows, markedItems, laidItems, state, groupNumbers, groupsNumbers, putPage, PopsPages};
 ghost use Rattle.tables.specs.Items.{endNumbers};
 
@@ -89,130 +93,53 @@ pub fn put_page(
     )
 }
 
-// Pops and empties group after group of one class, and appends each. No cell before a group's first one is of the class any more, so the search
-// for the next group begins there.
-pub fn pop_class(
+// Pops and empties group after group of one class, and appends each. No box before a group's first one is of the class any more, so the search
+// for the next group begins there. `boxes` is lent for the boxes of a group.
+fn pop_class(
     cells: &mut [u16],
     classes: &[u8],
     sizes: &[u16],
     marks: &mut [u8],
+    boxes: &mut [u16],
     row_starts: &[u16],
     cuts: &[u16],
     pages: &mut [u16],
     class: u8,
-    dims_left: usize,
     start: usize,
 ) -> usize
-    requires { ⌜ Room (length (now cells)) (length (now marks)) (now sizes) «dims_left» 0 0 ⌝ }
-    requires { ⌜ CutRows (now «row_starts») (now cuts) (now sizes) «dims_left» ⌝ }
+    requires { ⌜ Room (length (now cells)) (length (now marks)) (now sizes) 4 0 0 ⌝ }
+    requires { ⌜ CutRows (now «row_starts») (now cuts) (now sizes) 4 ⌝ }
     requires { ⌜ getD (now classes) 0 0 ≡ 0 ⌝ }
-    requires { ⌜ start + length (groupsNumbers (now «row_starts») (now cuts) (now sizes) «dims_left» (swept (now cells) (now classes) (now sizes) class «dims_left» .0)) ≤ length (now pages) ⌝ }
+    requires { ⌜ (sizeOf (now sizes) 4 ≤ length (now boxes)) × (length (now cells) ≤ 65536) ⌝ }
+    requires { ⌜ start + length (groupsNumbers (now «row_starts») (now cuts) (now sizes) 4 (swept (now cells) (now classes) (now sizes) class 4 .0)) ≤ length (now pages) ⌝ }
     ensures { λ r. ⌜ (state (now (pages .exit)) r
-        ≡ emitted (putPage (now («row_starts» .entry)) (now (cuts .entry)) (now (sizes .entry)) «dims_left») (state (now (pages .entry)) start)
-        (swept (now (cells .entry)) (now (classes .entry)) (now (sizes .entry)) class «dims_left» .0))
-        × TakenOut (now (sizes .entry)) «dims_left» (now (cells .entry)) (now (marks .entry)) (now (cells .exit)) (now (marks .exit))
-        (swept (now (cells .entry)) (now (classes .entry)) (now (sizes .entry)) class «dims_left» .0)
-        (swept (now (cells .entry)) (now (classes .entry)) (now (sizes .entry)) class «dims_left» .1) ⌝ }
+        ≡ emitted (putPage (now («row_starts» .entry)) (now (cuts .entry)) (now (sizes .entry)) 4) (state (now (pages .entry)) start)
+        (swept (now (cells .entry)) (now (classes .entry)) (now (sizes .entry)) class 4 .0))
+        × TakenOut (now (sizes .entry)) 4 (now (cells .entry)) (now (marks .entry)) (now (cells .exit)) (now (marks .exit))
+        (swept (now (cells .entry)) (now (classes .entry)) (now (sizes .entry)) class 4 .0)
+        (swept (now (cells .entry)) (now (classes .entry)) (now (sizes .entry)) class 4 .1) ⌝ }
 {
-    let boxes = paving::place::size_of(sizes, dims_left);
-    let mut first = 0;
+    let end = size_of(sizes, 4);
+    let columns = width_of_all(sizes);
     let mut next = start;
-    loop {
-        first = paving::row::next_cell(cells, classes, class, first, boxes);
-        let found = paving::pop::pop_filter(
-            cells,
-            classes,
-            sizes,
-            marks,
-            class,
-            dims_left,
-            0,
-            0,
-            first,
-        );
-        match found {
-            paving::Popped::Value(value) => {
-                paving::reset::reset(cells, sizes, marks, dims_left, 0, 0);
-                next = put_page(
-                    pages,
-                    sizes,
-                    row_starts,
-                    cuts,
-                    marks,
-                    value,
-                    next,
-                    dims_left,
-                );
-            }
-            paving::Popped::Nothing => {
-                return next;
-            }
-        }
+    let mut first = next_box(cells, classes, class, 0, end);
+    while first < end {
+        let value = cells[first];
+        pop_group(cells, sizes, marks, boxes, first, columns);
+        next = put_page(pages, sizes, row_starts, cuts, marks, value, next, 4);
+        first = next_box(cells, classes, class, first, end);
     }
+    next
 }
 
-// Does the same for class after class, up to the last.
-pub fn pop_classes(
-    cells: &mut [u16],
-    classes: &[u8],
-    sizes: &[u16],
-    marks: &mut [u8],
-    row_starts: &[u16],
-    cuts: &[u16],
-    pages: &mut [u16],
-    last_class: u8,
-    class: u8,
-    dims_left: usize,
-    next: usize,
-) -> usize
-    requires { ⌜ Room (length (now cells)) (length (now marks)) (now sizes) «dims_left» 0 0 ⌝ }
-    requires { ⌜ CutRows (now «row_starts») (now cuts) (now sizes) «dims_left» ⌝ }
-    requires { ⌜ (getD (now classes) 0 0 ≡ 0) × («last_class» < 255) ⌝ }
-    requires { ⌜ next + length (groupsNumbers (now «row_starts») (now cuts) (now sizes) «dims_left»
-        (groupsFrom (now cells) (now classes) (now sizes) «last_class» class «dims_left»)) ≤ length (now pages) ⌝ }
-    ensures { λ r. ⌜ (state (now (pages .exit)) r
-        ≡ emitted (putPage (now («row_starts» .entry)) (now (cuts .entry)) (now (sizes .entry)) «dims_left») (state (now (pages .entry)) next)
-        (groupsFrom (now (cells .entry)) (now (classes .entry)) (now (sizes .entry)) «last_class» class «dims_left»))
-        × TakenOut (now (sizes .entry)) «dims_left» (now (cells .entry)) (now (marks .entry)) (now (cells .exit)) (now (marks .exit))
-        (groupsFrom (now (cells .entry)) (now (classes .entry)) (now (sizes .entry)) «last_class» class «dims_left»)
-        (leftFrom (now (cells .entry)) (now (classes .entry)) (now (sizes .entry)) «last_class» class «dims_left») ⌝ }
-{
-    if class > last_class {
-        return next;
-    }
-    let then = pop_class(
-        cells,
-        classes,
-        sizes,
-        marks,
-        row_starts,
-        cuts,
-        pages,
-        class,
-        dims_left,
-        next,
-    );
-    pop_classes(
-        cells,
-        classes,
-        sizes,
-        marks,
-        row_starts,
-        cuts,
-        pages,
-        last_class,
-        class + 1,
-        dims_left,
-        then,
-    )
-}
-
-// All groups of the four dimensions as pages; answers how many numbers they have.
+// All groups of the four dimensions as pages, class after class; answers how many numbers they have. `boxes` is lent for the boxes of one group at a time, and may hold
+// anything.
 pub fn pop_pages(
     cells: &mut [u16],
     classes: &[u8],
     sizes: &[u16],
     marks: &mut [u8],
+    boxes: &mut [u16],
     row_starts: &[u16],
     cuts: &[u16],
     pages: &mut [u16],
@@ -220,20 +147,26 @@ pub fn pop_pages(
     requires { ⌜ Room (length (now cells)) (length (now marks)) (now sizes) 4 0 0 ⌝ }
     requires { ⌜ CutRows (now «row_starts») (now cuts) (now sizes) 4 ⌝ }
     requires { ⌜ (getD (now classes) 0 0 ≡ 0) × (13 * sizeOf (now sizes) 4 ≤ length (now pages)) ⌝ }
+    requires { ⌜ (sizeOf (now sizes) 4 ≤ length (now boxes)) × (length (now cells) ≤ 65536) ⌝ }
     ensures { λ r. ⌜ PopsPages (now («row_starts» .entry)) (now (cuts .entry)) (now (sizes .entry)) (now (classes .entry)) (now (cells .entry)) (now (marks .entry)) (now (pages .entry))
         (now (cells .exit)) (now (marks .exit)) (now (pages .exit)) r ⌝ }
 {
-    pop_classes(
-        cells,
-        classes,
-        sizes,
-        marks,
-        row_starts,
-        cuts,
-        pages,
-        5,
-        1,
-        4,
-        0,
-    )
+    let mut next = 0;
+    let mut class: u8 = 1;
+    while class <= 5 {
+        next = pop_class(
+            cells,
+            classes,
+            sizes,
+            marks,
+            boxes,
+            row_starts,
+            cuts,
+            pages,
+            class,
+            next,
+        );
+        class += 1;
+    }
+    next
 }

@@ -2,7 +2,7 @@
 use mathlib.Core.Path.{_≡_, refl, sym, ap, ap₂, _∙_}
 use mathlib.Core.List.{List, [], _∷_}
 use Prim.Native.Nat.{ℕ, zero, suc, _+_, _*_, _/_, _%_, _≤_, _<_}
-use native.Mathlib.Nat.{mul-comm, mod-lt, mod-eq-of-lt, div-eq-of-lt, div-one, div-add-mod', div-div-eq-div-mul, mul-add-div-right, mul-add-mod-self-right}
+use native.Mathlib.Nat.{mul-comm, mod-lt, mod-eq-of-lt, div-eq-of-lt, div-one, div-add-mod', div-mul-le-self, lt-div-mul-add, div-div-eq-div-mul, mul-add-div-right, mul-add-mod-self-right}
 use native.Mathlib.Omega.{arith}
 use lib.ListN.{getD}
 use Rattle.paving.specs.Grid.{sizeOf, grid}
@@ -14,10 +14,16 @@ use Rattle.plain_boxes.specs.Digits.{digitOf, digits}
 abbrev pub Filled : List ℕ → ℕ → Type 0
 Filled sizes l = (k : ℕ) → k < l → 1 ≤ getD sizes k 0
 
+-- the boxes of a block stand one behind the other
+pub in-block : (box node size : ℕ) → 1 ≤ size → box / size ≡ node → (node * size ≤ box) × (box < node * size + size)
+in-block box node size some e =
+    let z : box / size * size ≡ node * size = ap (_* size) e in
+    (omega (arith, z, div-mul-le-self box size), omega (arith, z, lt-div-mul-add {a = box} {b = size} some))
+
 module _ (sizes : List ℕ) where
   -- ## Numbers of nodes
   -- the node above
-  above : (box i : ℕ) → box / sizeOf sizes (suc i) ≡ box / sizeOf sizes i / getD sizes i 0
+  pub above : (box i : ℕ) → box / sizeOf sizes (suc i) ≡ box / sizeOf sizes i / getD sizes i 0
   unfolding sizeOf
   above box i = ap (box /_) (mul-comm (getD sizes i 0) (sizeOf sizes i)) ∙ sym (div-div-eq-div-mul box (sizeOf sizes i) (getD sizes i 0))
 

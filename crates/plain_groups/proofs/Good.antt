@@ -4,7 +4,7 @@ use mathlib.Core.Bool.{Bool, true, false, false≢true}
 use mathlib.Core.List.{List, [], _∷_}
 use Prim.Native.Nat.{ℕ, zero, suc, _+_, _-_, _*_, _/_, _≤_, _<_}
 use native.Mathlib.Omega.{arith}
-use native.Mathlib.Nat.{div-mul-le-self, lt-div-mul-add, div-eq-of-lt-le}
+use native.Mathlib.Nat.{div-eq-of-lt-le}
 use lib.Dec.{eqb, ltb}
 use lib.ListN.{getD}
 use borrow.Author.Tests.{eq-eqb, ltb-true, ltb-false}
@@ -19,7 +19,7 @@ use Rattle.paving.specs.Grid.{Node, sizeOf, grid, chosen, marksFrom}
 use Rattle.paving.proofs.Room.{size-pos}
 use Rattle.tables.specs.Lists.{Within, boxOf}
 use Rattle.plain_boxes.specs.Digits.{digits}
-use Rattle.plain_boxes.proofs.Digits.{Filled, digits-within, box-digits, box-node, digits-box, grid-box}
+use Rattle.plain_boxes.proofs.Digits.{Filled, digits-within, box-digits, box-node, in-block, digits-box, grid-box}
 use Rattle.plain_groups.proofs.Marked.{boxMarked}
 
 -- ## Sets
@@ -46,12 +46,6 @@ chosen-within marks sizes (suc l) base (x ∷ p) i =
     (All-Mem (λ y. y < n) (keep t (from 0 (n - 0))) low x (any-Mem exact-eqb x (keep t (from 0 (n - 0))) (k .0)), chosen-within marks sizes l (base + n) p (k .1))
 
 -- ## Blocks
--- the boxes of a block stand one behind the other
-pub in-block : (box node size : ℕ) → 1 ≤ size → box / size ≡ node → (node * size ≤ box) × (box < node * size + size)
-in-block box node size some e =
-    let z : box / size * size ≡ node * size = ap (_* size) e in
-    (omega (arith, z, div-mul-le-self box size), omega (arith, z, lt-div-mul-add {a = box} {b = size} some))
-
 block-of : (box node size : ℕ) → node * size ≤ box → box < node * size + size → box / size ≡ node
 block-of box node size lo hi = div-eq-of-lt-le size lo (omega arith)
 

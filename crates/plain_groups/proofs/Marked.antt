@@ -12,7 +12,7 @@ use Rattle.paving.specs.Grid.{widthOf, chosen, marksFrom}
 use Rattle.paving.proofs.Popping.{has-keep}
 use Rattle.plain_boxes.specs.Digits.{digitOf, digits}
 use Rattle.plain_boxes.proofs.Digits.{digit-low}
-use Rattle.plain_groups.proofs.Widths.{width-next}
+use Rattle.plain_boxes.proofs.Widths.{width-next}
 
 -- a box, by its digits, in the set that is marked from a place on
 abbrev pub boxMarked : List ℕ → List ℕ → ℕ → ℕ → ℕ → Bool

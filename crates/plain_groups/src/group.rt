@@ -11,7 +11,7 @@ ghost use lib.ListN.{length, getD};
 ghost use Rattle.grid.specs.Group.{agree, inside};
 ghost use Rattle.paving.specs.Grid.{Room, sizeOf, widthOf, grid, chosen, Cleared};
 ghost use Rattle.plain_boxes.specs.Digits.{digits};
-ghost use Rattle.plain_groups.specs.Groups.{grown, MarkedGroup};
+ghost use Rattle.plain_boxes.specs.Groups.{grown, MarkedGroup};
 
 // How many intervals the last `dims_left` dimensions have.
 fn width_of(sizes: &[u16], dims_left: usize) -> usize

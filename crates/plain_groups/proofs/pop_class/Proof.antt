@@ -13,7 +13,7 @@ use Rattle.paving.proofs.Skipping.{none-after}
 use Rattle.paving.proofs.Sweeping.{empty-unmatched, matching, matching-falls, loop-round, loop-end, marks-round, elsewhere-round}
 use Rattle.paving_pages.specs.Pages.{state, putPage}
 use Rattle.paving_pages.proofs.Appending.{round-room}
-use Rattle.plain_groups.proofs.Growing.{first-group, no-group}
+use Rattle.plain_boxes.proofs.Growing.{first-group, no-group}
 use Rattle.plain_groups.proofs.pop_class.Statement.{statement}
 use Rattle.plain_groups.proofs.pop_class.Tie as tie
 

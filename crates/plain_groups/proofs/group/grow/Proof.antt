@@ -9,9 +9,9 @@ use Rattle.paving.specs.Grid.{Room, goodAt, paint}
 use Rattle.paving.proofs.Room.{size-pos, room-node, room-child, room-marks, room-size}
 use Rattle.paving.proofs.Marks.{paint-end, grow-in}
 use Rattle.paving.proofs.Skipping.{size-le}
-use Rattle.plain_groups.specs.Groups.{grown}
-use Rattle.plain_groups.proofs.Widths.{width-le}
-use Rattle.plain_groups.proofs.Growing.{grown-begin}
+use Rattle.plain_boxes.specs.Groups.{grown}
+use Rattle.plain_boxes.proofs.Widths.{width-le}
+use Rattle.plain_boxes.proofs.Growing.{grown-begin}
 use Rattle.plain_groups.proofs.group.grow.Statement.{statement}
 use Rattle.plain_groups.proofs.group.grow.Tie as tie
 

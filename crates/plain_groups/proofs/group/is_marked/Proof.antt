@@ -7,7 +7,7 @@ use lib.ListN.{length}
 use borrow.Author.Needs.{needs}
 use Rattle.paving.specs.Grid.{widthOf}
 use Rattle.paving.proofs.Skipping.{size-le}
-use Rattle.plain_groups.proofs.Widths.{width-next}
+use Rattle.plain_boxes.proofs.Widths.{width-next}
 use Rattle.plain_groups.proofs.Marked.{boxMarked, marked-none, marked-in, marked-out, mark-there}
 use Rattle.plain_groups.proofs.group.is_marked.Statement.{statement}
 use Rattle.plain_groups.proofs.group.is_marked.Tie as tie

@@ -1,6 +1,6 @@
 -- `plain_groups::group::mark_group` meets its contract: the group is grown along years, months, weeks and weekdays, one after the other.
 use borrow.Author.Needs.{needs}
-use Rattle.plain_groups.proofs.Growing.{group-all}
+use Rattle.plain_boxes.proofs.Growing.{group-all}
 use Rattle.plain_groups.proofs.group.mark_group.Statement.{statement}
 use Rattle.plain_groups.proofs.group.mark_group.Tie as tie
 

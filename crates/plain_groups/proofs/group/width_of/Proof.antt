@@ -4,7 +4,7 @@ use Prim.Native.Nat.{suc, _+_, _-_, _≤_}
 use native.Mathlib.Omega.{arith}
 use borrow.Author.Needs.{needs}
 use Rattle.paving.specs.Grid.{widthOf}
-use Rattle.plain_groups.proofs.Widths.{width-none, width-next, width-le}
+use Rattle.plain_boxes.proofs.Widths.{width-none, width-next, width-le}
 use Rattle.plain_groups.proofs.group.width_of.Statement.{statement}
 use Rattle.plain_groups.proofs.group.width_of.Tie as tie
 

@@ -12,10 +12,10 @@ use Rattle.paving.specs.declared.Popped.the-variants.{Value, Nothing}
 use Rattle.paving.proofs.Room.{node-child}
 use Rattle.paving.proofs.Popping.{popped-pop, pop-leaf-yes, pop-columns-hit, pop-node-some, found-first}
 use Rattle.paving.proofs.Skipping.{columns-before, before-none, skips}
 use Rattle.plain_boxes.specs.Digits.{digitOf}
 use Rattle.plain_boxes.proofs.Digits.{node-digit, node-whole, digit-low}
-use Rattle.plain_groups.specs.Groups.{baseOf, grown, MarkedGroup}
-use Rattle.plain_groups.proofs.Widths.{width-next, width-le}
+use Rattle.plain_boxes.specs.Groups.{baseOf, grown, MarkedGroup}
+use Rattle.plain_boxes.proofs.Widths.{width-next, width-le}
 
 -- ## The block of a box
 block-node : (len : ℕ) (sizes : List ℕ) (first l d top : ℕ) → top ≡ l + d → Node len sizes top (first / sizeOf sizes top) → Node len sizes l (first / sizeOf sizes l)
@@ -29,7 +29,7 @@ block-node len sizes first l (suc d) top e r =
     block-node len sizes first l d i refl (subst (Node len sizes i) (node-digit sizes first i) down)
 
 -- its boxes are all there, and so are the marks of its dimensions
-block-room : (len places : ℕ) (sizes : List ℕ) (first l : ℕ) → l ≤ 4 → first < sizeOf sizes 4 → Room len places sizes 4 0 0
+pub block-room : (len places : ℕ) (sizes : List ℕ) (first l : ℕ) → l ≤ 4 → first < sizeOf sizes 4 → Room len places sizes 4 0 0
     → Room len places sizes l (first / sizeOf sizes l) (baseOf sizes l)
 unfolding baseOf
 block-room len places sizes first l h lt r = record {
@@ -51,12 +51,12 @@ grown-begin cells sizes marks first i n size all left h lt e z a w r =
 
 -- ## The group of a box
 module _ (cells sizes : List ℕ) (first : ℕ) where
-  group-begin : (marks : List ℕ) (base : ℕ) → MarkedGroup cells sizes first 0 (first / sizeOf sizes 0) base marks marks
+  pub group-begin : (marks : List ℕ) (base : ℕ) → MarkedGroup cells sizes first 0 (first / sizeOf sizes 0) base marks marks
   unfolding MarkedGroup
   group-begin marks base = rw (node-whole sizes first) (λ classes class none hit. pop-leaf-yes cells classes sizes class marks 0 first base true refl (sym hit) refl)
 
   -- a dimension more: the block is taken that holds the block so far, and the marks stand before those so far
-  group-more : (i : ℕ) (s s₁ s₂ : List ℕ) → i < 4 → 1 ≤ getD sizes i 0 → widthOf sizes 4 ≤ length s
+  pub group-more : (i : ℕ) (s s₁ s₂ : List ℕ) → i < 4 → 1 ≤ getD sizes i 0 → widthOf sizes 4 ≤ length s
       → MarkedGroup cells sizes first i (first / sizeOf sizes i) (baseOf sizes i) s s₁ → s₂ ≡ grown cells sizes first i s₁
       → MarkedGroup cells sizes first (suc i) (first / sizeOf sizes (suc i)) (baseOf sizes (suc i)) s s₂
   unfolding MarkedGroup grown baseOf

@@ -1,0 +1,4 @@
+pub mod Listed
+pub mod Growing
+pub mod Boxes
+pub mod Groups
