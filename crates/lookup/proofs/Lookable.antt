@@ -12,6 +12,8 @@ use Rattle.field.proofs.Bytes.{known-bytes}
 use Rattle.sheet.proofs.Begins.{rules-few}
 use Rattle.prepare.specs.Prepared.{RulesRead, Prepared}
 use Rattle.prepare.proofs.ToDraw.{drained-within, prepared-to-draw}
+use Rattle.point_state.specs.Few.{DaysCut}
+use Rattle.point_state.specs.Point.{PointRules}
 use Rattle.lookup.specs.Looks.{Lookable}
 
 pub read-few : (form : Form) (sheet begins : List ℕ) (count : ℕ) → ((j : ℕ) → getD sheet j 0 < 256)
@@ -25,3 +27,17 @@ prepared-lookable states counts spans replacing rangeCounts ranges rows sizes cu
   to-draw = prepared-to-draw _ _ _ _ _ _ _ _ _ _ _ given inside;
   counted = omega (arith, length-take-le n states inside, drained-within _ _ _ _ _ _ _ _ _ _ _ given count many, many);
 }
+
+-- ## By the point alone
+module _ (states counts spans replacing rangeCounts ranges rows sizes cuts : List ℕ) (left : ℕ) (rs : List Rule)
+    (given : Lookable states counts spans replacing rangeCounts ranges rows sizes cuts left rs) where
+  pub lookable-days : DaysCut rangeCounts ranges rows sizes cuts (length states) (drained rs)
+  lookable-days =
+      let drawable = given .to-draw .drawable in
+      let passed = given .to-draw .passed in
+      record { days = drawable .0; cut = drawable .2; apart = passed .apart; few-boxes = passed .few-boxes }
+
+  pub lookable-rules : PointRules states counts spans replacing rangeCounts ranges (drained rs)
+  lookable-rules =
+      let drawable = given .to-draw .drawable in
+      record { times = given .to-draw .times; days = drawable .0; noted = drawable .1; apart = given .to-draw .passed .apart }

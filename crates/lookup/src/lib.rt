@@ -1,14 +1,17 @@
 // State lookup in a checked sheet: "kind and comment of the last covering span in that point's list, else Closed and 0". Refusals: 8, 11, 5, 6, 14, 9.
 pub mod boxes;
+mod point;
+mod rooms;
 
 use answers::Answer;
 use answers::lookup_refused;
-use boxes::look_boxes;
 use calendar::Dated;
 use forms::Form;
 use limits::past_midnight;
+use point::look_drained;
 use prepare::Judged;
 use prepare::prepare;
+use rooms::look_moment;
 use state_at::Moment;
 ghost use mathlib.Core.Path.{_≡_};
 ghost use Prim.Native.Nat.{_*_, _≤_};
@@ -64,7 +67,7 @@ fn look_moment_in(
     match judged {
         Judged::Fine(rules, why) => {
             let places = rules * 16;
-            look_boxes(
+            look_drained(
                 &states[..rules],
                 &span_counts[..rules],
                 &spans[..places],
@@ -76,105 +79,10 @@ fn look_moment_in(
                 cuts,
                 count - rules,
                 moment,
-                16,
             )
         }
         Judged::Refused(code, place) => lookup_refused(code, place),
     }
-}
-
-// The same, with tables of its own for up to 64 rules.
-fn look_few_rules(
-    form: Form,
-    sheet: &[u8],
-    begins: &[usize],
-    count: usize,
-    moment: Moment,
-) -> Answer
-    requires { ⌜ RulesRead (asForm form) (now sheet) (now begins) count ⌝ }
-    requires { ⌜ InBounds allBounds (momentPoint moment) ⌝ }
-    requires { ⌜ count ≤ 64 ⌝ }
-    ensures { λ r. ⌜ EachReading (asForm form) (now (sheet .entry)) (now (begins .entry)) count (λ rs. lookedUp r ≡ lookAt rs (momentPoint moment) (moment .minute)) ⌝ }
-{
-    let mut states = [0u32; 64];
-    let mut span_counts = [0u8; 64];
-    let mut spans = [0u64; 1024];
-    let mut replacing = [0u8; 64];
-    let mut range_counts = [0u16; 256];
-    let mut ranges = [0u16; 16384];
-    let mut cuts = [0u16; 16392];
-    look_moment_in(
-        form,
-        sheet,
-        begins,
-        count,
-        moment,
-        &mut states,
-        &mut span_counts,
-        &mut spans,
-        &mut replacing,
-        &mut range_counts,
-        &mut ranges,
-        &mut cuts,
-    )
-}
-
-// The same, with tables of its own for as many rules as a sheet has.
-fn look_many_rules(
-    form: Form,
-    sheet: &[u8],
-    begins: &[usize],
-    count: usize,
-    moment: Moment,
-) -> Answer
-    requires { ⌜ RulesRead (asForm form) (now sheet) (now begins) count ⌝ }
-    requires { ⌜ InBounds allBounds (momentPoint moment) ⌝ }
-    ensures { λ r. ⌜ EachReading (asForm form) (now (sheet .entry)) (now (begins .entry)) count (λ rs. lookedUp r ≡ lookAt rs (momentPoint moment) (moment .minute)) ⌝ }
-{
-    let mut states = [0u32; 256];
-    let mut span_counts = [0u8; 256];
-    let mut spans = [0u64; 4096];
-    let mut replacing = [0u8; 256];
-    let mut range_counts = [0u16; 1024];
-    let mut ranges = [0u16; 65536];
-    let mut cuts = [0u16; 65544];
-    look_moment_in(
-        form,
-        sheet,
-        begins,
-        count,
-        moment,
-        &mut states,
-        &mut span_counts,
-        &mut spans,
-        &mut replacing,
-        &mut range_counts,
-        &mut ranges,
-        &mut cuts,
-    )
-}
-
-// The same, with no larger tables than so many rules may need. A ladder as for the lists.
-fn look_moment(
-    form: Form,
-    sheet: &[u8],
-    begins: &[usize],
-    count: usize,
-    moment: Moment,
-    room: usize,
-) -> Answer
-    requires { ⌜ RulesRead (asForm form) (now sheet) (now begins) count ⌝ }
-    requires { ⌜ InBounds allBounds (momentPoint moment) ⌝ }
-    requires { ⌜ 64 ≤ room ⌝ }
-    ensures { λ r. ⌜ EachReading (asForm form) (now (sheet .entry)) (now (begins .entry)) count (λ rs. lookedUp r ≡ lookAt rs (momentPoint moment) (moment .minute)) ⌝ }
-{
-    if room < count {
-        return look_moment(form, sheet, begins, count, moment, 4 * room);
-    }
-    if room <= 64 {
-        return look_few_rules(form, sheet, begins, count, moment);
-    }
-    look_many_rules(form, sheet, begins, count, moment)
 }
 
 // Tests the date and the minute (8), then looks them up.
@@ -209,7 +117,7 @@ pub fn look_rules(
                 year,
                 minute: minute as u16,
             };
-            look_moment(form, sheet, begins, count, moment, 64)
+            look_moment(form, sheet, begins, count, moment, 4)
         }
         Dated::NoDate => lookup_refused(8, 0),
     }

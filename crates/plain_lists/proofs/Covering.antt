@@ -1,5 +1,5 @@
--- WHICH BOXES A RULE COVERS: a law for each way out of the loops over ranges and over dimensions; and a box is covered where some combination of ranges
--- covers its first point. Rests on the digits of boxes.
+-- WHICH BOXES A RULE COVERS: a law for each way out of the loops over ranges and over dimensions; a rule's ranges hold a value where some range of its row
+-- does, and a box is covered where some combination of ranges covers its first point. Rests on the digits of boxes.
 use mathlib.Core.Path.{_≡_, refl, sym, ap, ap₂, _∙_}
 use mathlib.Core.Bool.{Bool, true, false, _&&_, not, true≢false}
 use mathlib.Core.List.{List, [], _∷_, map}
@@ -14,15 +14,17 @@ use Rattle.laws.proofs.Flags.{not-true, and-true, and-false}
 use Rattle.laws.proofs.Lists.{all-every, every-append, any-same, any-map}
 use Rattle.laws.proofs.Numbers.{from-append, All-from, every-below, from-any, from-none}
 use Rattle.grid.specs.Cut.{holds}
+use Rattle.definition.specs.Rule.{Rule}
 use Rattle.definition.specs.Point.{combinations}
 use Rattle.tables.specs.Sizes.{rangePlaces}
 use Rattle.tables.specs.Ranges.{tableRow, rangeOf, selectorOf}
+use Rattle.tables.specs.Rules.{RuleDays}
 use Rattle.tables.specs.Cuts.{cutOf}
 use Rattle.tables.specs.Lists.{Within, boxOf, startOf}
 use Rattle.tables.proofs.Ranges.{row-at, any-count}
 use Rattle.plain_boxes.specs.Digits.{digitOf, digits}
 use Rattle.plain_boxes.proofs.Digits.{digits-box}
-use Rattle.plain_lists.specs.Covers.{rangeFrom, inRanges, coversIn, coversBox, Coverable}
+use Rattle.plain_lists.specs.Covers.{rangeFrom, inRanges, RangesThere, holdsIn, coversIn, coversBox, Coverable}
 
 -- ## One range
 pub range-begun : (start end value : ℕ) → start ≤ value → ltb value end ≡ holds value (start, end)
@@ -50,17 +52,23 @@ module _ (ranges : List ℕ) (first value : ℕ) where
   unfolding inRanges
   in-no number n l h = sym (from-none (λ j. holds value (rangeFrom ranges first j)) 0 number (λ j _ m. h j (omega arith)))
 
+-- a rule's ranges in a dimension
+pub held-told : (counts ranges : List ℕ) (rule i number value : ℕ) (held : Bool) → number ≡ getD counts (rule * 4 + i) 0
+    → held ≡ inRanges ranges (rule * 256 + i * rangePlaces) number value → held ≡ holdsIn counts ranges rule i value
+unfolding holdsIn
+held-told counts ranges rule i number value held c told = rw (← c) told
+
 -- ## The dimensions
 module _ (rows sizes cuts counts ranges : List ℕ) (rule box : ℕ) where
   -- in the first n of them the rule has a range that holds the box's value
   abbrev pub Held : ℕ → Type 0
   Held n = (i : ℕ) → i < n → coversIn rows sizes cuts counts ranges rule box i ≡ true
 
-  module _ (i row digit number : ℕ) (held : Bool) (a : row ≡ getD rows i 0) (b : digit ≡ digitOf sizes box i) (c : number ≡ getD counts (rule * 4 + i) 0)
-      (told : held ≡ inRanges ranges (rule * 256 + i * rangePlaces) number (getD cuts (row + digit) 0)) where
+  module _ (i row digit : ℕ) (held : Bool) (a : row ≡ getD rows i 0) (b : digit ≡ digitOf sizes box i)
+      (told : held ≡ holdsIn counts ranges rule i (getD cuts (row + digit) 0)) where
     covered-told : held ≡ coversIn rows sizes cuts counts ranges rule box i
     unfolding coversIn cutOf
-    covered-told = rw (← a, ← b, ← c) told
+    covered-told = rw (← a, ← b) told
 
     pub covers-next : Held i → held ≡ true → Held (i + 1)
     covers-next h e = below-more (λ j. coversIn rows sizes cuts counts ranges rule box j ≡ true) i h (sym covered-told ∙ e)
@@ -77,37 +85,45 @@ module _ (rows sizes cuts counts ranges : List ℕ) (rule box : ℕ) where
       sym (all-every (coversIn rows sizes cuts counts ranges rule box) (from 0 4)
       (All-from (λ i. coversIn rows sizes cuts counts ranges rule box i ≡ true) 0 4 (λ i _ m. h i (omega arith))))
 
+-- ## A rule's row
+pub ranges-there : (counts ranges : List ℕ) (n : ℕ) (rs : List Rule) → RuleDays counts ranges n rs → (k : ℕ) → k < n → RangesThere counts ranges k
+ranges-there counts ranges n rs days k here = record {
+  all-counts = omega (arith, days .all-counts);
+  all-ranges = omega (arith, days .all-ranges);
+  few = λ i l. omega (arith, row-at counts k 4 i l, days .each k here .few i l);
+}
+
+-- THE VALUES THAT ITS RANGES HOLD in a dimension
+pub held-row : (counts ranges : List ℕ) (rule : ℕ) → RangesThere counts ranges rule → (i value : ℕ) → i < 4
+    → holdsIn counts ranges rule i value
+    ≡ not (eqb (count (holds value) (map (rangeOf (tableRow ranges rule 256) i) (from 0 (getD (tableRow counts rule 4) i 0)))) 0)
+unfolding holdsIn inRanges rangeFrom rangeOf
+held-row counts ranges rule there i value l =
+    any-same (λ k. holds value (rangeFrom ranges (rule * 256 + i * rangePlaces) k)) (λ k. holds value (rangeOf (tableRow ranges rule 256) i k)) (from 0 number)
+    (All-from _ 0 number (λ k _ m. ap (holds value) (one k (omega arith))))
+    ∙ sym (any-map (holds value) (rangeOf (tableRow ranges rule 256) i) (from 0 number)) ∙ any-count (holds value) (map (rangeOf (tableRow ranges rule 256) i) (from 0 number))
+    ∙ ap (λ n. not (eqb (count (holds value) (map (rangeOf (tableRow ranges rule 256) i) (from 0 n))) 0)) (sym (row-at counts rule 4 i l))
+  where
+    number : ℕ
+    number = getD counts (rule * 4 + i) 0
+
+    at : (k j : ℕ) → i * rangePlaces + k ≡ j → k < rangePlaces → (p : ℕ) → rule * 256 + j ≡ p → getD ranges p 0 ≡ getD (tableRow ranges rule 256) j 0
+    at k j e m p q = ap (λ n. getD ranges n 0) (sym q) ∙ sym (row-at ranges rule 256 j (omega (arith, l)))
+
+    one : (k : ℕ) → k < number → rangeFrom ranges (rule * 256 + i * rangePlaces) k ≡ rangeOf (tableRow ranges rule 256) i k
+    one k m =
+        let few = there .few i l in
+        ap₂ (λ a b. (a, b)) (at (2 * k) (i * rangePlaces + 2 * k) refl (omega (arith, few, m)) (rule * 256 + i * rangePlaces + 2 * k) (omega arith))
+        (at (2 * k + 1) (i * rangePlaces + 2 * k + 1) (omega arith) (omega (arith, few, m)) (rule * 256 + i * rangePlaces + 2 * k + 1) (omega arith))
+
 -- ## Combinations
 -- a product is 0 where a factor is
-some-both : (a b : ℕ) → not (eqb b 0) && not (eqb a 0) ≡ not (eqb (a * b) 0)
+pub some-both : (a b : ℕ) → not (eqb b 0) && not (eqb a 0) ≡ not (eqb (a * b) 0)
 some-both zero b = and-false (not (eqb b 0)) ∙ ap (λ n. not (eqb n 0)) (let z : 0 ≡ 0 * b = omega arith in z)
 some-both (suc a) zero = ap (λ n. not (eqb n 0)) (let z : 0 ≡ suc a * 0 = omega arith in z)
 some-both (suc a) (suc b) = rw (ne-eqb (suc b) 0 (omega arith), ne-eqb (suc a) 0 (omega arith), ne-eqb (suc a * suc b) 0 (omega arith))
 
 module _ (rows sizes cuts counts ranges : List ℕ) (rule : ℕ) (c : Coverable rows sizes cuts counts ranges rule) where
-  -- the rule's ranges in its own row
-  held-row : (i value : ℕ) → i < 4
-      → inRanges ranges (rule * 256 + i * rangePlaces) (getD counts (rule * 4 + i) 0) value
-      ≡ not (eqb (count (holds value) (map (rangeOf (tableRow ranges rule 256) i) (from 0 (getD (tableRow counts rule 4) i 0)))) 0)
-  unfolding inRanges rangeFrom rangeOf
-  held-row i value l =
-      any-same (λ k. holds value (rangeFrom ranges (rule * 256 + i * rangePlaces) k)) (λ k. holds value (rangeOf (tableRow ranges rule 256) i k)) (from 0 number)
-      (All-from _ 0 number (λ k _ m. ap (holds value) (one k (omega arith))))
-      ∙ sym (any-map (holds value) (rangeOf (tableRow ranges rule 256) i) (from 0 number)) ∙ any-count (holds value) (map (rangeOf (tableRow ranges rule 256) i) (from 0 number))
-      ∙ ap (λ n. not (eqb (count (holds value) (map (rangeOf (tableRow ranges rule 256) i) (from 0 n))) 0)) (sym (row-at counts rule 4 i l))
-    where
-      number : ℕ
-      number = getD counts (rule * 4 + i) 0
-
-      at : (k j : ℕ) → i * rangePlaces + k ≡ j → k < rangePlaces → (p : ℕ) → rule * 256 + j ≡ p → getD ranges p 0 ≡ getD (tableRow ranges rule 256) j 0
-      at k j e m p q = ap (λ n. getD ranges n 0) (sym q) ∙ sym (row-at ranges rule 256 j (omega (arith, l)))
-
-      one : (k : ℕ) → k < number → rangeFrom ranges (rule * 256 + i * rangePlaces) k ≡ rangeOf (tableRow ranges rule 256) i k
-      one k m =
-          let few = c .few i l in
-          ap₂ (λ a b. (a, b)) (at (2 * k) (i * rangePlaces + 2 * k) refl (omega (arith, few, m)) (rule * 256 + i * rangePlaces + 2 * k) (omega arith))
-          (at (2 * k + 1) (i * rangePlaces + 2 * k + 1) (omega arith) (omega (arith, few, m)) (rule * 256 + i * rangePlaces + 2 * k + 1) (omega arith))
-
   some-combination : (box l : ℕ) → l ≤ 4
       → every (coversIn rows sizes cuts counts ranges rule box) (from 0 l)
       ≡ not (eqb (combinations (selectorOf (tableRow counts rule 4) (tableRow ranges rule 256) l) (startOf rows cuts l (digits sizes l box))) 0)
@@ -126,7 +142,7 @@ module _ (rows sizes cuts counts ranges : List ℕ) (rule : ℕ) (c : Coverable 
       value = cutOf rows cuts i (digitOf sizes box i)
 
       here : t i ≡ not (eqb (count (holds value) (map (rangeOf (tableRow ranges rule 256) i) (from 0 (getD (tableRow counts rule 4) i 0)))) 0)
-      here = held-row i value (omega arith)
+      here = held-row counts ranges rule (c .ranges-there) i value (omega arith)
 
   -- A COVERED BOX is one whose first point some combination of ranges covers
   pub covers-box : (p : List ℕ) → Within sizes 4 p

@@ -20,19 +20,18 @@ use Rattle.definition.specs.Lists.{indexesFrom, indexesAt, distinctLists}
 use Rattle.definition.proofs.Lists.{long, many, Passes, all-pass, first-long, first-many}
 use Rattle.paving.specs.Grid.{sizeOf}
 use Rattle.paving.proofs.Skipping.{size-le}
-use Rattle.paving_points.proofs.Stepping.{rule-there, boxes-node, many-lists, next-at, some-long}
+use Rattle.paving_points.proofs.Stepping.{boxes-node, many-lists, next-at, some-long}
 use Rattle.tables.specs.Sizes.{listPlaces}
 use Rattle.tables.specs.Ranges.{tableRow, selectorOf}
 use Rattle.tables.specs.Cuts.{ToList}
 use Rattle.tables.specs.Lists.{listOf, Earlier, Within, boxOf, startOf}
 use Rattle.tables.specs.Plain.{base, plainStep, overfull, someOverfull}
 use Rattle.tables.proofs.Lists.{list-length, box-in}
-use Rattle.tables.proofs.Ranges.{row-at}
 use Rattle.plain_lists.specs.declared.Listed.the-variants.{Held, Refused}
 use Rattle.plain_lists.specs.Covers.{coversBox, Coverable}
 use Rattle.plain_lists.specs.Draw.{HaveLists, Drew}
 use Rattle.plain_lists.specs.Listing.{Listing}
-use Rattle.plain_lists.proofs.Covering.{covers-box}
+use Rattle.plain_lists.proofs.Covering.{ranges-there, covers-box}
 use Rattle.plain_lists.proofs.Drawing.{step-short}
 
 -- the lists after the first k rules: each box has the list of indexes at its first point
@@ -88,16 +87,13 @@ module _ (replacing counts ranges rows sizes table : List ℕ) (n : ℕ) (lists 
   pub going-coverable : (rs : List Rule) → ToList replacing counts ranges rows sizes table n rs → Coverable rows sizes table counts ranges k
   going-coverable rs t =
       let cut = t .0 .2 in
-      let there = rule-there replacing counts ranges rows sizes table n rs t k here in
       record {
         four = cut .four;
         all-rows = cut .all-rows;
         inside = cut .inside;
         filled = cut .filled;
         small = λ i l. omega (arith, have .few-boxes, size-le sizes i 4 (cut .filled) (omega arith));
-        all-counts = there .1;
-        all-ranges = there .2;
-        few = λ i l. omega (arith, row-at counts k 4 i l, t .0 .0 .each k here .few i l);
+        ranges-there = ranges-there counts ranges n rs (t .0 .0) k here;
       }
 
   abbrev replaces : Bool

@@ -1,13 +1,13 @@
-// Whether a rule covers a box: in each dimension one of its ranges holds the first value of the box's interval. No range ends within an interval, since
-// the cuts are at all ends.
+// Whether a rule's ranges in a dimension hold a value; and whether the rule covers a box: in each dimension one of its ranges holds the first value of the box's
+// interval. No range ends within an interval, since the cuts are at all ends.
 use casts::u16_to_usize;
 use plain_boxes::digit;
 use tables::RANGE_PLACES;
 ghost use mathlib.Core.Path.{_≡_};
-ghost use Prim.Native.Nat.{_+_, _*_, _≤_};
+ghost use Prim.Native.Nat.{_+_, _*_, _≤_, _<_};
 ghost use lib.ListN.{length};
 ghost use Rattle.grid.specs.Cut.{holds};
-ghost use Rattle.plain_lists.specs.Covers.{inRanges, coversBox, Coverable};
+ghost use Rattle.plain_lists.specs.Covers.{inRanges, RangesThere, holdsIn, coversBox, Coverable};
 
 // Whether a range from a start up to an end, excluded, holds a value.
 fn in_range(start: u16, end: u16, value: u16) -> bool
@@ -32,6 +32,21 @@ fn in_ranges(ranges: &[u16], first: usize, count: usize, value: u16) -> bool
     false
 }
 
+// Whether one of a rule's ranges in a dimension holds a value.
+pub fn holds_in(
+    range_counts: &[u16],
+    ranges: &[u16],
+    rule: usize,
+    dimension: usize,
+    value: u16,
+) -> bool
+    requires { ⌜ RangesThere (now «range_counts») (now ranges) rule × (dimension < 4) ⌝ }
+    ensures { λ r. ⌜ r ≡ holdsIn (now («range_counts» .entry)) (now (ranges .entry)) rule dimension value ⌝ }
+{
+    let count = u16_to_usize(range_counts[rule * 4 + dimension]);
+    in_ranges(ranges, rule * 256 + dimension * RANGE_PLACES, count, value)
+}
+
 // Whether the rule of a number covers a box.
 pub fn covers(
     row_starts: &[u16],
@@ -48,13 +63,7 @@ pub fn covers(
     let mut dimension: usize = 0;
     while dimension < 4 {
         let cut = u16_to_usize(row_starts[dimension]) + digit(sizes, box_index, dimension);
-        let count = u16_to_usize(range_counts[rule * 4 + dimension]);
-        if !in_ranges(
-            ranges,
-            rule * 256 + dimension * RANGE_PLACES,
-            count,
-            cuts[cut],
-        ) {
+        if !holds_in(range_counts, ranges, rule, dimension, cuts[cut]) {
             return false;
         }
         dimension += 1;

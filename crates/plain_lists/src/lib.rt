@@ -1,7 +1,7 @@
 // A list for each box, in the order of the boxes: how many rules it has, then their numbers. 01: each rule in turn is put at the end of the list of every
 // point that it covers, and alone where it replaces; 6 where a list passes 32 entries after a rule, 14 where there are more than 512 different lists.
 mod count;
-mod cover;
+pub mod cover;
 
 use casts::u16_to_usize;
 use count::too_many;

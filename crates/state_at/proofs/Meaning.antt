@@ -69,20 +69,22 @@ module _ (states counts spans : List ℕ) where
       (flattened (map (entryAt states counts spans) ks)) (λ n. list-looked m n ks)
 
   module _ (rs : List rule.Rule) (tables : RuleTimes states counts spans rs) where
-    entries-there : (ks : List ℕ) → All (λ k. k < length rs) ks → All (InTables states counts spans) ks
-    entries-there ks h = All-map each ks h
-      where
-        each : (k : ℕ) → k < length rs → InTables states counts spans k
-        each k l =
-            let r = ruleAt rs k in
-            let few : length (r .spans) ≤ 16 = tables .each k l .few-held in
-            let many : getD counts k 0 ≡ length (r .spans) = tables .each k l .count-held in
-            (omega (arith, tables .all-states), omega (arith, tables .all-counts), omega (arith, tables .all-spans))
+    pub rule-there : (k : ℕ) → k < length rs → InTables states counts spans k
+    rule-there k l =
+        let r = ruleAt rs k in
+        let few : length (r .spans) ≤ 16 = tables .each k l .few-held in
+        let many : getD counts k 0 ≡ length (r .spans) = tables .each k l .count-held in
+        (omega (arith, tables .all-states), omega (arith, tables .all-counts), omega (arith, tables .all-spans))
 
     entries-named : (ks : List ℕ) → All (λ k. k < length rs) ks → map (entryAt states counts spans) ks ≡ map entryOf (map (ruleAt rs) ks)
     entries-named [] h = refl
     entries-named (k ∷ ks) h =
         ap₂ _∷_ (entry-back states counts spans k (ruleAt rs k) (tables .each k (h .0)) (All-at _ rs noRule (tables .fits) k (h .0))) (entries-named ks (h .1))
+
+    -- THE STATE AT A MINUTE by a list
+    pub rules-answered : (m : ℕ) (ks : List ℕ) → All (λ k. k < length rs) ks → looked (overList states counts spans m number.closedNumber ks) ≡ stateAt [] (map (ruleAt rs) ks) m
+    unfolding stateAt number.stateCoded
+    rules-answered m ks named = list-looked m number.closedNumber ks ∙ ap (λ es. settled rule.closed (flattened es) m) (entries-named ks named)
 
     -- ## The list at a place
     module _ (lists : List ℕ) (node many : ℕ) (named : All (λ k. k < length rs) (listOf lists node)) (counted : many ≡ getD lists (node * listPlaces) 0) where
@@ -93,15 +95,11 @@ module _ (states counts spans : List ℕ) where
       -- it can be walked
       pub list-ready : node * listPlaces + listPlaces ≤ length lists → getD lists (node * listPlaces) 0 ≤ listLimit
           → (node * listPlaces + 1 + many ≤ length lists) × All (InTables states counts spans) (numbersFrom lists (node * listPlaces + 1) 0 many)
-      list-ready there short = (omega arith, subst (All (InTables states counts spans)) (sym list-numbers) (entries-there (listOf lists node) named))
+      list-ready there short = (omega arith, subst (All (InTables states counts spans)) (sym list-numbers) (All-map rule-there (listOf lists node) named))
 
-      -- THE STATE AT A MINUTE
       pub list-answered : (m : ℕ) (r : StateFound) → r ≡ overList states counts spans m number.closedNumber (numbersFrom lists (node * listPlaces + 1) 0 many)
           → looked r ≡ stateAt [] (map (ruleAt rs) (listOf lists node)) m
-      unfolding stateAt number.stateCoded
-      list-answered m r h =
-          ap looked (h ∙ ap (overList states counts spans m number.closedNumber) list-numbers) ∙ list-looked m number.closedNumber (listOf lists node)
-          ∙ ap (λ es. settled rule.closed (flattened es) m) (entries-named (listOf lists node) named)
+      list-answered m r h = ap looked (h ∙ ap (overList states counts spans m number.closedNumber) list-numbers) ∙ rules-answered m (listOf lists node) named
 
 -- the empty list leaves plain Closed
 pub empty-answered : (m : ℕ) → looked (State number.closedNumber) ≡ stateAt [] [] m

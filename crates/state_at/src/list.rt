@@ -66,7 +66,7 @@ fn over_spans(
 }
 
 // The state after a rule's spans.
-fn over_rule(
+pub fn over_rule(
     states: &[u32],
     span_counts: &[u8],
     spans: &[u64],

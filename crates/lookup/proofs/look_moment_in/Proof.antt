@@ -37,57 +37,57 @@ mul-places c =
     let told = judged-fine _ _ _ _ _ _ _ _ _ _ _ (p .prepare .ensures _ _ (read .0) (read .1)) _ _ (c .before .judged .given .1) in
     search (needs, told .0 .drawable .0 .few-rules)
 
-slice-reshare-prefix-look-boxes : tie.Need-slice-reshare-prefix-look-boxes
-slice-reshare-prefix-look-boxes c =
+slice-reshare-prefix-look-drained : tie.Need-slice-reshare-prefix-look-drained
+slice-reshare-prefix-look-drained c =
     let p = preparing c in
     omega (arith, within c, start p .pre .1 .1 .0 .0, p .prepare .kept .1 .1 .1 .1 .0)
 
-slice-aggregate-look-boxes : tie.Need-slice-aggregate-look-boxes
-slice-aggregate-look-boxes c =
+slice-aggregate-look-drained : tie.Need-slice-aggregate-look-drained
+slice-aggregate-look-drained c =
     let told = c .before in
     let p = preparing told in
     sym (length-take-le (told .before .judged .given .0 .0) _ (omega (arith, within told, start p .pre .1 .1 .0 .0, p .prepare .kept .1 .1 .1 .1 .0)))
 
-slice-reshare-prefix-look-boxes-2 : tie.Need-slice-reshare-prefix-look-boxes-2
-slice-reshare-prefix-look-boxes-2 c =
+slice-reshare-prefix-look-drained-2 : tie.Need-slice-reshare-prefix-look-drained-2
+slice-reshare-prefix-look-drained-2 c =
     let told = c .before in
     let p = preparing told in
     omega (arith, within told, start p .pre .1 .1 .0 .1, p .prepare .kept .1 .1 .1 .1 .1 .0)
 
-slice-aggregate-look-boxes-2 : tie.Need-slice-aggregate-look-boxes-2
-slice-aggregate-look-boxes-2 c =
+slice-aggregate-look-drained-2 : tie.Need-slice-aggregate-look-drained-2
+slice-aggregate-look-drained-2 c =
     let told = c .before .before in
     let p = preparing told in
     sym (length-take-le (told .before .judged .given .0 .0) _ (omega (arith, within told, start p .pre .1 .1 .0 .1, p .prepare .kept .1 .1 .1 .1 .1 .0)))
 
-slice-reshare-prefix-look-boxes-3 : tie.Need-slice-reshare-prefix-look-boxes-3
-slice-reshare-prefix-look-boxes-3 c =
+slice-reshare-prefix-look-drained-3 : tie.Need-slice-reshare-prefix-look-drained-3
+slice-reshare-prefix-look-drained-3 c =
     let told = c .before .before in
     let p = preparing told in
     omega (arith, within told, start p .pre .1 .1 .0 .2, p .prepare .kept .1 .1 .1 .1 .1 .1 .0)
 
-slice-aggregate-look-boxes-3 : tie.Need-slice-aggregate-look-boxes-3
-slice-aggregate-look-boxes-3 c =
+slice-aggregate-look-drained-3 : tie.Need-slice-aggregate-look-drained-3
+slice-aggregate-look-drained-3 c =
     let told = c .before .before .before in
     let p = preparing told in
     sym (length-take-le (told .before .judged .given .0 .0 * 16) _ (omega (arith, within told, start p .pre .1 .1 .0 .2, p .prepare .kept .1 .1 .1 .1 .1 .1 .0)))
 
-sub-look-boxes : tie.Need-sub-look-boxes
-sub-look-boxes c = within (c .before .before .before .before .before .before .before .before .before)
+sub-look-drained : tie.Need-sub-look-drained
+sub-look-drained c = within (c .before .before .before .before .before .before .before .before .before)
 
-look-boxes-requires : tie.Need-look-boxes-requires
-look-boxes-requires c κs =
+look-drained-requires : tie.Need-look-drained-requires
+look-drained-requires c κs =
     let told = c .before .before .before .before .before .before .before .before .before in
     let p = preparing told in
     let pre = start p .pre in
     let read = pre .0 .1 .1 in
     let fine = judged-fine _ _ _ _ _ _ _ _ _ _ _ (p .prepare .ensures _ _ (read .0) (read .1)) _ _ (told .before .judged .given .1) in (
       (_, prepared-lookable _ _ _ _ _ _ _ _ _ _ _ (fine .0) _ (read .1) (omega (arith, within told, pre .1 .1 .0 .0, p .prepare .kept .1 .1 .1 .1 .0))),
-      (pre .1 .0, omega arith),
+      pre .1 .0,
     )
 
 -- where the rules are prepared, at the end of the first branch
-abbrev finished : tie.After-look-boxes → tie.After-prepare
+abbrev finished : tie.After-look-drained → tie.After-prepare
 finished c = preparing (c .before .before .before .before .before .before .before .before .before .before)
 
 returns : tie.Need-returns
@@ -95,7 +95,7 @@ returns c =
     let told = c .before .before .before .before .before .before .before .before .before .before in
     let p = preparing told in λ rs end reading many.
     let fine = judged-fine _ _ _ _ _ _ _ _ _ _ _ (p .prepare .ensures rs end reading many) _ _ (told .before .judged .given .1) in
-    c .look-boxes .ensures rs
+    c .look-drained .ensures rs
     (prepared-lookable _ _ _ _ _ _ _ _ _ _ _ (fine .0) _ many (omega (arith, within told, start p .pre .1 .1 .0 .0, p .prepare .kept .1 .1 .1 .1 .0)))
 
 returns-2 : tie.Need-returns-2
@@ -109,9 +109,9 @@ pub look-moment-in-spec : {M : Type 1} → statement M
 look-moment-in-spec =
     tie.close
     (tie.spec
-    (λ c. search needs) (λ c. search needs) prepare-requires (λ c. search needs) mul-places slice-reshare-prefix-look-boxes slice-aggregate-look-boxes
-    slice-reshare-prefix-look-boxes-2 slice-aggregate-look-boxes-2 slice-reshare-prefix-look-boxes-3 slice-aggregate-look-boxes-3
-    (λ c. search needs) (λ c. search needs) sub-look-boxes look-boxes-requires (λ c. search needs) (λ c κs. search needs)
+    (λ c. search needs) (λ c. search needs) prepare-requires (λ c. search needs) mul-places slice-reshare-prefix-look-drained slice-aggregate-look-drained
+    slice-reshare-prefix-look-drained-2 slice-aggregate-look-drained-2 slice-reshare-prefix-look-drained-3 slice-aggregate-look-drained-3
+    (λ c. search needs) (λ c. search needs) sub-look-drained look-drained-requires (λ c. search needs) (λ c κs. search needs)
     (λ c. finished c .prepare .kept .1 .1 .1 .1 .0)
     (λ c. finished c .prepare .kept .1 .1 .1 .1 .1 .0)
     (λ c. finished c .prepare .kept .1 .1 .1 .1 .1 .1 .0)

@@ -15,18 +15,14 @@ Inv-loop rows sizes cuts counts ranges rule box dimension₀ dimension = (dimens
 abbrev μ-loop : tie.MeasureT-loop
 μ-loop rows sizes cuts counts ranges rule box dimension₀ dimension = 4 - dimension
 
--- from the loop's turn back to where the function begins; and to the turn from where the box's interval, the count of ranges, and the answer about them are
--- known
+-- from the loop's turn back to where the function begins; and to the turn from where the box's interval, and the answer about it, are known
 abbrev start : tie.In-loop Inv-loop μ-loop → tie.Start Inv-loop μ-loop
 start c = c .before .before .before .before .before .before .before
 
 abbrev placed : tie.After-digit Inv-loop μ-loop → tie.In-loop Inv-loop μ-loop
 placed c = c .before .before .before
 
-abbrev counted : tie.After-u16-to-usize2 Inv-loop μ-loop → tie.After-digit Inv-loop μ-loop
-counted c = c .before .before
-
-abbrev asked : tie.After-in-ranges Inv-loop μ-loop → tie.After-u16-to-usize2 Inv-loop μ-loop
+abbrev asked : tie.After-holds-in Inv-loop μ-loop → tie.After-digit Inv-loop μ-loop
 asked c = c .before .before
 
 -- the cut that is read stands in its row
@@ -54,34 +50,20 @@ covers-spec =
     let here = test .loop-test .taken in
     (omega (arith, here, pre .four), (λ k l. pre .filled k (omega (arith, here))), pre .small _ here))
     (λ c. omega (arith, inside c, start (placed c) .good))
-    (λ c. let entry = start (placed c) in omega (arith, entry .good, entry .pre .all-counts))
-    (λ c. let test = placed c in omega (arith, start test .good, start test .pre .all-counts, test .loop-test .taken))
-    (λ c. let test = placed c in omega (arith, start test .good, start test .pre .all-counts, test .loop-test .taken))
-    (λ c. let test = placed (c .before) in omega (arith, test .loop-test .taken, start test .pre .all-counts))
-    (λ c κs. search needs)
-    (λ c. let entry = start (placed (counted c)) in omega (arith, entry .good, entry .pre .all-ranges))
-    (λ c. omega (arith, placed (counted c) .loop-test .taken))
-    (λ c. let test = placed (counted c) in omega (arith, start test .good, start test .pre .all-ranges, test .loop-test .taken))
-    (λ c. omega (arith, inside (counted c), start (placed (counted c)) .good))
-    (λ c. omega (arith, inside (counted (c .before))))
-    (λ c κs.
-    let test = placed (counted (c .before)) in
-    let pre = start test .pre in
-    let here = test .loop-test .taken in
-    omega (arith, pre .few (test .before .loop .dimension) here, pre .all-ranges, here, c .before .u16-to-usize2 .ensures .0))
+    (λ c. omega (arith, inside c, start (placed c) .good))
+    (λ c. omega (arith, inside (c .before)))
+    (λ c κs. let test = placed (c .before) in (start test .pre .ranges-there, test .loop-test .taken))
     (λ c.
-    let count = asked (c .before) in
-    let digit = counted count in
+    let digit = asked (c .before) in
     let test = placed digit in
-    covers-no _ _ _ _ _ _ _ _ _ _ _ _ (digit .before .u16-to-usize .ensures .0) (digit .digit .ensures) (count .u16-to-usize2 .ensures .0) (c .before .in-ranges .ensures)
+    covers-no _ _ _ _ _ _ _ _ _ _ _ (digit .before .u16-to-usize .ensures .0) (digit .digit .ensures) (c .before .holds-in .ensures)
     (test .loop-test .taken) (not-true _ (c .if1 .taken)))
-    (λ c. omega (arith, placed (counted (asked (c .before))) .loop-test .taken)) (λ c. omega (arith, placed (counted (asked (c .before))) .loop-test .taken))
+    (λ c. omega (arith, placed (asked (c .before)) .loop-test .taken)) (λ c. omega (arith, placed (asked (c .before)) .loop-test .taken))
     (λ c.
-    let count = asked (c .before) in
-    let digit = counted count in
+    let digit = asked (c .before) in
     let test = placed digit in (
       omega (arith, test .loop-test .taken),
-      covers-next _ _ _ _ _ _ _ _ _ _ _ _ (digit .before .u16-to-usize .ensures .0) (digit .digit .ensures) (count .u16-to-usize2 .ensures .0) (c .before .in-ranges .ensures)
+      covers-next _ _ _ _ _ _ _ _ _ _ _ (digit .before .u16-to-usize .ensures .0) (digit .digit .ensures) (c .before .holds-in .ensures)
           (test .before .loop .inv .1) (not-false _ (c .if1 .left)),
     ))
     (λ c. covers-yes _ _ _ _ _ _ _ _ (c .loop-test .left) (c .before .loop .inv .1)))

@@ -1,8 +1,8 @@
--- `lookup::look_few_rules` meets its contract: its tables are large enough for 64 rules.
+-- `lookup::rooms::look_some_rules` meets its contract: its tables are large enough for 32 rules.
 use native.Mathlib.Omega.{arith}
 use borrow.Author.Needs.{needs}
-use Rattle.lookup.proofs.look_few_rules.Statement.{statement}
-use Rattle.lookup.proofs.look_few_rules.Tie as tie
+use Rattle.lookup.proofs.rooms.look_some_rules.Statement.{statement}
+use Rattle.lookup.proofs.rooms.look_some_rules.Tie as tie
 
 look-moment-in-requires : tie.Need-look-moment-in-requires
 look-moment-in-requires c κs =
@@ -15,8 +15,8 @@ look-moment-in-requires c κs =
       ),
     )
 
-pub look-few-rules-spec : {M : Type 1} → statement M
-look-few-rules-spec =
+pub look-some-rules-spec : {M : Type 1} → statement M
+look-some-rules-spec =
     tie.close
     (tie.spec
     (λ c. search needs) (λ c. search needs) (λ c. search needs) (λ c. search needs) (λ c. search needs) (λ c. search needs) (λ c. search needs)

@@ -1,9 +1,9 @@
--- `lookup::look_many_rules` meets its contract: its tables are large enough for as many rules as a sheet has.
+-- `lookup::rooms::look_many_rules` meets its contract: its tables are large enough for as many rules as a sheet has.
 use native.Mathlib.Omega.{arith}
 use borrow.Author.Needs.{needs}
 use Rattle.lookup.proofs.Lookable.{read-few}
-use Rattle.lookup.proofs.look_many_rules.Statement.{statement}
-use Rattle.lookup.proofs.look_many_rules.Tie as tie
+use Rattle.lookup.proofs.rooms.look_many_rules.Statement.{statement}
+use Rattle.lookup.proofs.rooms.look_many_rules.Tie as tie
 
 look-moment-in-requires : tie.Need-look-moment-in-requires
 look-moment-in-requires c κs =

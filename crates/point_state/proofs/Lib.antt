@@ -1,0 +1,4 @@
+pub mod Covered
+pub mod State
+pub mod Columns
+pub mod FewLists

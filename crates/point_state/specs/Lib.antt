@@ -1,0 +1,2 @@
+pub mod Point
+pub mod Few
