@@ -2,15 +2,15 @@
 -- rules can't be refused for their lists. Rests on the lists of boxes, and on the digits of a box's number.
 use mathlib.Core.Path.{_≡_, refl, sym, ap, ap₂, _∙_}
 use mathlib.Core.Bool.{Bool, true, false, _&&_, not, true≢false}
-use mathlib.Core.List.{List, [], _∷_, _++_}
+use mathlib.Core.List.{List, [], _∷_}
 use mathlib.Core.Option.{none}
-use Prim.Native.Nat.{ℕ, zero, suc, _+_, _*_, _^_, _≤_, _<_}
+use Prim.Native.Nat.{ℕ, zero, suc, _*_, _^_, _≤_, _<_}
 use native.Mathlib.Nat.{mul-le-mul}
 use native.Mathlib.Omega.{arith}
-use lib.Dec.{eqb, ltb}
+use lib.Dec.{eqb}
 use lib.ListN.{length, getD, take, length-append}
 use borrow.Author.Tests.{le-ltb, ne-eqb}
-use Rattle.laws.specs.Lists.{from, filled, All}
+use Rattle.laws.specs.Lists.{filled}
 use Rattle.laws.specs.Tests.{Exact, sameList}
 use Rattle.laws.proofs.Flags.{not-true}
 use Rattle.laws.proofs.Tests.{exact-eqb, exact-list}

@@ -1,9 +1,9 @@
 -- Which columns of a dimension no rule tells apart: there are no more different lists than combinations of one kind of columns for each dimension.
 use mathlib.Core.Path.{_≡_}
+use mathlib.Core.Bool.{cond}
 use mathlib.Core.List.{List}
 use mathlib.Core.Option.{none}
-use Prim.Native.Nat.{ℕ, _+_, _≤_, _<_}
-use lib.ListN.{length, getD}
+use Prim.Native.Nat.{ℕ, zero, suc, _+_, _*_, _≤_, _<_}
 use Rattle.definition.specs.Rule.{Rule}
 use Rattle.definition.specs.Sheet.{sheetLimits}
 use Rattle.definition.specs.Overlap.{firstOverlap}
@@ -11,6 +11,11 @@ use Rattle.paving.specs.Grid.{sizeOf}
 use Rattle.tables.specs.Rules.{RuleDays}
 use Rattle.tables.specs.Cuts.{cutOf, Cut}
 use Rattle.plain_lists.specs.Covers.{RangesThere, holdsIn}
+
+-- which of the first rules hold a value of dimension i: a bit for each, the last rule's lowest
+unfoldable pub marksOf : (counts ranges : List ℕ) → ℕ → ℕ → ℕ → ℕ
+marksOf counts ranges zero i value = 0
+marksOf counts ranges (suc k) i value = marksOf counts ranges k i value * 2 + cond (holdsIn counts ranges k i value) 1 0
 
 module _ (counts ranges : List ℕ) (rules : ℕ) where
   -- the ranges of all rules can be read

@@ -3,9 +3,8 @@ use mathlib.Core.Path.{_≡_}
 use mathlib.Core.Bool.{Bool, true, false, _&&_, cond}
 use mathlib.Core.List.{List, [], _∷_}
 use mathlib.Core.Option.{none}
-use Prim.Native.Nat.{ℕ, zero, suc, _≤_, _<_}
-use lib.Dec.{eqb}
-use lib.ListN.{length, getD}
+use Prim.Native.Nat.{ℕ, zero, suc, _<_}
+use lib.ListN.{length}
 use Rattle.definition.specs.Rule.{Rule}
 use Rattle.definition.specs.Overlap.{firstOverlap}
 use Rattle.codes.specs.Number.{closedNumber}

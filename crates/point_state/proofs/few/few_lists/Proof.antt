@@ -2,7 +2,7 @@
 use mathlib.Core.Path.{sym, _∙_}
 use mathlib.Core.Bool.{true≢false}
 use mathlib.Core.List.{[], _∷_}
-use Prim.Native.Nat.{ℕ, _+_, _*_, _^_, _<_}
+use Prim.Native.Nat.{ℕ, _+_, _*_, _^_, _≤_, _<_}
 use native.Mathlib.Omega.{arith}
 use lib.ListN.{length, getD}
 use borrow.Author.Needs.{needs}
@@ -41,11 +41,11 @@ many c = c .before .before .before .before
 
 -- ## What is needed there
 kinds-there : (c : tie.Else2) → let a = start (boxes c) .args in (i : ℕ) → i < 4
-    → (AllThere (a .range-counts .now) (a .ranges .now) (a .rules) × (i < 4))
+    → (AllThere (a .range-counts .now) (a .ranges .now) (a .rules) × (i < 4) × (a .rules ≤ 32))
     × ((i < length (a .row-starts .now)) × (i < length (a .sizes .now)) × (getD (a .row-starts .now) i 0 + getD (a .sizes .now) i 0 < length (a .cuts .now)))
 kinds-there c i h =
     let cut = start (boxes c) .pre .1 .cut in
-    ((all-there c, h), (omega (arith, cut .all-rows), omega (arith, cut .four), cut .inside i h))
+    ((all-there c, h, boxes c .if1 .left), (omega (arith, cut .all-rows), omega (arith, cut .four), cut .inside i h))
 
 products : (c : tie.After-kinds-in4) → let a = years c .kinds-in .result in let b = months c .kinds-in2 .result in let d = weeks c .kinds-in3 .result in
     (b * a < 2 ^ 64) × (d * (b * a) < 2 ^ 64) × (c .kinds-in4 .result * (d * (b * a)) < 2 ^ 64)
