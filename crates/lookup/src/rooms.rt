@@ -156,7 +156,7 @@ fn look_many_rules(
     )
 }
 
-// The same, with no larger tables than so many rules may need. A ladder as for the lists.
+// The same, with no larger tables than so many rules may need. The choice calls itself, as that of a store for the boxes does.
 pub fn look_moment(
     form: Form,
     sheet: &[u8],

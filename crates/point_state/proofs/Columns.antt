@@ -53,7 +53,7 @@ module _ (counts ranges : List ℕ) (i : ℕ) where
   marks-fit k value h = omega (arith, marks-low k value, pow-le-pow-right {n = 2} (omega arith) {i = k} {j = 32} h)
 
   -- values with the same marks are alike
-  pub marks-alike : (k x y : ℕ) → marksOf counts ranges k i x ≡ marksOf counts ranges k i y → Alike counts ranges k i x y
+  marks-alike : (k x y : ℕ) → marksOf counts ranges k i x ≡ marksOf counts ranges k i y → Alike counts ranges k i x y
   unfolding marksOf
   marks-alike zero x y e = λ rule l. absurd (omega arith)
   marks-alike (suc k) x y e =
@@ -137,13 +137,13 @@ module _ (counts ranges : List ℕ) (rules : ℕ) (rows cuts : List ℕ) (i : �
         example : ℕ → ℕ
         example = with (before .example) kinds columns
 
--- the kinds of four dimensions
-pub four-kinds : (counts ranges : List ℕ) (rules : ℕ) (rows sizes cuts : List ℕ) (years months weeks weekdays : ℕ)
-    → Kinds counts ranges rules rows cuts 0 (getD sizes 0 0) years → Kinds counts ranges rules rows cuts 1 (getD sizes 1 0) months
-    → Kinds counts ranges rules rows cuts 2 (getD sizes 2 0) weeks → Kinds counts ranges rules rows cuts 3 (getD sizes 3 0) weekdays
-    → (i : ℕ) → i < 4 → Kinds counts ranges rules rows cuts i (getD sizes i 0) (getD (years ∷ months ∷ weeks ∷ weekdays ∷ []) i 0)
-four-kinds counts ranges rules rows sizes cuts years months weeks weekdays a b c d zero h = a
-four-kinds counts ranges rules rows sizes cuts years months weeks weekdays a b c d (suc zero) h = b
-four-kinds counts ranges rules rows sizes cuts years months weeks weekdays a b c d (suc (suc zero)) h = c
-four-kinds counts ranges rules rows sizes cuts years months weeks weekdays a b c d (suc (suc (suc zero))) h = d
-four-kinds counts ranges rules rows sizes cuts years months weeks weekdays a b c d (suc (suc (suc (suc i)))) h = absurd (omega arith)
+-- ## Four dimensions
+module _ (counts ranges : List ℕ) (rules : ℕ) (rows sizes cuts : List ℕ) (years months weeks weekdays : ℕ)
+    (by-year : Kinds counts ranges rules rows cuts 0 (getD sizes 0 0) years) (by-month : Kinds counts ranges rules rows cuts 1 (getD sizes 1 0) months)
+    (by-week : Kinds counts ranges rules rows cuts 2 (getD sizes 2 0) weeks) (by-weekday : Kinds counts ranges rules rows cuts 3 (getD sizes 3 0) weekdays) where
+  pub four-kinds : (i : ℕ) → i < 4 → Kinds counts ranges rules rows cuts i (getD sizes i 0) (getD (years ∷ months ∷ weeks ∷ weekdays ∷ []) i 0)
+  four-kinds zero h = by-year
+  four-kinds (suc zero) h = by-month
+  four-kinds (suc (suc zero)) h = by-week
+  four-kinds (suc (suc (suc zero))) h = by-weekday
+  four-kinds (suc (suc (suc (suc i)))) h = absurd (omega arith)
