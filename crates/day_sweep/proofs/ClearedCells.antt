@@ -1,5 +1,5 @@
 -- What the cells hold after a state was emptied.
-use mathlib.Core.Path.{_≡_, refl, sym, ap, _∙_}
+use mathlib.Core.Path.{_≡_, refl, sym, ap, ap₂, _∙_}
 use mathlib.Core.List.{List}
 use mathlib.Core.Bool.{Bool, true, false, cond}
 use Prim.Native.Nat.{ℕ, zero, suc, _+_, _≤_, _<_}
@@ -7,7 +7,7 @@ use native.Mathlib.Omega.{arith}
 use lib.Dec.{eqb}
 use lib.ListN.{getD, set, length, length-set}
 use lib.Seq.{getD-set-same, getD-set-other}
-use borrow.Author.Tests.{eqb-true, eqb-false}
+use borrow.Author.Tests.{eqb-true, eqb-false, ne-eqb}
 use Rattle.codes.specs.Number.{closedNumber}
 use Rattle.day_sweep.specs.Row.{clearFrom}
 
@@ -61,3 +61,31 @@ clear-at vs S j (suc r) k room l h = go (eqb j k) refl (λ ws q l h. clear-at ws
         let d = eqb-false j k e in
         ih ws (omega (arith, size (eqb (getD vs j 0) S))) (omega arith) (omega arith)
         ∙ ap (λ v. cond (eqb v S) closedNumber v) (there d (eqb (getD vs j 0) S))
+
+pub clear-above : (vs : List ℕ) (S j r k : ℕ) → j + r ≤ k → getD (clearFrom vs S j r) k 0 ≡ getD vs k 0
+unfolding clearFrom
+clear-above vs S j zero k h = refl
+clear-above vs S j (suc r) k h = clear-above (cond (eqb (getD vs j 0) S) (set vs j closedNumber) vs) S (j + 1) r k (omega arith) ∙ go (eqb (getD vs j 0) S)
+  where
+    go : (b : Bool) → getD (cond b (set vs j closedNumber) vs) k 0 ≡ getD vs k 0
+    go true = getD-set-other vs j k closedNumber 0 (λ e. omega arith)
+    go false = refl
+
+-- emptied further
+pub clear-more : (vs : List ℕ) (S j r q : ℕ) → clearFrom (clearFrom vs S j r) S (j + r) q ≡ clearFrom vs S j (r + q)
+unfolding clearFrom
+clear-more vs S j zero q =
+    let z : j + 0 ≡ j = omega arith in
+    let w : q ≡ 0 + q = omega arith in ap₂ (clearFrom vs S) z w
+clear-more vs S j (suc r) q =
+    let ws : List ℕ = cond (eqb (getD vs j 0) S) (set vs j closedNumber) vs in
+    let z : j + suc r ≡ j + 1 + r = omega arith in
+    let w : suc (r + q) ≡ suc r + q = omega arith in
+    ap (λ i. clearFrom (clearFrom ws S (j + 1) r) S i q) z ∙ clear-more ws S (j + 1) r q ∙ ap (clearFrom vs S j) w
+
+-- where no cell has the state
+pub clear-past : (vs : List ℕ) (S j r : ℕ) → ((k : ℕ) → j ≤ k → k < j + r → getD vs k 0 ≡ S → ⊥) → clearFrom vs S j r ≡ vs
+unfolding clearFrom
+clear-past vs S j zero d = refl
+clear-past vs S j (suc r) d =
+    rw (ne-eqb (getD vs j 0) S (d j (omega arith) (omega arith)), clearFrom) (clear-past vs S (j + 1) r (λ k l h. d k (omega arith) (omega arith)))

@@ -1,4 +1,6 @@
 pub mod RowReturns
+pub mod TakeReturns
+pub mod Chains
 pub mod MeanRuns
 pub mod ClearedCells
 pub mod PopRow

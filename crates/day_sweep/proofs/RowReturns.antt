@@ -15,71 +15,17 @@ use Rattle.definition.specs.Day.{stateClass}
 use Rattle.codes.specs.Number.{stateCoded, closedNumber, partsNumber}
 use Rattle.words.specs.Words.{part, entryWords}
 use Rattle.day_sweep.specs.Row.{classLimit, wordLimit, entryLimit, runUpTo, runsFrom, clearFrom, isOfClass, classWords, classLeft, classesWords, allClosed}
-use Rattle.words.proofs.Sets.{Laid, none-laid, left-in, left-none, part-sets, length-part}
+use Rattle.words.proofs.Sets.{Laid, none-laid, left-in, left-none}
 
--- words laid from a place on, and how many
-abbrev pub Counted : List ℕ → List ℕ → ℕ → ℕ → List ℕ → Type 0
-Counted s t at r words = (t ≡ sets s at words) × (r ≡ length words)
-
-module _ (s : List ℕ) (at a c x : ℕ) where
-  pub run-there : a < c → x ≡ partsNumber a c 0 0 → (set s at x ≡ sets s at (runUpTo a c)) × (1 ≡ length (runUpTo a c)) × (1 ≤ 1)
+module _ (s : List ℕ) (at a c : ℕ) where
+  pub run-there : (t : List ℕ) (x : ℕ) → a < c → x ≡ partsNumber a c 0 0 → t ≡ set s at x
+      → (t ≡ sets s at (runUpTo a c)) × (at + 1 ≡ at + length (runUpTo a c)) × (at + 1 ≤ at + 1)
   unfolding runUpTo
-  run-there h e = rw (lt-ltb a c h) (ap (set s at) e, refl, omega arith)
+  run-there t x h e l = rw (lt-ltb a c h) (l ∙ ap (set s at) e, refl, omega arith)
 
-  pub run-none : c ≤ a → (s ≡ sets s at (runUpTo a c)) × (0 ≡ length (runUpTo a c)) × (0 ≤ 1)
+  pub run-none : c ≤ a → (s ≡ sets s at (runUpTo a c)) × (at ≡ at + length (runUpTo a c)) × (at ≤ at + 1)
   unfolding runUpTo
-  run-none h = rw (le-ltb a c h) (refl, refl, omega arith)
-
--- the runs of a state, written from interval j on up to interval i: laid over what is written, the rest gives the whole
-module _ (cs vs : List ℕ) (S n : ℕ) (s₀ : List ℕ) (a j : ℕ) where
-  pub record Going (s : List ℕ) (w b i : ℕ) : Type 0 where
-    pub laid : sets s w (runsFrom cs vs S b i (n - i)) ≡ sets s₀ 0 (runsFrom cs vs S a j (n - j))
-    pub counted : w + length (runsFrom cs vs S b i (n - i)) ≡ length (runsFrom cs vs S a j (n - j))
-
-  pub going-start : Going s₀ 0 a j
-  going-start = record { laid = refl; counted = omega arith }
-
-  module _ (s : List ℕ) (w b i : ℕ) where
-    same-going : (words : List ℕ) → runsFrom cs vs S b i (n - i) ≡ words → Going s w b i
-        → (sets s w words ≡ sets s₀ 0 (runsFrom cs vs S a j (n - j))) × (w + length words ≡ length (runsFrom cs vs S a j (n - j)))
-    same-going words e g = (ap (sets s w) (sym e) ∙ g .laid, ap (λ v. w + length v) (sym e) ∙ g .counted)
-
-    pub going-on : i < n → getD vs i 0 ≡ S → Going s w b i → Going s w b (i + 1)
-    unfolding runsFrom
-    going-on h e g =
-        let l = same-going (runsFrom cs vs S b (i + 1) (n - (i + 1))) (ap (runsFrom cs vs S b i) (left-in i n h) ∙ rw (eq-eqb (getD vs i 0) S e, runsFrom)) g in
-        record { laid = l .0; counted = l .1 }
-
-    pub going-break : i < n → (getD vs i 0 ≡ S → ⊥) → (t : List ℕ) (m : ℕ) → t ≡ sets s w (runUpTo b (getD cs i 0))
-        → m ≡ length (runUpTo b (getD cs i 0))
-        → Going s w b i → Going t (w + m) (getD cs (i + 1) 0) (i + 1)
-    unfolding runsFrom
-    going-break h d t m e f g =
-        let first : List ℕ = runUpTo b (getD cs i 0) in
-        let rest : List ℕ = runsFrom cs vs S (getD cs (i + 1) 0) (i + 1) (n - (i + 1)) in
-        let l = same-going (first ++ rest) (ap (runsFrom cs vs S b i) (left-in i n h) ∙ rw (ne-eqb (getD vs i 0) S d, runsFrom)) g in
-        let k : w + m ≡ w + length first = omega (arith, f) in
-        let q : w + m + length rest ≡ w + length (first ++ rest) = omega (arith, f, length-append first rest) in
-        record { laid = ap₂ (λ v c. sets v c rest) e k ∙ sym (sets-append s w first rest) ∙ l .0; counted = q ∙ l .1 }
-
-    pub going-end : n ≤ i → (t : List ℕ) (m : ℕ) → t ≡ sets s w (runUpTo b (getD cs i 0)) → m ≡ length (runUpTo b (getD cs i 0))
-        → Going s w b i → Counted s₀ t 0 (w + m) (runsFrom cs vs S a j (n - j))
-    unfolding runsFrom
-    going-end h t m e f g = let l = same-going _ (ap (runsFrom cs vs S b i) (left-none i n h)) g in (e ∙ l .0, ap (w +_) f ∙ l .1)
-
--- ## Emptying
-module _ (vs : List ℕ) (S j n : ℕ) where
-  pub clear-hit : j < n → getD vs j 0 ≡ S → clearFrom (set vs j closedNumber) S (j + 1) (n - (j + 1)) ≡ clearFrom vs S j (n - j)
-  unfolding clearFrom
-  clear-hit h e = sym (ap (clearFrom vs S j) (left-in j n h) ∙ rw (eq-eqb (getD vs j 0) S e, clearFrom))
-
-  pub clear-miss : j < n → (getD vs j 0 ≡ S → ⊥) → clearFrom vs S (j + 1) (n - (j + 1)) ≡ clearFrom vs S j (n - j)
-  unfolding clearFrom
-  clear-miss h e = sym (ap (clearFrom vs S j) (left-in j n h) ∙ rw (ne-eqb (getD vs j 0) S e, clearFrom))
-
-  pub clear-end : n ≤ j → vs ≡ clearFrom vs S j (n - j)
-  unfolding clearFrom
-  clear-end h = sym (ap (clearFrom vs S j) (left-none j n h))
+  run-none h = rw (le-ltb a c h) (refl, omega arith, omega arith)
 
 -- ## A class
 -- words laid from a place on, the place after them, and the cells that are left
@@ -120,23 +66,17 @@ module _ (cs : List ℕ) (class n : ℕ) (s₀ : List ℕ) (at : ℕ) (vs₀ : L
           let x : classLeft class vs i (n - i) ≡ classLeft class vs (i + 1) (n - (i + 1)) = ap (classLeft class vs i) (left-in i n h) ∙ rw (z, classLeft) in
           record { laid = ap (sets s place) (sym w) ∙ g .laid; placed = ap (λ v. place + length v) (sym w) ∙ g .placed; left = sym x ∙ g .left }
 
-      module _ (d : k ≡ class) (buf buf₁ : List ℕ) (m : ℕ) (runs : Counted buf buf₁ 0 m (runsFrom cs vs (getD vs i 0) (getD cs i 0) i (n - i)))
-          (room : m ≤ length buf)
-          (s₁ : List ℕ) (next : ℕ) (entry : (s₁ ≡ sets s place (entryWords (getD vs i 0) (part buf₁ 0 m))) × (next ≡ place + 2 + m))
+      module _ (d : k ≡ class) (s₁ : List ℕ) (next : ℕ)
+          (entry : (s₁ ≡ sets s place (entryWords (getD vs i 0) (runsFrom cs vs (getD vs i 0) (getD cs i 0) i (n - i)))) ×
+          (next ≡ place + 2 + length (runsFrom cs vs (getD vs i 0) (getD cs i 0) i (n - i))))
           (vs₁ : List ℕ) (cleared : vs₁ ≡ clearFrom vs (getD vs i 0) i (n - i)) where
-        abbrev spans : List ℕ
-        spans = runsFrom cs vs (getD vs i 0) (getD cs i 0) i (suc (n - (i + 1)))
-
-        read : part buf₁ 0 m ≡ spans
-        read =
-            let z : runsFrom cs vs (getD vs i 0) (getD cs i 0) i (n - i) ≡ spans = ap (runsFrom cs vs (getD vs i 0) (getD cs i 0) i) (left-in i n h) in
-            ap₂ (λ v c. part v 0 c) (runs .0) (runs .1) ∙ part-sets buf 0 _ (omega (arith, runs .1, room)) ∙ z
-
         pub sweeping-takes : Sweeping s₁ next vs₁ (i + 1)
         unfolding classWords classLeft isOfClass entryWords
         sweeping-takes =
             let z : eqb (stateClass (stateCoded (getD vs i 0))) class ≡ true = ap (λ v. eqb v class) (sym e) ∙ eq-eqb k class d in
             let c : vs₁ ≡ clearFrom vs (getD vs i 0) i (suc (n - (i + 1))) = cleared ∙ ap (clearFrom vs (getD vs i 0) i) (left-in i n h) in
+            let spans : List ℕ = runsFrom cs vs (getD vs i 0) (getD cs i 0) i (suc (n - (i + 1))) in
+            let same : runsFrom cs vs (getD vs i 0) (getD cs i 0) i (n - i) ≡ spans = ap (runsFrom cs vs (getD vs i 0) (getD cs i 0) i) (left-in i n h) in
             let word : List ℕ = entryWords (getD vs i 0) spans in
             let more : List ℕ = classWords cs class vs₁ (i + 1) (n - (i + 1)) in
             let w : classWords cs class vs i (n - i) ≡ word ++ more =
@@ -144,13 +84,18 @@ module _ (cs : List ℕ) (class n : ℕ) (s₀ : List ℕ) (at : ℕ) (vs₀ : L
             (ap (λ v. entryWords (getD vs i 0) spans ++ classWords cs class v (i + 1) (n - (i + 1))) (sym c)) in
             let x : classLeft class vs i (n - i) ≡ classLeft class vs₁ (i + 1) (n - (i + 1)) =
             ap (classLeft class vs i) (left-in i n h) ∙ rw (z, classLeft) (ap (λ v. classLeft class v (i + 1) (n - (i + 1))) (sym c)) in
-            let first : s₁ ≡ sets s place word = entry .0 ∙ ap (λ v. sets s place (entryWords (getD vs i 0) v)) read in
-            let size : next ≡ place + length word = omega (arith, entry .1, sym (ap length read) ∙ length-part buf₁ 0 m) in
+            let first : s₁ ≡ sets s place word = entry .0 ∙ ap (λ v. sets s place (entryWords (getD vs i 0) v)) same in
+            let size : next ≡ place + length word = omega (arith, entry .1, ap length same) in
             record {
               laid = ap₂ (λ v c. sets v c more) first size ∙ sym (sets-append s place word more) ∙ ap (sets s place) (sym w) ∙ g .laid;
               placed = omega (arith, size, length-append word more, ap length w, g .placed);
               left = sym x ∙ g .left;
             }
+
+-- a state of a class isn't plain Closed
+pub not-plain : (S k class : ℕ) → 1 ≤ class → k ≡ stateClass (stateCoded S) → k ≡ class → S ≡ closedNumber → ⊥
+unfolding stateCoded
+not-plain S k class pos e d q = let z : k ≡ 0 = e ∙ ap (λ v. stateClass (stateCoded v)) q in omega arith
 
 -- ## Class after class
 module _ (cs vs : List ℕ) (n class : ℕ) (s : List ℕ) (at : ℕ) where
@@ -169,13 +114,13 @@ module _ (cs vs : List ℕ) (n class : ℕ) (s : List ℕ) (at : ℕ) where
       )
 
 -- up to a class: there is room for this one and the later ones, and whatever lays them lays the whole
-pub record ClassesOn (cs vs₀ : List ℕ) (n : ℕ) (s₀ b₀ : List ℕ) (class place : ℕ) (s b vs : List ℕ) : Type 0 where
+pub record ClassesOn (cs vs₀ : List ℕ) (n : ℕ) (s₀ : List ℕ) (class place : ℕ) (s vs : List ℕ) : Type 0 where
   pub between : (1 ≤ class) × (class ≤ 6)
   pub room : place + (6 - class) * classLimit < wordLimit
-  pub lengths : (length s ≡ length s₀) × (length b ≡ length b₀) × (length vs ≡ length vs₀)
+  pub lengths : (length s ≡ length s₀) × (length vs ≡ length vs₀)
   pub finishes : (t : List ℕ) (r : ℕ) → Laid s t place r (classesWords cs n class vs (6 - class)) → Laid s₀ t 0 r (classesWords cs n 1 vs₀ 5)
 
-module _ (cs vs₀ : List ℕ) (n : ℕ) (s₀ b₀ : List ℕ) (class place : ℕ) (s b vs : List ℕ) (on : ClassesOn cs vs₀ n s₀ b₀ class place s b vs) where
+module _ (cs vs₀ : List ℕ) (n : ℕ) (s₀ : List ℕ) (class place : ℕ) (s vs : List ℕ) (on : ClassesOn cs vs₀ n s₀ class place s vs) where
   done : classesWords cs n class vs (6 - class) ≡ []
       → (s ≡ sets s₀ 0 (classesWords cs n 1 vs₀ 5)) × (place ≡ length (classesWords cs n 1 vs₀ 5)) × (place < wordLimit)
   done e = let l = on .finishes s place (none-laid s place (classesWords cs n class vs (6 - class)) e) in (l .0, omega (arith, l .1), omega (arith, on .room))
@@ -205,13 +150,13 @@ module _ (cs vs₀ : List ℕ) (n : ℕ) (s₀ b₀ : List ℕ) (class place : �
       → (s ≡ sets s₀ 0 (classesWords cs n 1 vs₀ 5)) × (place ≡ length (classesWords cs n 1 vs₀ 5)) × (place < wordLimit)
   classes-closed h = done (no-classes h (6 - class) class (on .between .0))
 
-  pub classes-on : class < 6 → n ≤ 65536 → (s₁ b₁ us : List ℕ) (next : ℕ)
+  pub classes-on : class < 6 → n ≤ 65536 → (s₁ us : List ℕ) (next : ℕ)
       → Swept s s₁ place next (classWords cs class vs 0 n) us (classLeft class vs 0 n) → next ≤ place + n * entryLimit
-      → (length s₁ ≡ length s) × (length b₁ ≡ length b) × (length us ≡ length vs) → ClassesOn cs vs₀ n s₀ b₀ (class + 1) next s₁ b₁ us
-  classes-on h few s₁ b₁ us next l less same = record {
+      → (length s₁ ≡ length s) × (length us ≡ length vs) → ClassesOn cs vs₀ n s₀ (class + 1) next s₁ us
+  classes-on h few s₁ us next l less same = record {
     between = (omega arith, omega arith);
     room = omega (arith, on .room, less);
-    lengths = (same .0 ∙ on .lengths .0, same .1 ∙ on .lengths .1, same .2 ∙ on .lengths .2);
+    lengths = (same .0 ∙ on .lengths .0, same .1 ∙ on .lengths .1);
     finishes = λ t r k. on .finishes t r (classes-more cs vs n class s place (omega arith) s₁ us next l t r k);
   }
 
