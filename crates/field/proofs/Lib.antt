@@ -1,3 +1,4 @@
 pub mod Bytes
 pub mod FieldAt
 pub mod Taking
+pub mod Wide

@@ -1,6 +1,6 @@
 // The fields of the packed sheet, read at a bit: one reader, which takes the whole bytes that a field spans, and above it one small function
-// for each field that not every value of its width may stand in. Positions stay below `2 ^ 32`: the crates above show that no lawful sheet
-// reaches further.
+// for each field that not every value of its width may stand in. Where eight bytes are left, they are taken as one number of 56 bits: a machine
+// loads them at once, and no item of a sheet has more bits. Positions stay below `2 ^ 32`: the crates above show that no lawful sheet reaches further.
 pub mod width;
 
 use casts::u8_to_u64;
@@ -11,13 +11,14 @@ use forms::rule_count_width;
 use limits::items_allowed;
 use limits::rules_allowed;
 ghost use mathlib.Core.Path.{_≡_};
-ghost use Prim.Native.Nat.{_+_, _*_, _-_, _%_, _≤_, _<_, _^_};
+ghost use Prim.Native.Nat.{_+_, _*_, _-_, _/_, _%_, _≤_, _<_, _^_};
 ghost use lib.ListN.{length};
 ghost use Rattle.grid.specs.Cut.{holds};
 ghost use Rattle.definition.specs.Field.{Layout, sheetBits, fieldAt, plain, lawful, counted};
 ghost use Rattle.definition.specs.Sheet.{sheetLimits, year, month, week, weekday, step, choice, minutes};
 ghost use Rattle.forms.specs.Form.{asForm};
 ghost use Rattle.field.specs.Answer.{asRead};
+ghost use Rattle.field.specs.Wide.{Wide};
 
 // A field's value with the bit after it, or a refusal's code and place.
 pub enum Taken {
@@ -33,9 +34,17 @@ pub fn low_bits(number: u64, count: usize) -> u64
     number & ((1 << count) - 1)
 }
 
+// Of a number the `width` bits that stand before its last `behind`.
+pub fn part(number: u64, behind: usize, width: usize) -> u64
+    requires { ⌜ (behind < 64) × (width < 64) ⌝ }
+    ensures { λ r. ⌜ r ≡ number / 2 ^ behind % 2 ^ width ⌝ }
+{
+    low_bits(number >> behind, width)
+}
+
 // The number in whole bytes, from the byte `first` up to `past`, most significant first.
 pub fn bytes_at(sheet: &[u8], first: usize, past: usize) -> u64
-    requires { ⌜ (first ≤ past) × (past ≤ first + 5) × (past ≤ length (now sheet)) ⌝ }
+    requires { ⌜ (first ≤ past) × (past ≤ first + 8) × (past ≤ length (now sheet)) ⌝ }
     ensures { λ r. ⌜ r ≡ fieldAt (sheetBits (now (sheet .entry))) (8 * first) (8 * (past - first)) ⌝ }
 {
     let mut number: u64 = 0;
@@ -47,11 +56,24 @@ pub fn bytes_at(sheet: &[u8], first: usize, past: usize) -> u64
     number
 }
 
-// The number in the `width` bits at a place: that of the whole bytes which they span, less the bits behind them and those before.
+// The 56 bits at a place, where eight bytes are left: what stands before them in the first byte is shifted out.
+pub fn wide_at(sheet: &[u8], at: usize) -> u64
+    requires { ⌜ (at < 2 ^ 32) × (at / 8 + 8 ≤ length (now sheet)) ⌝ }
+    ensures { λ r. ⌜ Wide (sheetBits (now (sheet .entry))) at 56 r ⌝ }
+{
+    let first = at / 8;
+    (bytes_at(sheet, first, first + 8) << (at % 8)) >> 8
+}
+
+// The number in the `width` bits at a place: the first of 56; of the last bytes of a sheet that of the whole bytes which they span, less the bits
+// behind them and those before.
 pub fn field_at(sheet: &[u8], at: usize, width: usize) -> u64
     requires { ⌜ (width ≤ 32) × (at < 2 ^ 32) × (at + width ≤ 8 * length (now sheet)) ⌝ }
     ensures { λ r. ⌜ r ≡ fieldAt (sheetBits (now (sheet .entry))) at width ⌝ }
 {
+    if at / 8 + 8 <= sheet.len() {
+        return wide_at(sheet, at) >> (56 - width);
+    }
     let end = at + width;
     let past = (end + 7) / 8;
     let spanned = bytes_at(sheet, at / 8, past);

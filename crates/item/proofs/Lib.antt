@@ -2,3 +2,4 @@ pub mod Returns
 pub mod Bodies
 pub mod Spans
 pub mod Sorts
+pub mod Parts

@@ -27,7 +27,7 @@ mul-number c =
     let start = c .before .before .before in
     let loop = c .before .loop in
     let bytes = known-bytes (start .args .sheet .now) (λ j. omega (arith, c .before .before .shared-slice-known .given j)) in
-    omega (arith, bytes-below (start .args .sheet .now) bytes (start .args .first) (loop .index - start .args .first) 4 (omega arith) (omega arith))
+    omega (arith, bytes-below (start .args .sheet .now) bytes (start .args .first) (loop .index - start .args .first) 7 (omega arith) (omega arith))
 
 add-number : tie.Need-add-number Inv-loop μ-loop
 add-number c =
@@ -37,7 +37,7 @@ add-number c =
     let args = start .args in
     let loop = at-loop .loop in
     let bytes = known-bytes (args .sheet .now) (λ j. omega (arith, known .shared-slice-known .given j)) in
-    omega (arith, bytes-below (args .sheet .now) bytes (args .first) (loop .index - args .first) 4 (omega arith) (omega arith), c .u8-to-u64 .ensures .1)
+    omega (arith, bytes-below (args .sheet .now) bytes (args .first) (loop .index - args .first) 7 (omega arith) (omega arith), c .u8-to-u64 .ensures .1)
 
 loop-again : tie.Need-loop-again Inv-loop μ-loop
 loop-again c =
