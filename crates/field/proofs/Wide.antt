@@ -23,7 +23,7 @@ shifted n k l =
     let byte : 8 ≡ k + (8 - k) = omega arith in
     let none : n * 2 ^ k % 2 ^ k ≡ 0 = ap (_% 2 ^ k) (sym (add-zero (n * 2 ^ k))) ∙ low n k (pow-pos k) in
     let up : n * 2 ^ k % 2 ^ (kept + k) ≡ n % 2 ^ kept * 2 ^ k =
-        mod-pow-add (n * 2 ^ k) kept k ∙ ap₂ (λ a b. a % 2 ^ kept * 2 ^ k + b) (shl-shr n k) none ∙ add-zero (n % 2 ^ kept * 2 ^ k) in
+    mod-pow-add (n * 2 ^ k) kept k ∙ ap₂ (λ a b. a % 2 ^ kept * 2 ^ k + b) (shl-shr n k) none ∙ add-zero (n % 2 ^ kept * 2 ^ k) in
     ap₂ (λ w b. n * 2 ^ k % 2 ^ w / 2 ^ b) whole byte ∙ ap (_/ 2 ^ (k + (8 - k))) up ∙ sym (shr-shr (n % 2 ^ kept * 2 ^ k) k (8 - k))
     ∙ ap (_/ 2 ^ (8 - k)) (shl-shr (n % 2 ^ kept) k) ∙ pow-field n 56 (8 - k)
 

@@ -84,8 +84,8 @@ module _ {s : List ℕ} {p n : ℕ} (wide : Wide s p 19 n) where
       let tag = n / 2 ^ 18 % 2 ^ 1 in (
         Rule.fixed (n / 2 ^ 6 % 2 ^ 12),
         tagged-goes _ _ _ _ _ (wide-field wide 0 1 18 refl _ _ p (p + 1) (omega arith) refl refl)
-        (body _ _ _ _ _ (as-fixed tag (eq-eqb tag 0 t))
-        (sym (via-goes _ _ _ _ _ (wide-field wide 1 12 6 refl _ _ (p + 1) (p + 13) refl (omega arith) (le-leb (n / 2 ^ 6 % 2 ^ 12) 2880 a))))),
+            (body _ _ _ _ _ (as-fixed tag (eq-eqb tag 0 t))
+            (sym (via-goes _ _ _ _ _ (wide-field wide 1 12 6 refl _ _ (p + 1) (p + 13) refl (omega arith) (le-leb (n / 2 ^ 6 % 2 ^ 12) 2880 a))))),
       )
 
   pub wide-variable : (n / 2 ^ 18 % 2 ^ 1 ≡ 0 → ⊥) → (t : Rule.Time) × (time .read s p ≡ got t (p + 19))
@@ -94,9 +94,9 @@ module _ {s : List ℕ} {p n : ℕ} (wide : Wide s p 19 n) where
       let tag = n / 2 ^ 18 % 2 ^ 1 in (
         Rule.variable (n / 2 ^ 16 % 2 ^ 2) (n / 2 ^ 0 % 2 ^ 16),
         tagged-goes _ _ _ _ _ (wide-field wide 0 1 18 refl _ _ p (p + 1) (omega arith) refl refl)
-        (body _ _ _ _ _ (as-variable tag (ne-eqb tag 0 t))
-        (sym (via-goes _ _ _ _ _ (then-goes _ _ _ _ (wide-field wide 1 2 16 refl _ _ (p + 1) (p + 3) refl (omega arith) refl)
-        (wide-field wide 3 16 0 refl _ _ (p + 3) (p + 19) refl (omega arith) refl))))),
+            (body _ _ _ _ _ (as-variable tag (ne-eqb tag 0 t))
+            (sym (via-goes _ _ _ _ _ (then-goes _ _ _ _ (wide-field wide 1 2 16 refl _ _ (p + 1) (p + 3) refl (omega arith) refl)
+            (wide-field wide 3 16 0 refl _ _ (p + 3) (p + 19) refl (omega arith) refl))))),
       )
 
 -- ## Spans: times of a and b bits, which the numbers x and y begin with
@@ -109,9 +109,9 @@ module _ {s : List ℕ} {p n : ℕ} (wide : Wide s p 56 n) (a b : ℕ) (few : a 
         let last = end s (p + a) (subst (Wide s (p + a) 19) (sym f) (wide-within wide a 19 (37 - a) (omega arith) (p + a) refl)) in (
           _,
           via-goes _ _ _ _ _
-          (then-goes _ _ _ _ (first .1)
-          (then-goes _ _ _ _ (last .1)
-          (then-goes _ _ _ _ (wide-field wide (a + b) 1 (55 - (a + b)) (omega arith) _ _ (p + a + b) (p + (a + b + 1)) (omega arith) (omega arith) refl) h))),
+              (then-goes _ _ _ _ (first .1)
+              (then-goes _ _ _ _ (last .1)
+              (then-goes _ _ _ _ (wide-field wide (a + b) 1 (55 - (a + b)) (omega arith) _ _ (p + a + b) (p + (a + b + 1)) (omega arith) (omega arith) refl) h))),
         )
 
     pub wide-span : n / 2 ^ (56 - (a + b + 2)) % 2 ^ 1 ≡ 0 → (x : Rule.Span) × (span .read s p ≡ got x (p + (a + b + 2)))

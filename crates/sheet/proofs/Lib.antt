@@ -1,5 +1,6 @@
 pub mod Ends
 pub mod Heads
+pub mod WideHeads
 pub mod Rows
 pub mod RuleEnds
 pub mod RuleBits

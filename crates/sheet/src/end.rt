@@ -1,4 +1,5 @@
-// Where an item, and a row of items, ends; or the refusal met on the way.
+// Where an item, and a row of items, ends; or the refusal met on the way. Where eight bytes are left and an item is lawful, its bits are read at once;
+// else field by field, for the refusal's code and place.
 use item::day::Monthday;
 use item::day::Stepped;
 use item::day::WeekDay;
@@ -19,6 +20,11 @@ fn years_end(sheet: &[u8], at: usize) -> Step
     requires { ⌜ at < 2 ^ 29 ⌝ }
     ensures { λ r. ⌜ asStep r ≡ ends (yearRange .read (sheetBits (now (sheet .entry))) at) ⌝ }
 {
+    if at / 8 + 8 <= sheet.len() {
+        if item::wide::lawful_years(field::wide_at(sheet, at)) {
+            return Step::At(at + 44);
+        }
+    }
     let item = item::day::year_range_at(sheet, at);
     match item {
         Stepped::Item(start, end, step, next) => Step::At(next),
@@ -30,6 +36,15 @@ fn monthdays_end(sheet: &[u8], at: usize) -> Step
     requires { ⌜ at < 2 ^ 29 ⌝ }
     ensures { λ r. ⌜ asStep r ≡ ends (monthdayRange .read (sheetBits (now (sheet .entry))) at) ⌝ }
 {
+    if at / 8 + 8 <= sheet.len() {
+        let bits = field::wide_at(sheet, at);
+        if item::wide::lawful_months(bits) {
+            return Step::At(at + 10);
+        }
+        if item::wide::is_dated(bits) {
+            return Step::At(at + 34);
+        }
+    }
     let item = item::day::monthday_range_at(sheet, at);
     match item {
         Monthday::Months(start, end, next) => Step::At(next),
@@ -43,6 +58,11 @@ fn weeks_end(sheet: &[u8], at: usize) -> Step
     requires { ⌜ at < 2 ^ 29 ⌝ }
     ensures { λ r. ⌜ asStep r ≡ ends (weekRange .read (sheetBits (now (sheet .entry))) at) ⌝ }
 {
+    if at / 8 + 8 <= sheet.len() {
+        if item::wide::lawful_weeks(field::wide_at(sheet, at)) {
+            return Step::At(at + 20);
+        }
+    }
     let item = item::day::week_range_at(sheet, at);
     match item {
         Stepped::Item(start, end, step, next) => Step::At(next),
@@ -54,6 +74,15 @@ fn weekdays_end(sheet: &[u8], at: usize) -> Step
     requires { ⌜ at < 2 ^ 29 ⌝ }
     ensures { λ r. ⌜ asStep r ≡ ends (weekDayRange .read (sheetBits (now (sheet .entry))) at) ⌝ }
 {
+    if at / 8 + 8 <= sheet.len() {
+        let bits = field::wide_at(sheet, at);
+        if item::wide::lawful_weekdays(bits) {
+            return Step::At(at + 33);
+        }
+        if item::wide::is_holiday(bits) {
+            return Step::At(at + 18);
+        }
+    }
     let item = item::day::week_day_range_at(sheet, at);
     match item {
         WeekDay::Fixed(start, end, offset, from_start, from_end, next) => Step::At(next),
@@ -66,6 +95,12 @@ fn spans_end(sheet: &[u8], at: usize) -> Step
     requires { ⌜ at < 2 ^ 29 ⌝ }
     ensures { λ r. ⌜ asStep r ≡ ends (span .read (sheetBits (now (sheet .entry))) at) ⌝ }
 {
+    if at / 8 + 8 <= sheet.len() {
+        let width = item::wide::span_width(field::wide_at(sheet, at));
+        if 0 < width {
+            return Step::At(at + width);
+        }
+    }
     let item = item::time::span_at(sheet, at);
     match item {
         SpanRead::Span(start, end, open_end, repeats, next) => Step::At(next),

@@ -2,11 +2,16 @@
 use crate::end::Step;
 use field::Taken;
 use forms::Form;
+use forms::item_count_width;
+use forms::title_width;
+use limits::items_allowed;
 ghost use mathlib.Core.Path.{_≡_};
+ghost use mathlib.Core.Bool.{true};
 ghost use Prim.Native.Nat.{_≤_, _<_, _^_};
 ghost use Rattle.definition.specs.Field.{Layout, sheetBits};
-ghost use Rattle.definition.specs.Sheet.{sheetLimits, title, counts, body, rule};
+ghost use Rattle.definition.specs.Sheet.{sheetLimits, titleWidth, title, counts, body, rule};
 ghost use Rattle.forms.specs.Form.{asForm};
+ghost use Rattle.item.specs.Begins.{BeginsSome};
 ghost use Rattle.sheet.specs.End.{ends, asStep};
 ghost use Rattle.sheet.specs.Head.{asTitle, titleRefused, asCounts, countsRefused};
 ghost use Rattle.sheet.specs.Rules.{countedEnds};
@@ -127,11 +132,59 @@ fn body_end(
     crate::end::items_end(sheet, after_weekdays, 4, spans)
 }
 
-// The counts, and the items that they count.
+// Whether 56 bits begin with a lawful title: any comment is.
+fn lawful_title(form: Form, bits: u64) -> bool
+    ensures { λ r. ⌜ (r ≡ true → BeginsSome 56 bits (title (asForm form) sheetLimits) (titleWidth (asForm form))) ⌝ }
+{
+    if field::part(bits, 54, 2) < 3 {
+        return field::part(bits, 52, 2) < 3;
+    }
+    false
+}
+
+// Whether all five counts keep the limit.
+fn counts_allowed(years: u64, monthdays: u64, weeks: u64, weekdays: u64, spans: u64) -> bool
+    ensures { λ r. ⌜ (r ≡ true → (years ≤ 16) × (monthdays ≤ 16) × (weeks ≤ 16) × (weekdays ≤ 16) × (spans ≤ 16)) ⌝ }
+{
+    if items_allowed(years) {
+        if items_allowed(monthdays) {
+            if items_allowed(weeks) {
+                if items_allowed(weekdays) {
+                    return items_allowed(spans);
+                }
+            }
+        }
+    }
+    false
+}
+
+// The counts, and the items that they count. Three counts and two have room in 56 bits, all five have not.
 fn counted_end(form: Form, sheet: &[u8], at: usize) -> Step
     requires { ⌜ at < 2 ^ 26 ⌝ }
     ensures { λ r. ⌜ asStep r ≡ countedEnds (asForm form) (sheetBits (now (sheet .entry))) at ⌝ }
 {
+    let width = item_count_width(form);
+    let later = at + 3 * width;
+    if later / 8 + 8 <= sheet.len() {
+        let three = field::wide_at(sheet, at);
+        let two = field::wide_at(sheet, later);
+        let years = field::part(three, 56 - width, width);
+        let monthdays = field::part(three, 56 - 2 * width, width);
+        let weeks = field::part(three, 56 - 3 * width, width);
+        let weekdays = field::part(two, 56 - width, width);
+        let spans = field::part(two, 56 - 2 * width, width);
+        if counts_allowed(years, monthdays, weeks, weekdays, spans) {
+            return body_end(
+                sheet,
+                later + 2 * width,
+                years,
+                monthdays,
+                weeks,
+                weekdays,
+                spans,
+            );
+        }
+    }
     let head = counts_at(form, sheet, at);
     match head {
         CountsRead::Counts(years, monthdays, weeks, weekdays, spans, items) => {
@@ -146,6 +199,11 @@ pub fn rule_end(form: Form, sheet: &[u8], at: usize) -> Step
     requires { ⌜ at < 2 ^ 25 ⌝ }
     ensures { λ r. ⌜ asStep r ≡ ends ((rule (asForm form) sheetLimits) .read (sheetBits (now (sheet .entry))) at) ⌝ }
 {
+    if at / 8 + 8 <= sheet.len() {
+        if lawful_title(form, field::wide_at(sheet, at)) {
+            return counted_end(form, sheet, at + title_width(form));
+        }
+    }
     let head = title_at(form, sheet, at);
     match head {
         TitleRead::Title(operator, kind, comment, after_title) => counted_end(

@@ -9,6 +9,8 @@ use Rattle.sheet.proofs.end.spans_end.Tie as tie
 pub spans-end-spec : {M : Type 1} → statement M
 spans-end-spec =
     tie.close
-    (tie.spec (λ c κs. search needs) (λ c. search needs) (λ c. search needs)
+    (tie.spec (λ c. search needs) (λ c κs. search needs) (λ c κs. search needs) (λ c. search needs)
+    (λ c. sym (ap ends (c .before .span-width .ensures .1 (c .if2 .taken) _ _ (c .before .before .wide-at .ensures) .1)))
+    (λ c κs. search needs) (λ c. search needs) (λ c. search needs)
     (λ c. ap ends (sym (ap (asSpan) (c .before .item .given .1)) ∙ c .before .before .before .span-at .ensures))
     (λ c. ap ends (sym (ap (asSpan) (c .before .item2 .given .1)) ∙ c .before .before .before .span-at .ensures)))
