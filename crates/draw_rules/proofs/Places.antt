@@ -33,10 +33,11 @@ module _ (sizes : List ℕ) (n boxes : ℕ) (all : boxes ≡ sizeOf sizes 4) (en
     unmade = zeros memo;
   }
 
-  pub few-places : boxes ≤ 16 → NoLists (take boxes (replicate n 0)) (replicate 1089 0) (replicate 34 0) sizes
-  few-places few = no-lists 1089 34 (record {
+  -- for so many boxes: places for a list of each from before a rule, for what the rule makes of each, and of the empty one
+  pub few-places : (most : ℕ) → boxes ≤ most → most ≤ 512 → NoLists (take boxes (replicate n 0)) (replicate ((2 * most + 1) * 33) 0) (replicate (2 * most + 2) 0) sizes
+  few-places most few low = no-lists ((2 * most + 1) * 33) (2 * most + 2) (record {
     one-cell = all;
-    few-boxes = omega arith;
+    few-boxes = omega (arith, all);
     some = omega arith;
     few = omega arith;
     enough = λ m a b. omega arith;

@@ -3,6 +3,7 @@
 // part of what an engine works in as a slice of its own, seventeen parameters at most, since the language lends no struct of slices.
 use super::columns_engine::fold_few_boxes;
 use super::columns_engine::fold_many_boxes;
+use super::columns_engine::fold_more_boxes;
 use super::columns_engine::fold_some_boxes;
 use super::plain_engine::fold_few_plain;
 use super::plain_engine::fold_many_plain;
@@ -24,7 +25,7 @@ fn buffers_for(boxes: usize, rules: usize) -> usize
     if rules <= 64 {
         return boxes;
     }
-    if boxes <= 16 { 17 } else { boxes }
+    if boxes <= 256 { 257 } else { boxes }
 }
 
 // Folds the boxes, in buffers for `room` of them or, where there are more, in larger ones: clearing those of 4,096 boxes would take longer than the fold of
@@ -124,8 +125,25 @@ pub fn fold_boxes(
             cuts,
         );
     }
-    if wanted <= 1024 {
+    if wanted <= 256 {
         return fold_some_boxes(
+            form,
+            sheet,
+            left,
+            out,
+            states,
+            span_counts,
+            spans,
+            replacing,
+            range_counts,
+            ranges,
+            row_starts,
+            sizes,
+            cuts,
+        );
+    }
+    if wanted <= 1024 {
+        return fold_more_boxes(
             form,
             sheet,
             left,

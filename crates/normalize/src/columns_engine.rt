@@ -1,4 +1,4 @@
-// From tables and cut dimensions to the result by the engine of columns, in a store and buffers for few boxes, for some, or for as many as there may be.
+// From tables and cut dimensions to the result by the engine of columns, in a store and buffers for few boxes, for some, for more, or for as many as there may be.
 use super::written::write_paved;
 use answers::Folded;
 use fold_write::Left;
@@ -114,8 +114,55 @@ pub fn fold_few_boxes(
     )
 }
 
-// Up to 1,024 boxes, in the store of 1,025 places.
+// Up to 256 boxes, in a store of 513 places.
 pub fn fold_some_boxes(
+    form: Form,
+    sheet: &[u8],
+    left: Left,
+    out: &mut [u8],
+    states: &[u32],
+    span_counts: &[u8],
+    spans: &[u64],
+    replacing: &[u8],
+    range_counts: &[u16],
+    ranges: &[u16],
+    row_starts: &[u16],
+    sizes: &[u16],
+    cuts: &[u16],
+) -> Folded
+    requires { ⌜ ((rs : List Rule) × Foldable (asForm form) (now sheet) left (now states) (now «span_counts») (now spans) (now replacing)
+        (now «range_counts») (now ranges) (now «row_starts») (now sizes) (now cuts) rs) ⌝ }
+    requires { ⌜ sizeOf (now sizes) 4 ≤ 256 ⌝ }
+    ensures { λ r. ⌜ Folds (asForm form) (now (sheet .entry)) (now (out .entry)) r (now (out .exit)) ⌝ }
+{
+    let mut cells = [0u16; 256];
+    let mut lists = [0u16; 16929];
+    let mut memo = [0u16; 514];
+    let mut pages = [0u16; 3328];
+    let boxes = size_of(sizes, 4);
+    fold_boxes_in(
+        form,
+        sheet,
+        left,
+        out,
+        states,
+        span_counts,
+        spans,
+        replacing,
+        range_counts,
+        ranges,
+        row_starts,
+        sizes,
+        cuts,
+        &mut cells[..boxes],
+        &mut lists,
+        &mut memo,
+        &mut pages,
+    )
+}
+
+// Up to 1,024 boxes, in the store of 1,025 places.
+pub fn fold_more_boxes(
     form: Form,
     sheet: &[u8],
     left: Left,

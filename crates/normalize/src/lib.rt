@@ -124,8 +124,47 @@ fn fold_few_rules(
     )
 }
 
-// Up to 64 rules.
+// Up to 32 rules.
 fn fold_some_rules(
+    form: Form,
+    sheet: &[u8],
+    begins: &[usize],
+    count: usize,
+    end: usize,
+    out: &mut [u8],
+    plain: bool,
+) -> Folded
+    requires { ⌜ Readings (asForm form) (now sheet) (now begins) count end ⌝ }
+    requires { ⌜ count ≤ 32 ⌝ }
+    ensures { λ r. ⌜ Folds (asForm form) (now (sheet .entry)) (now (out .entry)) r (now (out .exit)) ⌝ }
+{
+    let mut states = [0u32; 32];
+    let mut span_counts = [0u8; 32];
+    let mut spans = [0u64; 512];
+    let mut replacing = [0u8; 32];
+    let mut range_counts = [0u16; 128];
+    let mut ranges = [0u16; 8192];
+    let mut cuts = [0u16; 8200];
+    fold_rules_in(
+        form,
+        sheet,
+        begins,
+        count,
+        end,
+        out,
+        &mut states,
+        &mut span_counts,
+        &mut spans,
+        &mut replacing,
+        &mut range_counts,
+        &mut ranges,
+        &mut cuts,
+        plain,
+    )
+}
+
+// Up to 64 rules.
+fn fold_more_rules(
     form: Form,
     sheet: &[u8],
     begins: &[usize],
@@ -222,8 +261,11 @@ fn fold_in_room(
     if count <= 4 {
         return fold_few_rules(form, sheet, begins, count, end, out, plain);
     }
-    if count <= 64 {
+    if count <= 32 {
         return fold_some_rules(form, sheet, begins, count, end, out, plain);
+    }
+    if count <= 64 {
+        return fold_more_rules(form, sheet, begins, count, end, out, plain);
     }
     fold_many_rules(form, sheet, begins, count, end, out, plain)
 }

@@ -13,7 +13,7 @@ use Rattle.laws.proofs.Spread.{flatMap-append}
 use Rattle.laws.proofs.Stores.{sets-behind}
 use Rattle.definition.specs.Field.{bits, number, sheetBits, fieldAt}
 use Rattle.definition.proofs.Bits.{Bits, Bytes, length-bits, number-bits, number-below, bits-number, bits-are-bits, Bits-take, Bits-drop, sheet-bits, length-sheetBits}
-use Rattle.field.proofs.FieldAt.{number-append, field-none, field-length, field-front, field-back}
+use Rattle.field.proofs.FieldAt.{number-append, field-none, field-length, field-parts, field-front, field-back, field-within}
 use Rattle.field.proofs.Bytes.{take-bytes, drop-bytes, bytes-more, first, past, behind, spanned-bits, spanned-place}
 
 -- ## A number by its bits
@@ -31,7 +31,7 @@ bits-split a b v h =
     (number-append hi lo ∙ rw (number-bits a (v / 2 ^ b) hi-fits, number-bits b (v % 2 ^ b) lo-fits, length-bits b (v % 2 ^ b)) (split v b)) .0
 
 -- ## Bytes of a buffer
-byte-set : (s : List ℕ) (i y : ℕ) → i < length s → sheetBits (set s i y) ≡ sets (sheetBits s) (8 * i) (bits 8 y)
+pub byte-set : (s : List ℕ) (i y : ℕ) → i < length s → sheetBits (set s i y) ≡ sets (sheetBits s) (8 * i) (bits 8 y)
 unfolding sheetBits flatMap
 byte-set s i y h =
     let e : 8 * suc i ≡ 8 * i + length (bits 8 y) = omega (arith, length-bits 8 y) in
@@ -184,3 +184,19 @@ module _ (s : List ℕ) (o : Bytes s) where
           ap₂ (λ n x. sets (sheetBits s) (8 * first at width) (bits n x)) (sym (spanned-bits at width)) in-parts
           ∙ with-stored (sheetBits s) (sheet-bits s o) (8 * first at width) (at % 8) width (behind at width) value all-bits fits
           ∙ ap (λ q. sets (sheetBits s) q (bits width value)) (spanned-place at width)
+
+  -- a byte's bits from any place on, out of the two bytes in which they stand
+  pub byte-within : (p i two : ℕ) → i ≡ p / 8 → p / 8 + 2 ≤ length s → two ≡ getD s i 0 * 256 + getD s (i + 1) 0
+      → two / 2 ^ (8 - p % 8) % 256 ≡ fieldAt (sheetBits s) p 8
+  byte-within p i two place h made =
+      let bits16 : p % 8 + (8 + (8 - p % 8)) ≡ 16 = omega arith in
+      let from : 8 * (p / 8) + p % 8 ≡ p = omega arith in
+      let one : 8 * i + 8 ≡ 8 * (i + 1) = omega arith in
+      let pair : two ≡ fieldAt (sheetBits s) (8 * (p / 8)) 16 =
+      made
+      ∙ sym (field-parts (sheetBits s) (sheet-bits s o) (8 * i) 8 8 (omega (arith, length-sheetBits s, place))
+      ∙ ap₂ (λ a b. a * 256 + b) (byte-field i (omega (arith, place))) (ap (λ q. fieldAt (sheetBits s) q 8) one ∙ byte-field (i + 1) (omega (arith, place))))
+      ∙ ap (λ q. fieldAt (sheetBits s) (8 * q) 16) place in
+      ap (λ n. n / 2 ^ (8 - p % 8) % 256) (pair ∙ ap (fieldAt (sheetBits s) (8 * (p / 8))) (sym bits16))
+      ∙ field-within (sheetBits s) (sheet-bits s o) (8 * (p / 8)) (p % 8) 8 (8 - p % 8) (omega (arith, length-sheetBits s))
+      ∙ ap (λ q. fieldAt (sheetBits s) q 8) from

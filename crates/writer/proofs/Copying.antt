@@ -9,7 +9,7 @@ use lib.Seq.{sets, take-add, drop-drop}
 use Rattle.laws.proofs.Stores.{sets-append}
 use Rattle.definition.specs.Field.{bits, fieldAt}
 use Rattle.definition.proofs.Bits.{Bits, length-bits}
-use Rattle.field.proofs.FieldAt.{field-bits}
+use Rattle.field.proofs.FieldAt.{field-length, field-bits}
 
 module _ (s : List ℕ) (from count at : ℕ) where
   -- the bits behind the first `done`
@@ -38,3 +38,13 @@ module _ (s : List ℕ) (from count at : ℕ) where
 
   pub copy-end : (l : List ℕ) (done : ℕ) → count ≤ done → l ≡ sets l (at + done) (still done)
   copy-end l done h = let z : count - done ≡ 0 = omega arith in sym (ap (λ k. sets l (at + done) (take k (drop (from + done) s))) z)
+
+-- ## Bits behind bits
+module _ (s : List ℕ) (from at a b : ℕ) (h : from + (a + b) ≤ length s) where
+  pub copied-then : (l m n : List ℕ) (place : ℕ) → place ≡ at + a → m ≡ sets l at (take a (drop from s)) → n ≡ sets m place (take b (drop (from + a) s))
+      → n ≡ sets l at (take (a + b) (drop from s))
+  copied-then l m n place behind first second =
+      let front = take a (drop from s) in
+      let long : length (take a (drop from s)) ≡ a = field-length s from a (omega arith) in
+      second ∙ ap₂ (λ u k. sets u k (take b (drop (from + a) s))) first (behind ∙ ap (at +_) (sym long))
+      ∙ sym (ap (sets l at) (take-add a b (drop from s) ∙ ap (λ t. front ++ take b t) (drop-drop a from s)) ∙ sets-append l at front (take b (drop (from + a) s)))

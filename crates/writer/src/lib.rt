@@ -60,7 +60,7 @@ pub fn put_field(out: &mut [u8], at: usize, width: usize, value: u64)
 }
 
 // Bits of a sheet, copied to any place of a buffer, 32 at a time.
-pub fn copy_bits(sheet: &[u8], from: usize, count: usize, out: &mut [u8], at: usize)
+fn copy_fields(sheet: &[u8], from: usize, count: usize, out: &mut [u8], at: usize)
     requires { ⌜ (from + count ≤ 8 * length (now sheet)) × (at + count ≤ 8 * length (now out)) × (from + count < 2 ^ 32) × (at + count < 2 ^ 62) ⌝ }
     ensures { λ _. ⌜ sheetBits (now (out .exit)) ≡ sets (sheetBits (now (out .entry))) at (take count (drop from (sheetBits (now (sheet .entry))))) ⌝ }
 {
@@ -75,4 +75,36 @@ pub fn copy_bits(sheet: &[u8], from: usize, count: usize, out: &mut [u8], at: us
         );
         done += width;
     }
+}
+
+// Bits of a sheet, copied to whole bytes of a buffer: each is made of the two bytes in which its bits stand. So a byte behind the last one is read.
+fn copy_bytes(sheet: &[u8], from: usize, count: usize, out: &mut [u8], first: usize)
+    requires { ⌜ (from + 8 * count + 8 ≤ 8 * length (now sheet)) × (first + count ≤ length (now out)) × (from + 8 * count < 2 ^ 32) ⌝ }
+    ensures { λ _. ⌜ sheetBits (now (out .exit)) ≡ sets (sheetBits (now (out .entry))) (8 * first) (take (8 * count) (drop from (sheetBits (now (sheet .entry))))) ⌝ }
+{
+    let start = from / 8;
+    let behind = 8 - from % 8;
+    let mut done: usize = 0;
+    while done < count {
+        let two = u8_to_u64(sheet[start + done]) * 256 + u8_to_u64(sheet[start + done + 1]);
+        out[first + done] = ((two >> behind) % 256) as u8;
+        done += 1;
+    }
+}
+
+// Bits of a sheet, copied to any place of a buffer: some up to the buffer's next byte, then whole bytes, then what is left.
+pub fn copy_bits(sheet: &[u8], from: usize, count: usize, out: &mut [u8], at: usize)
+    requires { ⌜ (from + count ≤ 8 * length (now sheet)) × (at + count ≤ 8 * length (now out)) × (from + count < 2 ^ 32) × (at + count < 2 ^ 62) ⌝ }
+    ensures { λ _. ⌜ sheetBits (now (out .exit)) ≡ sets (sheetBits (now (out .entry))) at (take count (drop from (sheetBits (now (sheet .entry))))) ⌝ }
+{
+    let lead = (8 - at % 8) % 8;
+    if count < lead + 16 {
+        copy_fields(sheet, from, count, out, at);
+        return;
+    }
+    copy_fields(sheet, from, lead, out, at);
+    let bytes = (count - lead) / 8 - 1;
+    let done = lead + 8 * bytes;
+    copy_bytes(sheet, from + lead, bytes, out, (at + lead) / 8);
+    copy_fields(sheet, from + done, count - done, out, at + done);
 }

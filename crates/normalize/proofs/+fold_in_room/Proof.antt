@@ -8,6 +8,7 @@ use Rattle.field.proofs.Bytes.{known-bytes}
 use Rattle.sheet.proofs.Begins.{rules-few}
 use Rattle.normalize.proofs.fold_few_rules.Reads as fold-few-rules-reads
 use Rattle.normalize.proofs.fold_some_rules.Reads as fold-some-rules-reads
+use Rattle.normalize.proofs.fold_more_rules.Reads as fold-more-rules-reads
 use Rattle.normalize.proofs.fold_many_rules.Reads as fold-many-rules-reads
 use Rattle.normalize.proofs.+fold_in_room.{statement}
 use Rattle.normalize.proofs.+fold_in_room.Tie.{close}
@@ -32,6 +33,8 @@ pub +fold-in-room-spec : {M : Type 1} → statement M
   fold-few-rules-reads.Learnt,
   fold-some-rules-reads.Asked,
   fold-some-rules-reads.Learnt,
+  fold-more-rules-reads.Asked,
+  fold-more-rules-reads.Learnt,
   fold-many-rules-reads.Asked,
   fold-many-rules-reads.Learnt,
 )
@@ -55,6 +58,9 @@ pub +fold-in-room-spec : {M : Type 1} → statement M
     (λ c κs. (c .before .before .before .before .before .before .before .pre .1 .0, omega (arith, c .before .if3 .taken)))
     (λ c. search needs)
     (λ c. search needs)
-    (λ c κs. c .before .before .before .before .before .before .before .pre .1 .0)
+    (λ c κs. (c .before .before .before .before .before .before .before .before .pre .1 .0, omega (arith, c .before .if4 .taken)))
+    (λ c. search needs)
+    (λ c. search needs)
+    (λ c κs. c .before .before .before .before .before .before .before .before .pre .1 .0)
     (λ c. search needs)
     (λ c. search needs)

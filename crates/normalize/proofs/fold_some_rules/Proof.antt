@@ -1,4 +1,4 @@
--- `normalize::fold_some_rules` meets its contract: the tables are large enough for 64 rules.
+-- `normalize::fold_some_rules` meets its contract: the tables are large enough for 32 rules.
 use native.Mathlib.Omega.{arith}
 use borrow.Author.Needs.{needs}
 use Rattle.normalize.proofs.fold_some_rules.Statement.{statement}

@@ -15,7 +15,7 @@ look-boxes-in-requires : tie.Need-look-boxes-in-requires
 look-boxes-in-requires c κs =
     let sized = c .before .before .before in
     let pre = sized .before .before .before .before .before .before .before .before .before .before .pre in
-    (pre .0, (pre .1 .0, few-places _ 16 _ (sized .size-of .ensures) (omega (arith, pre .1 .1, sized .size-of .ensures)) (omega (arith, pre .1 .1, sized .size-of .ensures))))
+    (pre .0, (pre .1 .0, few-places _ 16 _ (sized .size-of .ensures) (omega (arith, pre .1 .1, sized .size-of .ensures)) 16 (omega (arith, pre .1 .1, sized .size-of .ensures)) (omega arith)))
 
 pub look-few-boxes-spec : {M : Type 1} → statement M
 look-few-boxes-spec =

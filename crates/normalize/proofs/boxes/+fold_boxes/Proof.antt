@@ -10,6 +10,7 @@ use Rattle.normalize.proofs.plain_engine.fold_many_plain.Reads as fold-
 use Rattle.normalize.proofs.boxes.buffers_for.Reads as buffers-for-reads
 use Rattle.normalize.proofs.columns_engine.fold_few_boxes.Reads as fold-few-boxes-reads
 use Rattle.normalize.proofs.columns_engine.fold_some_boxes.Reads as fold-some-boxes-reads
+use Rattle.normalize.proofs.columns_engine.fold_more_boxes.Reads as fold-more-boxes-reads
 use Rattle.normalize.proofs.columns_engine.fold_many_boxes.Reads as fold-many-boxes-reads
 use Rattle.normalize.proofs.boxes.+fold_boxes.{statement}
 use Rattle.normalize.proofs.boxes.+fold_boxes.Tie.{close}
@@ -42,6 +43,8 @@ pub +fold-boxes-spec : {M : Type 1} → statement M
   fold-few-boxes-reads.Learnt,
   fold-some-boxes-reads.Asked,
   fold-some-boxes-reads.Learnt,
+  fold-more-boxes-reads.Asked,
+  fold-more-boxes-reads.Learnt,
   fold-many-boxes-reads.Asked,
   fold-many-boxes-reads.Learnt,
 )
@@ -83,6 +86,13 @@ pub +fold-boxes-spec : {M : Type 1} → statement M
     (pre .1 .0, omega (arith, c .before .if5 .taken, wanted .buffers-for .ensures, sized .size-of .ensures)))
     (λ c. search needs)
     (λ c. search needs)
-    (λ c κs. c .before .before .before .before .before .before .before .before .before .before .before .before .before .before .before .before .before .before .pre .1 .0)
+    (λ c κs.
+    let wanted = c .before .before .before .before in
+    let sized = wanted .before .before .before in
+    let pre = sized .before .before .before .before .before .before .before .before .before .before .before .before .pre in
+    (pre .1 .0, omega (arith, c .before .if6 .taken, wanted .buffers-for .ensures, sized .size-of .ensures)))
+    (λ c. search needs)
+    (λ c. search needs)
+    (λ c κs. c .before .before .before .before .before .before .before .before .before .before .before .before .before .before .before .before .before .before .before .pre .1 .0)
     (λ c. search needs)
     (λ c. search needs)

@@ -15,7 +15,7 @@ fold-boxes-in-requires : tie.Need-fold-boxes-in-requires
 fold-boxes-in-requires c κs =
     let sized = c .before .before .before .before .before in
     let pre = sized .before .before .before .before .before .before .before .before .before .before .before .before .pre in
-    (pre .0, (few-places _ 16 _ (sized .size-of .ensures) (omega (arith, pre .1, sized .size-of .ensures)) (omega (arith, pre .1, sized .size-of .ensures)), omega (arith, pre .1)))
+    (pre .0, (few-places _ 16 _ (sized .size-of .ensures) (omega (arith, pre .1, sized .size-of .ensures)) 16 (omega (arith, pre .1, sized .size-of .ensures)) (omega arith), omega (arith, pre .1)))
 
 pub fold-few-boxes-spec : {M : Type 1} → statement M
 fold-few-boxes-spec =

@@ -1,7 +1,7 @@
--- `normalize::columns_engine::fold_some_boxes` meets its contract: the store and the buffer are large enough for 1,024 boxes.
+-- `normalize::columns_engine::fold_some_boxes` meets its contract: the store and the buffer are large enough for 256 boxes.
 use native.Mathlib.Omega.{arith}
 use borrow.Author.Needs.{needs}
-use Rattle.draw_rules.proofs.Places.{cells-lent, all-places}
+use Rattle.draw_rules.proofs.Places.{cells-lent, few-places}
 use Rattle.normalize.proofs.columns_engine.fold_some_boxes.Statement.{statement}
 use Rattle.normalize.proofs.columns_engine.fold_some_boxes.Tie as tie
 
@@ -9,13 +9,13 @@ slice-aggregate-fold-boxes-in : tie.Need-slice-aggregate-fold-boxes-in
 slice-aggregate-fold-boxes-in c =
     let sized = c .before .before in
     let pre = sized .before .before .before .before .before .before .before .before .before .before .before .before .pre in
-    cells-lent _ 1024 _ (sized .size-of .ensures) (omega (arith, pre .1, sized .size-of .ensures))
+    cells-lent _ 256 _ (sized .size-of .ensures) (omega (arith, pre .1, sized .size-of .ensures))
 
 fold-boxes-in-requires : tie.Need-fold-boxes-in-requires
 fold-boxes-in-requires c κs =
     let sized = c .before .before .before .before .before in
     let pre = sized .before .before .before .before .before .before .before .before .before .before .before .before .pre in
-    (pre .0, (all-places _ 1024 _ (sized .size-of .ensures) (omega (arith, pre .1, sized .size-of .ensures)) (pre .0 .1 .to-draw .passed .few-boxes), omega (arith, pre .1)))
+    (pre .0, (few-places _ 256 _ (sized .size-of .ensures) (omega (arith, pre .1, sized .size-of .ensures)) 256 (omega (arith, pre .1, sized .size-of .ensures)) (omega arith), omega (arith, pre .1)))
 
 pub fold-some-boxes-spec : {M : Type 1} → statement M
 fold-some-boxes-spec =
