@@ -1,6 +1,6 @@
 -- The runs found: a range's places among rising cuts are those of the columns that it covers; and the table with one run more. Rests on the laws of the
 -- search among rising numbers.
-use mathlib.Core.Path.{_≡_, refl, sym, ap, subst, _∙_}
+use mathlib.Core.Path.{_≡_, sym, subst, _∙_}
 use mathlib.Core.List.{List}
 use Prim.Native.Nat.{ℕ, _+_, _-_, _*_, _≤_, _<_}
 use native.Mathlib.Omega.{arith}

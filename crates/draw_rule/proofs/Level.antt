@@ -9,7 +9,7 @@ use lib.ListN.{length, getD}
 use Rattle.list_store.specs.Draw.{Making, Walked}
 use Rattle.list_store.proofs.Walking.{walked-as, walked-none, walked-append}
 use Rattle.tables.specs.Sizes.{rangePlaces}
-use Rattle.draw_rule.specs.Runs.{Planned, Nodes, beginOf, endOf, firstBelow, endBelow, reachedFrom}
+use Rattle.draw_rule.specs.Runs.{Planned, Nodes, endOf, firstBelow, endBelow, reachedFrom}
 use Rattle.draw_rule.proofs.Passing.{nodes-child, nodes-in, passed, passed-none, passed-run, passed-node, passed-all}
 
 -- ON THE WAY, at a run of a node: the runs before it are drawn, and so are the nodes before

@@ -1,7 +1,7 @@
 -- The boxes that are reached over the runs are the covered ones. Rests on the laws of lists spread out.
 use mathlib.Core.Path.{_≡_, refl, sym, ap, ap₂, _∙_}
-use mathlib.Core.Bool.{true, false, cond}
-use mathlib.Core.List.{List, [], _∷_, _++_, flatMap, append-nil}
+use mathlib.Core.Bool.{cond}
+use mathlib.Core.List.{List, [], _++_, flatMap, append-nil}
 use Prim.Native.Nat.{ℕ, zero, suc, _+_, _-_, _*_, _≤_, _<_}
 use native.Mathlib.Omega.{arith}
 use lib.ListN.{getD}
@@ -9,7 +9,7 @@ use Rattle.laws.specs.Lists.{from}
 use Rattle.laws.proofs.Numbers.{from-append}
 use Rattle.laws.proofs.Spread.{flatMap-append}
 use Rattle.draw_rule.specs.Update.{covered, overColumns, leaves}
-use Rattle.draw_rule.specs.Runs.{RunOf, RunsUpTo, beginOf, endOf, firstBelow, endBelow, overRun, reached, reachedFrom}
+use Rattle.draw_rule.specs.Runs.{RunOf, RunsUpTo, beginOf, endOf, overRun, reached, reachedFrom}
 
 -- ## Lists spread out over numbers side by side
 module _ (f g : ℕ → List ℕ) where

@@ -3,8 +3,8 @@
 use casts::u16_to_usize;
 use tables::RANGE_PLACES;
 use tables::search::place_in;
-ghost use Prim.Native.Nat.{ℕ, _+_, _-_, _*_, _≤_, _<_};
-ghost use lib.ListN.{length, getD};
+ghost use Prim.Native.Nat.{_+_, _-_, _*_, _≤_, _<_};
+ghost use lib.ListN.{length};
 ghost use Rattle.tables.specs.Search.{Rising};
 ghost use Rattle.tables.specs.Sizes.{rangePlaces};
 ghost use Rattle.draw_rule.specs.Update.{Lawful};

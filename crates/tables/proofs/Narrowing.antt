@@ -7,9 +7,6 @@ use lib.ListN.{getD}
 use Rattle.tables.specs.Search.{Rising, PlaceOf}
 
 -- ## Rising numbers
-pub rising-at : (s : List ℕ) (p q m n : ℕ) → p ≡ q → m ≡ n → Rising s p (p + m) → Rising s q (q + n)
-rising-at s p q m n e f r k l h = r k (omega arith) (omega arith)
-
 pub rising-later : (s : List ℕ) (p q e : ℕ) → p ≤ q → Rising s p e → Rising s q e
 rising-later s p q e h r k l m = r k (omega arith) m
 

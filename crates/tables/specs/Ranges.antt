@@ -14,11 +14,6 @@ tableRow table k n = take n (drop (k * n) table)
 unfoldable pub rangeOf : List ℕ → ℕ → ℕ → Range
 rangeOf ranges i r = (getD ranges (i * rangePlaces + 2 * r) 0, getD ranges (i * rangePlaces + 2 * r + 1) 0)
 
--- how many ranges the first of l dimensions has
-unfoldable pub countOf : List ℕ → ℕ → ℕ
-countOf counts zero = 0
-countOf counts (suc i) = getD counts i 0
-
 -- THE RANGES of l dimensions, the last one first: weekdays, weeks, months, years
 unfoldable pub selectorOf : List ℕ → List ℕ → ℕ → List (List Range)
 selectorOf counts ranges zero = []

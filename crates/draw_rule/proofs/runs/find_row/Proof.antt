@@ -1,5 +1,5 @@
 -- `draw_rule::runs::find_row` meets its contract. The loop's invariant: the table has the runs of the dimensions before, and of the ranges passed.
-use mathlib.Core.Path.{_≡_, refl, sym, _∙_}
+use mathlib.Core.Path.{_≡_, refl, _∙_}
 use Prim.Native.Nat.{_+_, _-_, _*_, _≤_, _<_}
 use native.Mathlib.Omega.{arith}
 use lib.ListN.{length, getD}
