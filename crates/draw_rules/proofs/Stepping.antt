@@ -17,7 +17,7 @@ use Rattle.paving.specs.Grid.{sizeOf, Node}
 use Rattle.paving_points.proofs.Stepping.{boxes-node, many-lists, next-at, some-long}
 use Rattle.list_store.specs.Draw.{Drew}
 use Rattle.draw_rule.specs.Update.{coveredBox}
-use Rattle.draw_rule.proofs.Meaning.{box-covered}
+use Rattle.draw_rule.proofs.Covering.{box-covered}
 use Rattle.tables.specs.Sizes.{heldLimit}
 use Rattle.tables.specs.Ranges.{tableRow, selectorOf}
 use Rattle.tables.specs.Cuts.{ToList}
