@@ -8,15 +8,14 @@ use native.Mathlib.Nat.{mul-le-mul-right, mul-assoc, div-eq-of-lt, le-div-iff-mu
 use lib.Dec.{eqb}
 use lib.ListN.{getD}
 use borrow.Author.Tests.{eq-eqb, ne-eqb}
-use Rattle.laws.specs.Lists.{from, every, anyOf, keep, All}
+use Rattle.laws.specs.Lists.{from, every, anyOf, All}
 use Rattle.laws.proofs.Lists.{All-keep, All-map, every-append, anyOf-append, any-same}
 use Rattle.laws.proofs.Numbers.{All-from}
 use Rattle.laws.proofs.Flags.{and-true, and-false, or-false}
 use Rattle.laws.proofs.Spread.{flatMap-all}
 use Rattle.grid.specs.Group.{Set, at, agree, inside}
 use Rattle.paving.specs.Grid.{sizeOf, grid, chosen, marksFrom, Cleared}
-use Rattle.paving.proofs.Room.{size-pos, at-grid}
-use Rattle.paving.proofs.Emptying.{number-eq}
+use Rattle.paving.proofs.Room.{size-pos, at-grid, number-eq}
 use Rattle.plain_boxes.specs.Digits.{digitOf, digits}
 use Rattle.plain_boxes.proofs.Digits.{Filled, node-whole, node-digit, digit-low}
 use Rattle.plain_boxes.proofs.Emptied.{boxes-cleared}

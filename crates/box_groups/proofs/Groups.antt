@@ -3,9 +3,9 @@
 use mathlib.Core.Path.{_≡_, refl, sym, ap, ap₂, _∙_, subst, fun-ext}
 use mathlib.Core.Bool.{Bool, true, false, _&&_, false≢true}
 use mathlib.Core.List.{List, [], _∷_, map, flatMap}
-use Prim.Native.Nat.{ℕ, zero, suc, _+_, _-_, _*_, _/_, _%_, _≤_, _<_}
+use Prim.Native.Nat.{ℕ, suc, _+_, _-_, _*_, _/_, _%_, _≤_, _<_}
 use native.Mathlib.Omega.{arith}
-use native.Mathlib.Nat.{mul-le-mul-left, mul-le-mul-right, mul-comm, mod-lt, div-mul-le-self, div-eq-of-lt}
+use native.Mathlib.Nat.{mul-le-mul-right, mul-comm, div-mul-le-self, div-eq-of-lt}
 use lib.Dec.{eqb}
 use lib.ListN.{length, getD, set, take}
 use lib.Seq.{length-take-le, take-suc-set}
@@ -13,10 +13,10 @@ use borrow.Author.Tests.{eq-eqb, ne-eqb}
 use Rattle.laws.specs.Lists.{from, every, keep, All}
 use Rattle.laws.proofs.Lists.{every-keep}
 use Rattle.grid.specs.Group.{Set, agree}
-use Rattle.paving.specs.Grid.{Node, Room, sizeOf, widthOf, NoneFrom, grid, chosen, goodAt, paint}
-use Rattle.paving.proofs.Room.{size-pos, room-size, room-marks, node-child}
+use Rattle.paving.specs.Grid.{Node, Room, sizeOf, widthOf, NoneFrom, grid, chosen, goodAt}
+use Rattle.paving.proofs.Room.{size-pos, room-size, node-child}
 use Rattle.paving.proofs.Marks.{paint-all, paint-ext, good-here, chosen-paint}
-use Rattle.paving.proofs.Skipping.{size-le, size-next}
+use Rattle.paving.proofs.Skipping.{size-le}
 use Rattle.plain_boxes.specs.Digits.{digitOf}
 use Rattle.plain_boxes.specs.Groups.{baseOf, grown, MarkedGroup}
 use Rattle.plain_boxes.proofs.Digits.{above, node-digit, node-whole, digit-low}

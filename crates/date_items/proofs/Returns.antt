@@ -14,7 +14,7 @@ use Rattle.paving.specs.Grid.{marksFrom}
 use Rattle.date_items.specs.Runs.{runsOf, runEnd, markAt, cutOf, Cuts, runsFrom, asItem, itemsAt}
 use Rattle.tables.specs.Cuts.{intervalAt}
 use Rattle.tables.specs.Items.{numbers}
-use Rattle.date_items.proofs.Joining.{runs-none, runs-out, runs-run, end-within, runs-few}
+use Rattle.date_items.proofs.Joining.{runs-none, runs-run, end-within, runs-few}
 use Rattle.date_items.proofs.Filling.{full-none, not-full}
 use Rattle.definition.proofs.RuleCounts.{items-less}
 

@@ -1,9 +1,7 @@
 pub mod Room
 pub mod Classes
-pub mod Agreeing
 pub mod Marks
 pub mod Popping
-pub mod Emptying
 pub mod Rows
 pub mod Skipping
 pub mod Sweeping

@@ -1,4 +1,4 @@
--- One lemma for each return of `pop_filter` and `pop_columns`. Rests on the marks' laws.
+-- The first group of a class, found below the columns of a node and grown along them; and its marks read back. Rests on the marks' laws.
 use mathlib.Core.Path.{_≡_, refl, sym, ap, ap₂, _∙_}
 use mathlib.Core.Bool.{Bool, true, false, cond}
 use mathlib.Core.List.{List, [], _∷_}
@@ -15,7 +15,7 @@ use Rattle.grid.proofs.Part.{Part, pop-part}
 use Rattle.paving.specs.Grid.{widthOf, axes, grid, chosen, inClass, popAt, popped, popFrom, goodAt, paint, markSet, marked, answer}
 use Rattle.paving.specs.declared.Popped.{Popped}
 use Rattle.paving.specs.declared.Popped.the-variants.{Value, Nothing}
-use Rattle.paving.proofs.Room.{from-cons, from-end, at-grid}
+use Rattle.paving.proofs.Room.{from-cons, at-grid}
 use Rattle.paving.proofs.Marks.{keep-ext, paint-ext, chosen-paint}
 
 -- a column is among those that pass where it passes
@@ -97,12 +97,6 @@ module _ (cells classes sizes : List ℕ) (k : ℕ) where
   unfolding popAt pop axes grid answer marked markSet
   pop-leaf-yes marks left node base b e h q = rw (e, sym h ∙ q, pop) (refl, refl)
 
-  pub pop-leaf-no : (marks : List ℕ) (left node base : ℕ) (b : Bool) → left ≡ 0 → b ≡ inClass classes k (getD cells node 0) → b ≡ false
-      → (Nothing ≡ answer (popAt cells classes sizes k left node))
-      × (marks ≡ marked sizes left base (popAt cells classes sizes k left node) marks)
-  unfolding popAt pop axes grid answer marked
-  pop-leaf-no marks left node base b e h q = rw (e, sym h ∙ q, pop) (refl, refl)
-
   module _ (i node : ℕ) where
     pub pop-unfold : popAt cells classes sizes k (suc i) node
         ≡ grow eqb (from 0 (getD sizes i 0)) (grid cells sizes (suc i) node) (popFrom cells sizes i node (inClass classes k) 0)
@@ -123,18 +117,6 @@ module _ (cells classes sizes : List ℕ) (k : ℕ) where
   module _ (left i node base n : ℕ) (el : left ≡ suc i) (e : n ≡ getD sizes i 0) (f : Popped) (s s₁ : List ℕ)
       (h : f ≡ answer (popFrom cells sizes i node (inClass classes k) 0))
       (m : s₁ ≡ marked sizes i (base + n) (popFrom cells sizes i node (inClass classes k) 0) s) where
-    pub pop-node-none : f ≡ Nothing
-        → (Nothing ≡ answer (popAt cells classes sizes k left node))
-        × (s₁ ≡ marked sizes left base (popAt cells classes sizes k left node) s)
-    unfolding answer marked grow
-    pop-node-none q = rw (el, pop-unfold i node) (go (popFrom cells sizes i node (inClass classes k) 0) h m)
-      where
-        go : (o : Option (Group ℕ ℕ)) → f ≡ answer o → s₁ ≡ marked sizes i (base + n) o s
-            → (Nothing ≡ answer (grow eqb (from 0 (getD sizes i 0)) (grid cells sizes (suc i) node) o))
-            × (s₁ ≡ marked sizes (suc i) base (grow eqb (from 0 (getD sizes i 0)) (grid cells sizes (suc i) node) o) s)
-        go none a b = (refl, b)
-        go (some g) a b = absurd (let z : _≡_ {A = ℕ} 0 1 = cc in omega arith)
-
     pub pop-node-some : (v : ℕ) (s₂ : List ℕ) → f ≡ Value v → base + n + widthOf sizes i ≤ length s
         → s₂ ≡ paint (goodAt cells sizes i node s₁ base v) base 0 n s₁
         → (Value v ≡ answer (popAt cells classes sizes k left node))
@@ -160,12 +142,6 @@ module _ (cells classes sizes : List ℕ) (k : ℕ) where
             )
 
   module _ (i node base n j : ℕ) (e : n ≡ getD sizes i 0) where
-    pub pop-columns-end : (s : List ℕ) → n ≤ j
-        → (Nothing ≡ answer (popFrom cells sizes i node (inClass classes k) j)) ×
-        (s ≡ marked sizes i (base + n) (popFrom cells sizes i node (inClass classes k) j) s)
-    unfolding popFrom firstOf answer marked
-    pop-columns-end s h = rw (from-end j (getD sizes i 0) (omega arith)) (refl, refl)
-
     module _ (f : Popped) (s s₁ : List ℕ) (h : j < n) (a : f ≡ answer (popAt cells classes sizes k i (node * n + j)))
         (m : s₁ ≡ marked sizes i (base + n) (popAt cells classes sizes k i (node * n + j)) s) where
       step : popFrom cells sizes i node (inClass classes k) j ≡ elim (popAt cells classes sizes k i (node * n + j)) [

@@ -63,12 +63,6 @@ module _ (cells classes sizes : List ℕ) (k l : ℕ) (z : getD classes 0 0 ≡ 
       let e = sym (swept-none f S h q) in
       (ap (λ p. emitted emit s (p .0)) e ∙ g, ap (λ p. p .1) e ∙ w)
 
-  -- and the marks stay
-  pub marks-end : (f : Popped) (S : Set ℕ) → popped f S ≡ popAt cells classes sizes k l 0 → f ≡ Nothing → (marks marks₁ : List ℕ)
-      → marks₁ ≡ marked sizes l 0 (popAt cells classes sizes k l 0) marks → marks₁ ≡ marks
-  unfolding popped marked
-  marks-end f S h q marks marks₁ e = e ∙ ap (λ o. marked sizes l 0 o marks) (sym (rw q at h))
-
   module _ (after : List ℕ) (f : Popped) (v : ℕ) (S : Set ℕ) (h : popped f S ≡ popAt cells classes sizes k l 0) (q : f ≡ Value v)
       (c : Cleared cells after sizes l 0 S) where
     one : popAt cells classes sizes k l 0 ≡ some (v, S)

@@ -7,7 +7,7 @@ use mathlib.Core.Option.{Option, none, some}
 use Prim.Native.Nat.{ℕ, zero, suc, _+_, _-_, _*_, _≤_, _<_}
 use lib.Dec.{eqb, ltb, leb}
 use lib.ListN.{length, getD, set}
-use Rattle.laws.specs.Lists.{from, firstOf, every, anyOf, keep}
+use Rattle.laws.specs.Lists.{from, firstOf, anyOf, keep}
 use Rattle.grid.specs.Group.{Set, Map, at, Group, agree, pop, clear}
 use Rattle.paving.specs.declared.Popped.{Popped}
 use Rattle.paving.specs.declared.Popped.the-variants.{Value, Nothing}
@@ -73,30 +73,8 @@ popped Nothing S = none
 unfoldable pub NoneFrom : List ℕ → (ℕ → Bool) → ℕ → ℕ → Type 0
 NoneFrom cells ok first end = (q : ℕ) → first ≤ q → q < end → ok (getD cells q 0) ≡ false
 
--- the first value that passes among r cells from a given one on
-unfoldable pub firstCell : List ℕ → (ℕ → Bool) → ℕ → ℕ → Popped
-firstCell cells ok at zero = Nothing
-firstCell cells ok at (suc r) = cond (ok (getD cells at 0)) (Value (getD cells at 0)) (firstCell cells ok (at + 1) r)
-
--- has a cell, counted from the first one of a row, the value v? have all marked ones of the row, from j on?
-unfoldable pub cellIs : List ℕ → ℕ → ℕ → ℕ → Bool
-cellIs cells first v x = eqb (getD cells (first + x) 0) v
-
-unfoldable pub cellsAgree : List ℕ → List ℕ → ℕ → ℕ → ℕ → ℕ → ℕ → Bool
-cellsAgree cells marks first base n v j = every (cellIs cells first v) (marksFrom marks base n j)
-
--- the marked cells of a row emptied, from j on for r columns
-unfoldable pub emptied : List ℕ → ℕ → ℕ → ℕ → ℕ → List ℕ → List ℕ
-emptied marks first base j zero cells = cells
-emptied marks first base j (suc r) cells = emptied marks first base (j + 1) r (cond (eqb (getD marks (base + j) 0) 1) (set cells (first + j) 0) cells)
-
 -- ## The walks over the columns from j on of a node with suc i dimensions left
 module _ (cells sizes : List ℕ) (i node : ℕ) where
-  -- have all marked columns the value v throughout?
-  unfoldable pub agreeFrom : List ℕ → ℕ → ℕ → ℕ → Bool
-  agreeFrom marks base v j =
-      every (λ x. agree eqb v (chosen marks sizes i (base + getD sizes i 0)) (at (grid cells sizes (suc i) node) x)) (marksFrom marks base (getD sizes i 0) j)
-
   -- the first column's group
   unfoldable pub popFrom : (ℕ → Bool) → ℕ → Option (Group ℕ ℕ)
   popFrom ok j = firstOf (λ x. pop eqb ok (axes sizes i) (at (grid cells sizes (suc i) node) x)) (from j (getD sizes i 0 - j))
@@ -128,10 +106,3 @@ answer (some g) = Value (g .0)
 -- `after` is `cells` with a set below a node emptied, as seen from every node with l dimensions left
 abbrev pub Cleared : List ℕ → List ℕ → List ℕ → ℕ → ℕ → Set ℕ → Type 0
 Cleared cells after sizes l node S = (d : ℕ) → grid after sizes l d ≡ cond (eqb d node) (clear eqb 0 S (grid cells sizes l d)) (grid cells sizes l d)
-
--- the same for the marked columns from j on of a node with suc i dimensions left
-abbrev pub ClearedFrom : List ℕ → List ℕ → List ℕ → ℕ → ℕ → List ℕ → ℕ → ℕ → Type 0
-ClearedFrom cells after sizes i node marks base j =
-    (d : ℕ) → grid after sizes i d
-    ≡ cond (anyOf (λ x. eqb d (node * getD sizes i 0 + x)) (marksFrom marks base (getD sizes i 0) j))
-    (clear eqb 0 (chosen marks sizes i (base + getD sizes i 0)) (grid cells sizes i d)) (grid cells sizes i d)

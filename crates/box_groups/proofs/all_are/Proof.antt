@@ -3,7 +3,7 @@ use mathlib.Core.Path.{_≡_, refl, sym, ap, _∙_}
 use Prim.Native.Nat.{_+_, _-_, _≤_}
 use native.Mathlib.Omega.{arith}
 use borrow.Author.Needs.{needs}
-use lib.ListN.{length, getD, take, drop}
+use lib.ListN.{getD, take, drop}
 use Rattle.box_groups.specs.Boxes.{allAre, up}
 use Rattle.box_groups.proofs.Listed.{up-length, up-first, up-low, are-yes, are-no, are-end}
 use Rattle.box_groups.proofs.all_are.Statement.{statement}

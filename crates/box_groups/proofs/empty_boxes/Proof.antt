@@ -1,5 +1,5 @@
 -- `box_groups::empty_boxes` meets its contract. The loop's invariant: the boxes passed are emptied, and no other.
-use mathlib.Core.Path.{_≡_, refl, sym, ap, _∙_}
+use mathlib.Core.Path.{_≡_, refl, ap, _∙_}
 use Prim.Native.Nat.{ℕ, _-_, _≤_}
 use native.Mathlib.Omega.{arith}
 use borrow.Author.Needs.{needs}

@@ -1,5 +1,5 @@
 -- `box_groups::mark_group` meets its contract. The loop's invariant: the dimensions passed are grown.
-use mathlib.Core.Path.{sym, _∙_}
+use mathlib.Core.Path.{_∙_}
 use Prim.Native.Nat.{_-_, _≤_}
 use native.Mathlib.Omega.{arith}
 use borrow.Author.Needs.{needs}

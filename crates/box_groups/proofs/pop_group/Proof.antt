@@ -1,9 +1,8 @@
 -- `box_groups::pop_group` meets its contract: the boxes that were listed are those of the set that is marked, and they are emptied.
 use mathlib.Core.Path.{sym, ap, _∙_, subst}
 use Prim.Native.Nat.{_<_}
-use native.Mathlib.Omega.{arith}
 use borrow.Author.Needs.{needs}
-use lib.ListN.{length, take}
+use lib.ListN.{length}
 use Rattle.laws.specs.Lists.{All}
 use Rattle.box_groups.specs.Boxes.{emptiedAt}
 use Rattle.box_groups.proofs.Boxes.{chosen-low, boxes-low, listed-cleared}
