@@ -13,7 +13,7 @@ use Rattle.laws.proofs.Flags.{split-and, both-and, same-flag}
 use Rattle.laws.proofs.Lists.{any-map, anyOf-append, All-Mem, some-any, any-some}
 use Rattle.laws.proofs.Numbers.{All-from, Mem-from}
 use Rattle.grid.specs.Cut.{holds}
-use Rattle.paving.proofs.Emptying.{number-eq}
+use Rattle.paving.proofs.Room.{number-eq}
 use Rattle.definition.specs.Point.{combinations}
 use Rattle.tables.specs.Cuts.{cutOf}
 use Rattle.tables.specs.Ranges.{rangeOf, selectorOf}
