@@ -14,18 +14,6 @@ ghost use Rattle.paving.specs.Grid.{Room, sizeOf, widthOf, chosen, paint, Clear
 ghost use Rattle.plain_boxes.specs.Groups.{MarkedGroup};
 ghost use Rattle.box_groups.specs.Boxes.{boxesOf, allAre, emptiedAt, up, Looked, Growing, Grown};
 
-// How many columns the four dimensions have.
-pub fn width_of_all(sizes: &[u16]) -> usize
-    requires { ⌜ 4 ≤ length (now sizes) ⌝ }
-    ensures { λ r. ⌜ r ≡ widthOf (now (sizes .entry)) 4 ⌝ }
-{
-    let years = u16_to_usize(sizes[0]);
-    let months = u16_to_usize(sizes[1]);
-    let weeks = u16_to_usize(sizes[2]);
-    let weekdays = u16_to_usize(sizes[3]);
-    weekdays + weeks + months + years
-}
-
 // Whether the first boxes of the list, each so many boxes up, all have the value.
 fn all_are(cells: &[u16], boxes: &[u16], count: usize, value: u16, shift: usize) -> bool
     requires { ⌜ (count ≤ length (now boxes)) × All (λ b. b < length (now cells)) (up shift (take count (now boxes))) ⌝ }

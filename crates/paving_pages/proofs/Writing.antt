@@ -1,10 +1,10 @@
 -- One lemma for each return of the writing: the sorts of a page one after the other, and a page. Rests on the laws of numbers laid over a
 -- buffer.
-use mathlib.Core.Path.{_≡_, refl, sym, ap, ap₂, _∙_}
+use mathlib.Core.Path.{_≡_, refl, sym, ap, ap₂, _∙_, subst}
 use mathlib.Core.List.{List, [], _∷_, _++_, map, flatMap, map-append}
-use Prim.Native.Nat.{ℕ, zero, suc, _+_, _*_, _≤_, _<_}
+use Prim.Native.Nat.{ℕ, zero, suc, _+_, _-_, _*_, _≤_, _<_}
 use native.Mathlib.Omega.{arith}
-use lib.ListN.{length, getD, set, length-append, length-map}
+use lib.ListN.{length, getD, set, length-append, length-map, length-set}
 use lib.Seq.{sets}
 use Rattle.laws.proofs.Spread.{flatMap-last}
 use Rattle.laws.proofs.Stores.{sets-append, sets-set}
@@ -12,6 +12,7 @@ use Rattle.definition.specs.Range.{Ends}
 use Rattle.words.proofs.Sets.{sets-next}
 use Rattle.paving.specs.Grid.{widthOf, marksFrom, chosen}
 use Rattle.date_items.specs.Runs.{Cuts, itemsAt}
+use Rattle.plain_boxes.proofs.Widths.{width-next, width-le}
 use Rattle.tables.specs.Items.{numbers, endNumbers}
 use Rattle.tables.proofs.Pages.{length-numbers}
 use Rattle.paving_pages.specs.Pages.{CutRows, sortItems, pageItems, markedItems, laidItems, state, groupNumbers, putPage}
@@ -37,20 +38,9 @@ last-laid pages counts next Es F h =
     ∙ ap (λ t. sets t next (endNumbers (Es ++ (F ∷ [])))) (sym (sets-append pages counts (map length Es) (length F ∷ [])))
     ∙ ap (λ ns. sets (sets pages counts ns) next (endNumbers (Es ++ (F ∷ [])))) (sym (map-append length Es (F ∷ [])))
 
--- ## A dimension fewer
-pub width-step : (sizes : List ℕ) (left i n : ℕ) → left ≡ suc i → n ≡ getD sizes i 0 → widthOf sizes left ≡ n + widthOf sizes i
-unfolding widthOf
-width-step sizes left i n el en = rw (el, en)
-
-module _ {rows cuts sizes : List ℕ} {left i : ℕ} (el : left ≡ suc i) (r : CutRows rows cuts sizes left) where
-  pub rows-fewer : CutRows rows cuts sizes i
-  rows-fewer =
-      let a = r .all-rows in
-      let b = r .all-sizes in
-      record { all-rows = omega arith; all-sizes = omega arith; row = λ j h. r .row j (omega arith) }
-
-  pub row-cuts : {row n : ℕ} → row ≡ getD rows i 0 → n ≡ getD sizes i 0 → Cuts cuts row n
-  row-cuts er en = rw (en, er) (r .row i (omega arith))
+-- ## One dimension
+pub row-cuts : {rows cuts sizes : List ℕ} {left i row n : ℕ} → i < left → CutRows rows cuts sizes left → row ≡ getD rows i 0 → n ≡ getD sizes i 0 → Cuts cuts row n
+row-cuts {i = i} lt r er en = rw (en, er) (r .row i lt)
 
 -- ## The sorts of a set
 module _ (rows cuts sizes marks : List ℕ) where
@@ -65,14 +55,14 @@ module _ (rows cuts sizes marks : List ℕ) where
       omega (arith, length-append (items i (base + getD sizes i 0)) (F ∷ []), items-length i (base + getD sizes i 0))
 
   module _ (left i base n row : ℕ) (el : left ≡ suc i) (en : n ≡ getD sizes i 0) (er : row ≡ getD rows i 0) where
-    pub sorts-step : items left base ≡ items i (base + n) ++ (itemsAt marks base n cuts row ∷ [])
+    sorts-step : items left base ≡ items i (base + n) ++ (itemsAt marks base n cuts row ∷ [])
     unfolding chosen pageItems sortItems
     sorts-step = rw (el, en, er)
 
     pub numbers-step : length (endNumbers (items left base)) ≡ length (endNumbers (items i (base + n))) + 2 * length (itemsAt marks base n cuts row)
     numbers-step = ap (λ Es. length (endNumbers Es)) sorts-step ∙ last-length (items i (base + n)) (itemsAt marks base n cuts row)
 
-    pub sorts-more : (counts next then many : ℕ) (pages pages₁ pages₂ : List ℕ) → counts + left ≤ next
+    sorts-more : (counts next then many : ℕ) (pages pages₁ pages₂ : List ℕ) → counts + left ≤ next
         → (then ≡ next + length (endNumbers (items i (base + n)))) × (pages₁ ≡ laidItems pages counts next (items i (base + n)))
         → (many ≡ length (itemsAt marks base n cuts row)) × (pages₂ ≡ sets pages₁ then (numbers (itemsAt marks base n cuts row)))
         → (then + 2 * many ≡ next + length (endNumbers (items left base))) × (set pages₂ (counts + i) many ≡ laidItems pages counts next (items left base))
@@ -86,9 +76,86 @@ module _ (rows cuts sizes marks : List ℕ) where
               ∙ last-laid pages counts next Es F (omega (arith, long)) ∙ ap (laidItems pages counts next) (sym sorts-step),
         )
 
-  pub sorts-none : (left base counts next : ℕ) (pages : List ℕ) → left ≡ 0 → (next ≡ next + length (endNumbers (items left base))) × (pages ≡ laidItems pages counts next (items left base))
+  sorts-none : (base counts next : ℕ) (pages : List ℕ) → (next ≡ next + length (endNumbers (items 0 base))) × (pages ≡ laidItems pages counts next (items 0 base))
   unfolding chosen pageItems endNumbers laidItems flatMap
-  sorts-none left base counts next pages e = rw e (omega arith, refl)
+  sorts-none base counts next pages = (omega arith, refl)
+
+  -- the sorts of fewer dimensions have no more numbers
+  numbers-part : (d k l low base : ℕ) → l ≡ k + d → low + widthOf sizes k ≡ base + widthOf sizes l → length (endNumbers (items k low)) ≤ length (endNumbers (items l base))
+  numbers-part zero k l low base e h =
+      let same : l ≡ k = omega arith in
+      let here : low ≡ base = omega (arith, ap (widthOf sizes) same) in
+      omega (arith, ap₂ (λ m b. length (endNumbers (items m b))) same (sym here))
+  numbers-part (suc d) k l low base e h =
+      let i = k + d in
+      let n = getD sizes i 0 in
+      let el : l ≡ suc i = omega arith in
+      omega (
+        arith,
+        numbers-part d k i low (base + n) refl (omega (arith, width-next sizes i l el)),
+        numbers-step l i base n (getD rows i 0) el refl refl,
+      )
+
+  -- ## The loop over the sorts
+  -- the sorts before one are laid
+  pub record LaidTo (left counts next : ℕ) (pages₀ pages : List ℕ) (base then i : ℕ) : Type 0 where
+    pub sorts : i ≤ left
+    pub place : base + widthOf sizes i ≡ widthOf sizes left
+    pub long : length pages ≡ length pages₀
+    pub laid : (then ≡ next + length (endNumbers (items i base))) × (pages ≡ laidItems pages₀ counts next (items i base))
+
+  pub laid-begin : (left counts next base : ℕ) (pages : List ℕ) → base ≡ widthOf sizes left → LaidTo left counts next pages pages base next 0
+  unfolding widthOf
+  laid-begin left counts next base pages e = record { sorts = omega arith; place = omega arith; long = refl; laid = sorts-none base counts next pages }
+
+  module _ (left counts next : ℕ) (pages₀ pages : List ℕ) (base then i n row : ℕ) (to : LaidTo left counts next pages₀ pages base then i) (lt : i < left)
+      (en : n ≡ getD sizes i 0) (er : row ≡ getD rows i 0) where
+    next-width : widthOf sizes (suc i) ≡ n + widthOf sizes i
+    next-width = omega (arith, width-next sizes i (suc i) refl, en)
+
+    pub base-there : n ≤ base
+    base-there = omega (arith, width-le sizes (suc i) left lt, next-width, to .place)
+
+    next-place : base - n + widthOf sizes (suc i) ≡ widthOf sizes left
+    next-place = omega (arith, next-width, to .place, base-there)
+
+    back : base - n + n ≡ base
+    back = omega (arith, base-there)
+
+    -- the items of the next sort have room
+    pub sort-room : next + length (endNumbers (items left 0)) ≤ length pages₀ → then + 2 * length (itemsAt marks (base - n) n cuts row) ≤ length pages
+    sort-room h =
+        omega (
+          arith,
+          numbers-part (left - suc i) (suc i) left (base - n) 0 (omega arith) (omega (arith, next-place)),
+          numbers-step (suc i) i (base - n) n row refl en er,
+          ap (λ b. length (endNumbers (items i b))) back,
+          to .laid .0,
+          to .long,
+          h,
+        )
+
+    pub laid-more : (many : ℕ) (pages₂ : List ℕ) → counts + left ≤ next → length pages₂ ≡ length pages
+        → (many ≡ length (itemsAt marks (base - n) n cuts row)) × (pages₂ ≡ sets pages then (numbers (itemsAt marks (base - n) n cuts row)))
+        → LaidTo left counts next pages₀ (set pages₂ (counts + i) many) (base - n) (then + 2 * many) (i + 1)
+    laid-more many pages₂ h l last =
+        let one : i + 1 ≡ suc i = omega arith in
+        let below = subst (λ b. (then ≡ next + length (endNumbers (items i b))) × (pages ≡ laidItems pages₀ counts next (items i b))) (sym back) (to .laid) in
+        rw one
+        (record {
+          sorts = lt;
+          place = next-place;
+          long = length-set pages₂ (counts + i) many ∙ l ∙ to .long;
+          laid = sorts-more (suc i) i (base - n) n row refl en er counts next then many pages₀ pages pages₂ (omega arith) below last;
+        })
+
+  pub laid-end : (left counts next : ℕ) (pages₀ pages : List ℕ) (base then i : ℕ) → LaidTo left counts next pages₀ pages base then i → left ≤ i
+      → (then ≡ next + length (endNumbers (items left 0))) × (pages ≡ laidItems pages₀ counts next (items left 0))
+  laid-end left counts next pages₀ pages base then i to h =
+      let all : i ≡ left = omega (arith, to .sorts) in
+      let none : base ≡ 0 = omega (arith, to .place, ap (widthOf sizes) all) in
+      subst (λ m. (then ≡ next + length (endNumbers (items m 0))) × (pages ≡ laidItems pages₀ counts next (items m 0))) all
+      (subst (λ b. (then ≡ next + length (endNumbers (items i b))) × (pages ≡ laidItems pages₀ counts next (items i b))) none (to .laid))
 
   -- ## A page
   module _ (value at left : ℕ) where

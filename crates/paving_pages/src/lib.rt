@@ -2,9 +2,10 @@
 // weekdays), then the items' first and last values in that order.
 use box_groups::pop_group;
 use box_groups::search::next_box;
-use box_groups::width_of_all;
 use casts::u16_to_usize;
+use date_items::put_items;
 use paving::place::size_of;
+use plain_boxes::width_of;
 ghost use mathlib.Core.Path.{_≡_};
 ghost use Prim.Native.Nat.{_+_, _*_, _≤_};
 ghost use lib.ListN.{length, getD};
@@ -13,7 +14,7 @@ ghost use Rattle.paving.specs.Sweep.{swept, emitted, TakenOut};
 ghost use Rattle.paving_pages.specs.Pages.{CutRows, markedItems, laidItems, state, groupNumbers, groupsNumbers, putPage, PopsPages};
 ghost use Rattle.tables.specs.Items.{endNumbers};
 
-// Appends the items of the marked set, sort after sort, and puts how many each sort has from another place on.
+// Appends the items of the marked set, sort after sort, and puts how many each sort has from another place on. The years' marks stand last.
 fn put_sorts(
     pages: &mut [u16],
     sizes: &[u16],
@@ -21,44 +22,36 @@ fn put_sorts(
     cuts: &[u16],
     marks: &[u8],
     counts_at: usize,
-    next: usize,
+    start: usize,
     dims_left: usize,
-    base: usize,
 ) -> usize
     requires { ⌜ CutRows (now «row_starts») (now cuts) (now sizes) «dims_left» ⌝ }
-    requires { ⌜ (base + widthOf (now sizes) «dims_left» ≤ length (now marks)) × («counts_at» + «dims_left» ≤ next) ⌝ }
-    requires { ⌜ next + length (endNumbers (markedItems (now «row_starts») (now cuts) (now sizes) (now marks) «dims_left» base)) ≤ length (now pages) ⌝ }
-    ensures { λ r. ⌜ (r ≡ next + length (endNumbers (markedItems (now («row_starts» .entry)) (now (cuts .entry)) (now (sizes .entry)) (now (marks .entry)) «dims_left» base)))
-        × (now (pages .exit) ≡ laidItems (now (pages .entry)) «counts_at» next
-        (markedItems (now («row_starts» .entry)) (now (cuts .entry)) (now (sizes .entry)) (now (marks .entry)) «dims_left» base)) ⌝ }
+    requires { ⌜ (widthOf (now sizes) «dims_left» ≤ length (now marks)) × («counts_at» + «dims_left» ≤ start) ⌝ }
+    requires { ⌜ start + length (endNumbers (markedItems (now «row_starts») (now cuts) (now sizes) (now marks) «dims_left» 0)) ≤ length (now pages) ⌝ }
+    ensures { λ r. ⌜ (r ≡ start + length (endNumbers (markedItems (now («row_starts» .entry)) (now (cuts .entry)) (now (sizes .entry)) (now (marks .entry)) «dims_left» 0)))
+        × (now (pages .exit) ≡ laidItems (now (pages .entry)) «counts_at» start
+        (markedItems (now («row_starts» .entry)) (now (cuts .entry)) (now (sizes .entry)) (now (marks .entry)) «dims_left» 0)) ⌝ }
 {
-    if dims_left == 0 {
-        return next;
+    let mut base = width_of(sizes, dims_left);
+    let mut next = start;
+    let mut sort = 0;
+    while sort < dims_left {
+        let width = u16_to_usize(sizes[sort]);
+        base -= width;
+        let item_count = put_items(
+            marks,
+            base,
+            width,
+            cuts,
+            u16_to_usize(row_starts[sort]),
+            pages,
+            next,
+        );
+        pages[counts_at + sort] = item_count as u16;
+        next += 2 * item_count;
+        sort += 1;
     }
-    let sort = dims_left - 1;
-    let width = u16_to_usize(sizes[sort]);
-    let then = put_sorts(
-        pages,
-        sizes,
-        row_starts,
-        cuts,
-        marks,
-        counts_at,
-        next,
-        sort,
-        base + width,
-    );
-    let item_count = date_items::put_items(
-        marks,
-        base,
-        width,
-        cuts,
-        u16_to_usize(row_starts[sort]),
-        pages,
-        then,
-    );
-    pages[counts_at + sort] = item_count as u16;
-    then + 2 * item_count
+    next
 }
 
 // Appends a page of the marked set.
@@ -89,7 +82,6 @@ pub fn put_page(
         at + 1,
         at + 1 + dims_left,
         dims_left,
-        0,
     )
 }
 
@@ -120,7 +112,7 @@ fn pop_class(
         (swept (now (cells .entry)) (now (classes .entry)) (now (sizes .entry)) class 4 .1) ⌝ }
 {
     let end = size_of(sizes, 4);
-    let columns = width_of_all(sizes);
+    let columns = width_of(sizes, 4);
     let mut next = start;
     let mut first = next_box(cells, classes, class, 0, end);
     while first < end {

@@ -4,6 +4,7 @@ use casts::u16_to_usize;
 use paving::place::size_of;
 use paving::row::bit;
 use plain_boxes::digit;
+use plain_boxes::width_of;
 ghost use mathlib.Core.Path.{_≡_};
 ghost use Prim.Native.Nat.{ℕ, _+_, _≤_, _<_, _^_};
 ghost use lib.Dec.{eqb};
@@ -12,20 +13,6 @@ ghost use Rattle.grid.specs.Group.{agree, inside};
 ghost use Rattle.paving.specs.Grid.{Room, sizeOf, widthOf, grid, chosen, Cleared};
 ghost use Rattle.plain_boxes.specs.Digits.{digits};
 ghost use Rattle.plain_boxes.specs.Groups.{grown, MarkedGroup};
-
-// How many intervals the last `dims_left` dimensions have.
-fn width_of(sizes: &[u16], dims_left: usize) -> usize
-    requires { ⌜ («dims_left» ≤ length (now sizes)) × (widthOf (now sizes) «dims_left» < 2 ^ 64) ⌝ }
-    ensures { λ r. ⌜ r ≡ widthOf (now (sizes .entry)) «dims_left» ⌝ }
-{
-    let mut width = 0;
-    let mut dimension = 0;
-    while dimension < dims_left {
-        width = u16_to_usize(sizes[dimension]) + width;
-        dimension += 1;
-    }
-    width
-}
 
 // Whether a box lies in marked intervals of the last `dims_left` dimensions, whose marks stand from `base` on.
 fn is_marked(sizes: &[u16], marks: &[u8], box_index: usize, dims_left: usize, base: usize) -> bool

@@ -44,7 +44,7 @@ pop-group-requires c κs =
       room-len₂ _ _ _ _ _ _ _ (i .1) (room-len _ _ _ _ _ _ _ (i .0) (entry .pre .0)),
       (
         omega (arith, turn .loop-test .taken, sized .size-of .ensures),
-        wide .width-of-all .ensures,
+        wide .width-of .ensures,
         omega (arith, entry .pre .1 .1 .1 .0 .0, i .9),
         omega (arith, entry .pre .1 .1 .1 .0 .1, i .0),
         first-with-value _ _ _ (i .7) (i .8 (turn .loop-test .taken)),
@@ -139,7 +139,9 @@ pop-class-spec =
     let entry = c .before .before .before .before .before .before .before .before in
     let room = entry .pre .0 in
     (room .column .dims, room .column .filled, omega (arith, room-size _ _ _ _ _ _ room, entry .good)))
-    (λ c κs. c .before .before .before .before .before .before .before .before .before .pre .0 .column .dims)
+    (λ c κs.
+    let entry = c .before .before .before .before .before .before .before .before .before in
+    (entry .pre .0 .column .dims, omega (arith, entry .pre .0 .marked, entry .good)))
     (λ c κs.
     let sized = c .before .before in
     let entry = sized .before .before .before .before .before .before .before .before .before in

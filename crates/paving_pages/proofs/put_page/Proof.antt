@@ -26,7 +26,7 @@ put-sorts-requires c κs =
     let entry = c .before .before .before .before .before .before in
     let a = entry .args in
     let room = page-room (a .row-starts .now) (a .cuts .now) (a .sizes .now) (a .marks .now) (a .value) (a .at) (a .dims-left) (length (a .pages .now)) in
-    (entry .pre .0, ((omega (arith, entry .pre .1 .0), omega arith), omega (arith, room (entry .pre .1 .1), length-set (a .pages .now) (a .at) (a .value))))
+    (entry .pre .0, ((entry .pre .1 .0, omega arith), omega (arith, room (entry .pre .1 .1), length-set (a .pages .now) (a .at) (a .value))))
 
 pub put-page-spec : {M : Type 1} → statement M
 put-page-spec =

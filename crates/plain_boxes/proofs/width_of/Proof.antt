@@ -1,12 +1,12 @@
--- `plain_groups::group::width_of` meets its contract. The loop's invariant: how many intervals the dimensions passed have.
+-- `plain_boxes::width_of` meets its contract. The loop's invariant: how many intervals the dimensions passed have.
 use mathlib.Core.Path.{_≡_, sym, ap, _∙_}
 use Prim.Native.Nat.{suc, _+_, _-_, _≤_}
 use native.Mathlib.Omega.{arith}
 use borrow.Author.Needs.{needs}
 use Rattle.paving.specs.Grid.{widthOf}
 use Rattle.plain_boxes.proofs.Widths.{width-none, width-next, width-le}
-use Rattle.plain_groups.proofs.group.width_of.Statement.{statement}
-use Rattle.plain_groups.proofs.group.width_of.Tie as tie
+use Rattle.plain_boxes.proofs.width_of.Statement.{statement}
+use Rattle.plain_boxes.proofs.width_of.Tie as tie
 
 abbrev Inv-loop : tie.InvT-loop
 Inv-loop sizes left width₀ dimension₀ width dimension = (dimension ≤ left) × (width ≡ widthOf sizes dimension)
