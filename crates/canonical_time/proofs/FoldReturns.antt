@@ -13,8 +13,7 @@ use Rattle.definition.specs.Day.{simple, day}
 use Rattle.codes.specs.Number.{closedNumber, spanAt}
 use Rattle.words.specs.Words.{part}
 use Rattle.day_paint.specs.Stroke.{strokesOfRun, strokesFrom, shown}
-use Rattle.day_paint.specs.Piece.{Piece, pieceStart, pieceState, dayPieces}
-use Rattle.day_paint.proofs.MeanPiece.{Tiles, pieces-tile}
+use Rattle.day_paint.specs.Piece.{Piece, pieceStart, pieceState, Tiles, DayLaid}
 use Rattle.day_sweep.specs.Row.{timeLimit, classesWords}
 use Rattle.canonical_time.specs.Flatten.{sameStates, statesFrom, spansFrom}
 use Rattle.day_group.specs.Groups.{groupWords}
@@ -66,16 +65,16 @@ laid-small s a (x ∷ t) h l zero m =
 laid-small s a (x ∷ t) h l (suc k) m =
     let z : a + suc k ≡ suc a + k = omega arith in rw z (laid-small (set s a x) (suc a) t (h .1) (omega (arith, length-set s a x)) k (omega arith))
 
-pub cuts-bounded : (before cuts q : List ℕ) (k m : ℕ) → cuts ≡ sets before 0 (map pieceStart (dayPieces q k) ++ 1440 ∷ []) → m ≡ length (dayPieces q k)
-    → m < length before
+pub cuts-bounded : (f : ℕ → ℕ) (before cuts cells₀ cells : List ℕ) (m : ℕ) → DayLaid f before cuts cells₀ cells m → m < length before
     → (j : ℕ) → j ≤ m → getD cuts j 0 < timeLimit
-cuts-bounded before cuts q k m e f room j l =
-    let ws : List ℕ = map pieceStart (dayPieces q k) ++ 1440 ∷ [] in
-    let size : length ws ≡ suc m = length-append (map pieceStart (dayPieces q k)) (1440 ∷ []) ∙ omega (arith, length-map (dayPieces q k) pieceStart) in
-    let small = tiles-small (shown closedNumber (part q 0 k)) 0 1440 (dayPieces q k) (omega arith) (pieces-tile q k 0 1440 (omega arith)) in
+cuts-bounded f before cuts cells₀ cells m day room j l =
+    let P : List Piece = day .tiles in
+    let ws : List ℕ = map pieceStart P ++ 1440 ∷ [] in
+    let size : length ws ≡ suc m = length-append (map pieceStart P) (1440 ∷ []) ∙ omega (arith, length-map P pieceStart, day .counted) in
+    let small = tiles-small f 0 1440 P (omega arith) (day .tile) in
     let b = laid-small before 0 ws small (omega (arith, size)) j (omega (arith, size)) in
     let z : 0 + j ≡ j = omega arith in
-    let g : getD cuts j 0 ≡ getD (sets before 0 ws) (0 + j) 0 = ap₂ (λ v i. getD v i 0) e (sym z) in omega arith
+    let g : getD cuts j 0 ≡ getD (sets before 0 ws) (0 + j) 0 = ap₂ (λ v i. getD v i 0) (day .starts-laid) (sym z) in omega arith
 
 -- where all spans are strokes there is no group
 no-groups : (xs ps : List ℕ) (i r : ℕ) → length (strokesFrom xs ps i r) ≡ r → groupWords xs ps i r ≡ []
@@ -92,8 +91,7 @@ no-groups xs ps i (suc r) h = go (simple (spanAt (getD ps i 0))) refl (no-groups
 module _ (states counts spans list xs₀ xs ps₀ ps q₀ q cs₀ cs vs₀ vs out₀ out₁ : List ℕ) (L N k m at : ℕ)
     (flat-list : Flattened states counts spans list L xs₀ ps₀ N xs ps)
     (stroked : (q ≡ sets q₀ 0 (strokesFrom xs ps 0 N)) × (k ≡ length (strokesFrom xs ps 0 N)))
-    (pieced : (cs ≡ sets cs₀ 0 (map pieceStart (dayPieces q k) ++ 1440 ∷ [])) × (vs ≡ sets vs₀ 0 (map pieceState (dayPieces q k))) ×
-    (m ≡ length (dayPieces q k)) × (m ≤ 2 * k + 1))
+    (pieced : DayLaid (shown closedNumber (part q 0 k)) cs₀ cs vs₀ vs m × (m ≤ 2 * k + 1))
     (swept : (out₁ ≡ sets out₀ 0 (classesWords cs m 1 vs 5)) × (at ≡ length (classesWords cs m 1 vs 5)))
     (room : (16 * L ≤ length xs₀) × (16 * L ≤ length ps₀) × (32 * L + 2 ≤ length q₀) × (32 * L + 2 ≤ length cs₀) × (32 * L + 2 ≤ length vs₀)) where
   abbrev D : List ℕ
@@ -111,17 +109,18 @@ module _ (states counts spans list xs₀ xs ps₀ ps q₀ q cs₀ cs vs₀ vs ou
       let Q : List ℕ = strokesFrom xs ps 0 N in
       let q-read : part q 0 k ≡ Q =
       ap₂ (λ v w. part v 0 w) (stroked .0) (stroked .1) ∙ part-sets q₀ 0 Q (omega (arith, stroked .1, few, flat-list .3, room .2)) in
-      let P : List Piece = dayPieces q k in
-      let tiles : Tiles (shown closedNumber Q) 0 1440 P = subst (λ v. Tiles (shown closedNumber v) 0 1440 P) q-read (pieces-tile q k 0 1440 (omega arith)) in
+      let tiled = pieced .0 in
+      let P : List Piece = tiled .tiles in
+      let tiles : Tiles (shown closedNumber Q) 0 1440 P = subst (λ v. Tiles (shown closedNumber v) 0 1440 P) q-read (tiled .tile) in
       let W : List ℕ = map pieceStart P ++ 1440 ∷ [] in
-      let mW : suc m ≡ length W = sym (length-append (map pieceStart P) (1440 ∷ []) ∙ omega (arith, length-map P pieceStart, pieced .2)) in
+      let mW : suc m ≡ length W = sym (length-append (map pieceStart P) (1440 ∷ []) ∙ omega (arith, length-map P pieceStart, tiled .counted)) in
       let c-read : part cs 0 (suc m) ≡ W =
-      ap₂ (λ v w. part v 0 w) (pieced .0) mW ∙ part-sets cs₀ 0 W (omega (arith, mW, few, pieced .3, flat-list .3, room .3)) in
+      ap₂ (λ v w. part v 0 w) (tiled .starts-laid) mW ∙ part-sets cs₀ 0 W (omega (arith, mW, few, pieced .1, flat-list .3, room .3)) in
       let S : List ℕ = map pieceState P in
-      let mS : m ≡ length S = omega (arith, length-map P pieceState, pieced .2) in
-      let v-read : part vs 0 m ≡ S = ap₂ (λ v w. part v 0 w) (pieced .1) mS ∙ part-sets vs₀ 0 S (omega (arith, mS, few, pieced .3, flat-list .3, room .4)) in
-      let long : m ≤ length vs = omega (arith, ap length (pieced .1), length-sets vs₀ 0 S, few, pieced .3, flat-list .3, room .4) in
-      day-words states counts spans list 0 L xs ps cs vs N m P a b tiles (pieced .2) long c-read v-read
+      let mS : m ≡ length S = omega (arith, length-map P pieceState, tiled .counted) in
+      let v-read : part vs 0 m ≡ S = ap₂ (λ v w. part v 0 w) (tiled .states-laid) mS ∙ part-sets vs₀ 0 S (omega (arith, mS, few, pieced .1, flat-list .3, room .4)) in
+      let long : m ≤ length vs = omega (arith, ap length (tiled .states-laid), length-sets vs₀ 0 S, few, pieced .1, flat-list .3, room .4) in
+      day-words states counts spans list 0 L xs ps cs vs N m P a b tiles (tiled .counted) long c-read v-read
 
   laid : (B : List ℕ) → groupWords xs ps 0 N ≡ B → (out₂ : List ℕ) (r : ℕ) → out₂ ≡ sets out₁ at B → r ≡ at + length B → (out₂ ≡ sets out₀ 0 D) × (r ≡ length D)
   laid B e out₂ r l c =

@@ -16,7 +16,7 @@ use Rattle.definition.specs.Day.{Stated, Day, flattened, painting, grouped, sta
 use Rattle.codes.specs.Number.{stateNumber, stateCoded, closedNumber, spanNumber}
 use Rattle.words.specs.Words.{part, entryWords}
 use Rattle.day_paint.specs.Stroke.{strokesFrom, shown}
-use Rattle.day_paint.specs.Piece.{Piece, pieceStart, pieceState}
+use Rattle.day_paint.specs.Piece.{Piece, pieceStart, pieceState, Tiles}
 use Rattle.day_sweep.specs.Row.{isOfClass, clearFrom, classLeft, classesWords}
 use Rattle.canonical_time.specs.Flatten.{statesFrom, spansFrom}
 use Rattle.day_group.specs.Groups.{groupWords}
@@ -25,7 +25,6 @@ use Rattle.words.proofs.Sets.{part-front}
 use Rattle.canonical_time.proofs.MeanList.{pairs-list}
 use Rattle.canonical_time.proofs.MeanPieces.{pieceRange, tiles-between, tiles-rise, tiles-shown, groups-pieces}
 use Rattle.day_paint.proofs.MeanStroke.{strokeAt, strokes-paint, shown-mean}
-use Rattle.day_paint.proofs.MeanPiece.{Tiles}
 use Rattle.day_group.proofs.MeanGroup.{groups-mean}
 use Rattle.day_sweep.proofs.ClearedCells.{length-clear}
 use Rattle.day_sweep.proofs.MeanClass.{intervalsAt, Agree, class-mean}

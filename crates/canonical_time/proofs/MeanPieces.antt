@@ -17,8 +17,8 @@ use Rattle.definition.specs.Rule.{State, closed, sameState}
 use Rattle.definition.specs.Day.{minuteBounds, stateClasses}
 use Rattle.definition.proofs.Same.{exact-state}
 use Rattle.codes.specs.Number.{stateCoded}
-use Rattle.day_paint.specs.Piece.{Piece, pieceStart, pieceEnd, pieceState}
-use Rattle.day_paint.proofs.MeanPiece.{Tiles, tiles-up}
+use Rattle.day_paint.specs.Piece.{Piece, pieceStart, pieceEnd, pieceState, Tiles}
+use Rattle.day_paint.proofs.MeanPiece.{tiles-up}
 
 abbrev pub pieceRange : Piece → Range
 pieceRange t = (pieceStart t, pieceEnd t)

@@ -4,3 +4,4 @@ pub mod Meeting
 pub mod Pieces
 pub mod PieceReturns
 pub mod MeanPiece
+pub mod Minutes

@@ -10,32 +10,27 @@ use borrow.Author.Tests.{lt-ltb, le-ltb, le-leb, lt-leb, ltb-true, ltb-false}
 use Rattle.codes.specs.Number.{closedNumber}
 use Rattle.words.specs.Words.{part}
 use Rattle.day_paint.specs.Stroke.{strokeStart, strokeEnd, strokeState, strokeOver, shown}
-use Rattle.day_paint.specs.Piece.{Piece, pieceStart, pieceEnd, pieceState, meetsFrom, meetsUpTo, meets, pieces}
+use Rattle.day_paint.specs.Piece.{Piece, meetsFrom, meetsUpTo, meets, pieces, Tiles}
 use Rattle.day_paint.proofs.Meeting.{later-bound, earlier-bound, below-later, above-earlier, meets-true, meets-false}
 use Rattle.day_paint.proofs.Pieces.{pieces-none, pieces-bare, step-in, step-over}
-
--- pieces that tile a range, on each of which f has its state
-abbrev pub Tiles : (ℕ → ℕ) → ℕ → ℕ → List Piece → Type 0
-Tiles f a b [] = a ≡ b
-Tiles f a b (t ∷ L) = (pieceStart t ≡ a) × (a < pieceEnd t) × ((m : ℕ) → a ≤ m → m < pieceEnd t → f m ≡ pieceState t) × Tiles f (pieceEnd t) b L
 
 module _ (f : ℕ → ℕ) where
   pub tiles-up : (a b : ℕ) (L : List Piece) → Tiles f a b L → a ≤ b
   tiles-up a b [] h = omega arith
   tiles-up a b (t ∷ L) h = omega (arith, h .1, tiles-up (t .1) b L (h .3))
 
-  tiles-append : (a c b : ℕ) (L M : List Piece) → Tiles f a c L → Tiles f c b M → Tiles f a b (L ++ M)
+  pub tiles-append : (a c b : ℕ) (L M : List Piece) → Tiles f a c L → Tiles f c b M → Tiles f a b (L ++ M)
   tiles-append a c b [] M h k = rw h k
   tiles-append a c b (t ∷ L) M h k = (h .0, h .1, h .2, tiles-append (t .1) c b L M (h .3) k)
 
-  tiles-same : (g : ℕ → ℕ) (a b : ℕ) (L : List Piece) → ((m : ℕ) → a ≤ m → m < b → g m ≡ f m) → Tiles f a b L → Tiles g a b L
+  pub tiles-same : (g : ℕ → ℕ) (a b : ℕ) (L : List Piece) → ((m : ℕ) → a ≤ m → m < b → g m ≡ f m) → Tiles f a b L → Tiles g a b L
   tiles-same g a b [] e h = h
   tiles-same g a b (t ∷ L) e h =
       let u = tiles-up (t .1) b L (h .3) in
       (h .0, h .1, λ m l k. e m l (omega arith) ∙ h .2 m l k, tiles-same g (t .1) b L (λ m l k. e m (omega (arith, h .1)) k) (h .3))
 
 -- ## What strokes show, the last of them first
-shown-last : (q : List ℕ) (S m a n : ℕ) → shown S (part q a (suc n)) m ≡ strokeOver (getD q (a + n) 0) m (shown S (part q a n) m)
+pub shown-last : (q : List ℕ) (S m a n : ℕ) → shown S (part q a (suc n)) m ≡ strokeOver (getD q (a + n) 0) m (shown S (part q a n) m)
 unfolding shown part
 shown-last q S m a zero = let e : a ≡ a + 0 = omega arith in ap (λ i. strokeOver (getD q i 0) m S) e
 shown-last q S m a (suc n) =

@@ -1,2 +1,3 @@
 pub mod Stroke
 pub mod Piece
+pub mod Minute

@@ -1,10 +1,12 @@
 -- A range of minutes as pieces, each of one state. Strokes are painted one over another, so the last one that meets the range shows where it does,
 -- and the strokes before it show to its left and to its right.
-use mathlib.Core.List.{List, [], _∷_, _++_}
+use mathlib.Core.Path.{_≡_}
+use mathlib.Core.List.{List, [], _∷_, _++_, map}
 use mathlib.Core.Bool.{Bool, true, false, cond}
-use Prim.Native.Nat.{ℕ, zero, suc}
+use Prim.Native.Nat.{ℕ, zero, suc, _≤_, _<_}
 use lib.Dec.{ltb}
-use lib.ListN.{getD}
+use lib.ListN.{length, getD}
+use lib.Seq.{sets}
 use Rattle.codes.specs.Number.{closedNumber}
 use Rattle.day_paint.specs.Stroke.{strokeStart, strokeEnd, strokeState}
 
@@ -57,3 +59,16 @@ pieces strokes (suc i) a b = paintedOver (getD strokes i 0) (pieces strokes i) a
 -- the pieces of a whole day
 abbrev pub dayPieces : List ℕ → ℕ → List Piece
 dayPieces strokes k = pieces strokes k 0 1440
+
+-- pieces that tile a range, on each of which f has its state
+abbrev pub Tiles : (ℕ → ℕ) → ℕ → ℕ → List Piece → Type 0
+Tiles f a b [] = a ≡ b
+Tiles f a b (t ∷ L) = (pieceStart t ≡ a) × (a < pieceEnd t) × ((m : ℕ) → a ≤ m → m < pieceEnd t → f m ≡ pieceState t) × Tiles f (pieceEnd t) b L
+
+-- pieces that tile a day, laid over what stood there: their starts with the day's end behind them, and their states; r of them
+pub record DayLaid (f : ℕ → ℕ) (starts₀ starts states₀ states : List ℕ) (r : ℕ) : Type 0 where
+  pub tiles : List Piece
+  pub tile : Tiles f 0 1440 tiles
+  pub starts-laid : starts ≡ sets starts₀ 0 (map pieceStart tiles ++ 1440 ∷ [])
+  pub states-laid : states ≡ sets states₀ 0 (map pieceState tiles)
+  pub counted : r ≡ length tiles

@@ -1,18 +1,23 @@
-// Which spans of a list paint, as strokes; and, in piece.rt, the pieces of a day that the strokes show.
+// Which spans of a list paint, as strokes; and the pieces of a day that the strokes show: of few strokes by piece.rt, of many by minute.rt.
+pub mod minute;
 pub mod piece;
 
 use casts::u32_to_u64;
 use codes::end_of;
 use codes::is_simple;
 use codes::start_of;
+use minute::write_painted;
+use piece::write_pieces;
 ghost use mathlib.Core.Path.{_≡_};
-ghost use Prim.Native.Nat.{_+_, _-_, _≤_};
+ghost use Prim.Native.Nat.{_+_, _*_, _-_, _<_, _≤_};
 ghost use lib.ListN.{length};
 ghost use lib.Seq.{sets};
-ghost use Rattle.codes.specs.Number.{spanAt};
+ghost use Rattle.codes.specs.Number.{closedNumber, spanAt};
 ghost use Rattle.definition.specs.Day.{simple};
 ghost use mathlib.Core.Bool.{true};
-ghost use Rattle.day_paint.specs.Stroke.{strokeNumber, strokesOfRun, strokesFrom};
+ghost use Rattle.words.specs.Words.{part};
+ghost use Rattle.day_paint.specs.Stroke.{strokeNumber, strokesOfRun, strokesFrom, shown};
+ghost use Rattle.day_paint.specs.Piece.{DayLaid};
 
 // A stroke is one number: the state, the minute from which it paints, the minute up to which it does. A minute of a day, with the day's
 // end, is below 2048.
@@ -80,4 +85,19 @@ pub fn write_strokes(strokes: &mut [u64], states: &[u32], spans: &[u64], n: usiz
         return write_run_strokes(strokes, place, states, spans, x, next, n);
     }
     place
+}
+
+// From so many strokes on a day is painted minute by minute: that takes as long for few strokes as for many.
+const MANY: usize = 32;
+
+// Writes the pieces of a day under k strokes, their starts with the day's end behind them, and their states; answers how many there are.
+pub fn write_day(starts: &mut [u64], states: &mut [u64], strokes: &[u64], k: usize) -> usize
+    requires { ⌜ (k < 65536) × (k ≤ length (now strokes)) × (2 * k + 2 ≤ length (now starts)) × (2 * k + 1 ≤ length (now states)) ⌝ }
+    ensures { λ r. ⌜ DayLaid (shown closedNumber (part (now (strokes .entry)) 0 k)) (now (starts .entry)) (now (starts .exit)) (now (states .entry)) (now (states .exit)) r
+        × (r ≤ 2 * k + 1) ⌝ }
+{
+    if k < MANY {
+        return write_pieces(starts, states, strokes, k);
+    }
+    write_painted(starts, states, strokes, k)
 }

@@ -12,31 +12,31 @@ ghost use Rattle.day_paint.specs.Stroke.{strokeState, strokeStart, strok
 ghost use Rattle.day_paint.specs.Piece.{pieceStart, pieceState, earlier, meets, lastMeeting, pieces, dayPieces};
 
 // The minute at which a day ends.
-const DAY_END: u64 = 1440;
+pub const DAY_END: u64 = 1440;
 
 // A stroke's state.
-fn stroke_state(x: u64) -> u64
+pub fn stroke_state(x: u64) -> u64
     ensures { λ r. ⌜ r ≡ strokeState x ⌝ }
 {
     x / STATE_UNIT
 }
 
 // The minute from which a stroke paints.
-fn stroke_start(x: u64) -> u64
+pub fn stroke_start(x: u64) -> u64
     ensures { λ r. ⌜ r ≡ strokeStart x ⌝ }
 {
     x / START_UNIT % START_UNIT
 }
 
 // The minute up to which a stroke paints.
-fn stroke_end(x: u64) -> u64
+pub fn stroke_end(x: u64) -> u64
     ensures { λ r. ⌜ r ≡ strokeEnd x ⌝ }
 {
     x % START_UNIT
 }
 
 // The earlier of two minutes.
-fn earlier_of(a: u64, b: u64) -> u64
+pub fn earlier_of(a: u64, b: u64) -> u64
     ensures { λ r. ⌜ r ≡ earlier a b ⌝ }
 {
     if a < b { a } else { b }
@@ -74,7 +74,13 @@ fn last_meeting(strokes: &[u64], i: usize, a: u64, b: u64) -> usize
 }
 
 // Writes a piece's start and its state; answers the place after it.
-fn put_piece(starts: &mut [u64], states: &mut [u64], place: usize, start: u64, state: u64) -> usize
+pub fn put_piece(
+    starts: &mut [u64],
+    states: &mut [u64],
+    place: usize,
+    start: u64,
+    state: u64,
+) -> usize
     requires { ⌜ (place < length (now starts)) × (place < length (now states)) ⌝ }
     ensures { λ r. ⌜ (now (starts .exit) ≡ set (now (starts .entry)) place start) × (now (states .exit) ≡ set (now (states .entry)) place state) × (r ≡ place + 1) ⌝ }
 {

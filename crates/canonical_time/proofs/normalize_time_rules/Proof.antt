@@ -11,15 +11,19 @@ flatten-requires c κs = search needs
 write-strokes-requires : tie.Need-write-strokes-requires
 write-strokes-requires c κs = search needs
 
-write-pieces-requires : tie.Need-write-pieces-requires
-write-pieces-requires c κs =
+write-day-requires : tie.Need-write-day-requires
+write-day-requires c κs =
     let stroked = c .before .before .before .before .before in
     let flat = stroked .before .before .before .before .before .before .before .before in
     let entry = flat .before .before .before .before .before .before .before .before .before .before .before .before .before in
     let room = entry .pre .1 in
     let few = few-strokes _ _ _ _ (stroked .write-strokes .ensures .1) in
-    let spans = flat .flatten .ensures .3 in
-    (omega (arith, few, room, spans, stroked .write-strokes .kept .0), omega (arith, few, room, spans), omega (arith, few, room, spans))
+    let spans = flat .flatten .ensures .3 in (
+      omega (arith, few, room, spans),
+      omega (arith, few, room, spans, stroked .write-strokes .kept .0),
+      omega (arith, few, room, spans),
+      omega (arith, few, room, spans),
+    )
 
 sweep-classes-requires : tie.Need-sweep-classes-requires
 sweep-classes-requires c κs =
@@ -30,14 +34,14 @@ sweep-classes-requires c κs =
     let room = entry .pre .1 in
     let few = few-strokes _ _ _ _ (stroked .write-strokes .ensures .1) in
     let spans = flat .flatten .ensures .3 in
-    let size = pieced .write-pieces .ensures .3 in (
+    let size = pieced .write-day .ensures .1 in (
       (
         omega (arith, few, room, spans, size),
         omega (arith, few, room, spans, size, stroked .write-strokes .kept .0),
-        omega (arith, few, room, spans, size, pieced .write-pieces .kept .0),
-        omega (arith, few, room, spans, size, pieced .write-pieces .kept .1 .0),
+        omega (arith, few, room, spans, size, pieced .write-day .kept .0),
+        omega (arith, few, room, spans, size, pieced .write-day .kept .1 .0),
       ),
-      cuts-bounded _ _ _ _ _ (pieced .write-pieces .ensures .0) (pieced .write-pieces .ensures .2) (omega (arith, few, room, spans, size)),
+      cuts-bounded _ _ _ _ _ _ (pieced .write-day .ensures .0) (omega (arith, few, room, spans, size)),
     )
 
 same-length : tie.Need-same-length
@@ -66,7 +70,7 @@ returns c =
     let flat = stroked .before .before .before .before .before .before .before .before in
     let entry = flat .before .before .before .before .before .before .before .before .before .before .before .before .before in
     let room = entry .pre .1 in
-    painted-laid _ _ _ _ _ _ _ _ _ _ _ _ _ _ _ _ _ _ _ _ _ (flat .flatten .ensures) (stroked .write-strokes .ensures) (pieced .write-pieces .ensures)
+    painted-laid _ _ _ _ _ _ _ _ _ _ _ _ _ _ _ _ _ _ _ _ _ (flat .flatten .ensures) (stroked .write-strokes .ensures) (pieced .write-day .ensures)
     (swept .sweep-classes .ensures .0, swept .sweep-classes .ensures .1) (room .1, room .2, room .3, room .4, room .5) (omega arith)
 
 groups-requires : tie.Need-groups-requires
@@ -118,13 +122,13 @@ returns-2 c =
     let flat = stroked .before .before .before .before .before .before .before .before in
     let entry = flat .before .before .before .before .before .before .before .before .before .before .before .before .before in
     let room = entry .pre .1 in
-    grouped-laid _ _ _ _ _ _ _ _ _ _ _ _ _ _ _ _ _ _ _ _ _ (flat .flatten .ensures) (stroked .write-strokes .ensures) (pieced .write-pieces .ensures)
+    grouped-laid _ _ _ _ _ _ _ _ _ _ _ _ _ _ _ _ _ _ _ _ _ (flat .flatten .ensures) (stroked .write-strokes .ensures) (pieced .write-day .ensures)
     (swept .sweep-classes .ensures .0, swept .sweep-classes .ensures .1) (room .1, room .2, room .3, room .4, room .5) _ _ (grouped .groups .ensures)
 
 pub normalize-time-rules-spec : {M : Type 1} → statement M
 normalize-time-rules-spec =
     tie.close
     (tie.spec
-    flatten-requires write-strokes-requires write-pieces-requires sweep-classes-requires same-length same-length-2 same-length-3 same-length-4
+    flatten-requires write-strokes-requires write-day-requires sweep-classes-requires same-length same-length-2 same-length-3 same-length-4
     same-length-5 same-length-6 returns groups-requires same-length-7 same-length-8 same-length-9 same-length-10 same-length-11 same-length-12
     returns-2)
