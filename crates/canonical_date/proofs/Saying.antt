@@ -2,7 +2,7 @@
 use mathlib.Core.Path.{_≡_, sym, ap, ap₂, _∙_}
 use mathlib.Core.List.{List}
 use mathlib.Core.Option.{Option, none, some}
-use mathlib.Core.Bool.{Bool, true, false}
+use mathlib.Core.Bool.{Bool, true, false, _&&_}
 use Prim.Native.Nat.{ℕ, _<_}
 use lib.Dec.{eqb}
 use Rattle.laws.specs.Lists.{onlyIf}
@@ -12,6 +12,7 @@ use Rattle.definition.specs.Field.{Read, got, refused, sheetBits}
 use Rattle.definition.specs.Rule.{weekdayBounds, weekBounds, monthBounds, yearBounds, YearRange, months, WeekRange, fixedDays}
 use Rattle.definition.specs.Sheet.{yearRange, monthdayRange, weekRange, weekDayRange}
 use Rattle.definition.specs.Range.{Ends, split}
+use Rattle.definition.specs.Stop.{everyNth}
 use Rattle.definition.proofs.Bits.{Bytes}
 use Rattle.definition.proofs.Items.{year-faithful, monthday-faithful, week-faithful, weekday-faithful}
 use Rattle.definition.proofs.SheetRead.{carried}
@@ -35,6 +36,11 @@ split-some b x y m n R e p q = ap some (sym (e ∙ ap₂ (λ u v. split b (u, v)
 
 pub only-some : {A : Type 0} (t : Bool) (x : A) (o : Option A) → t ≡ true → some x ≡ o → onlyIf t x ≡ o
 only-some t x o e h = rw e h
+
+-- weekdays as they stand, by the parts that they were read from
+pub each-week : {a b c : ℕ} (x y z : ℕ) {r : Bool} → r ≡ eqb a 0 && (eqb b everyNth && eqb c everyNth) → a ≡ x → b ≡ y → c ≡ z → r ≡ true
+    → eqb x 0 && (eqb y everyNth && eqb z everyNth) ≡ true
+each-week x y z h e f g t = rw (← e, ← f, ← g) (sym h ∙ t)
 
 pub only-none : {A : Type 0} (t : Bool) (x : A) → t ≡ false → onlyIf t x ≡ none
 only-none t x e = rw e

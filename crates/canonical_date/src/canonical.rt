@@ -1,4 +1,5 @@
-// An item of days as ranges, or that it stops its rule. Each kind splits its own item, so that a week is never split as a year.
+// An item of days as ranges, or that it stops its rule. Each kind splits its own item, so that a week is never split as a year. Where eight bytes are
+// left, an item that doesn't stop is read at once; else field by field.
 use bounded::Month;
 use bounded::OrderedWeekday;
 use bounded::Split;
@@ -24,7 +25,7 @@ pub enum Canonical {
 }
 
 // "a step other than 1" stops.
-fn years_at(sheet: &[u8], at: usize) -> Canonical
+fn years_fields(sheet: &[u8], at: usize) -> Canonical
     requires { ⌜ at < 2 ^ 29 ⌝ }
     ensures { λ r. ⌜ itemOf r ≡ told yearSays (yearRange .read (sheetBits (now (sheet .entry))) at) ⌝ }
 {
@@ -39,8 +40,25 @@ fn years_at(sheet: &[u8], at: usize) -> Canonical
     Canonical::Stops
 }
 
+fn years_at(sheet: &[u8], at: usize) -> Canonical
+    requires { ⌜ at < 2 ^ 29 ⌝ }
+    ensures { λ r. ⌜ itemOf r ≡ told yearSays (yearRange .read (sheetBits (now (sheet .entry))) at) ⌝ }
+{
+    if at / 8 + 8 <= sheet.len() {
+        let bits = field::wide_at(sheet, at);
+        if item::wide::lawful_years(bits) {
+            if field::part(bits, 12, 16) == 1 {
+                let first = Year(u64_to_u16(field::part(bits, 42, 14)));
+                let last = Year(u64_to_u16(field::part(bits, 28, 14)));
+                return Canonical::Ranges(Year::split_inverted_range(first, last), at + 44);
+            }
+        }
+    }
+    years_fields(sheet, at)
+}
+
 // "a monthday of tag 1 or 2" stops.
-fn months_at(sheet: &[u8], at: usize) -> Canonical
+fn months_fields(sheet: &[u8], at: usize) -> Canonical
     requires { ⌜ at < 2 ^ 29 ⌝ }
     ensures { λ r. ⌜ itemOf r ≡ told monthSays (monthdayRange .read (sheetBits (now (sheet .entry))) at) ⌝ }
 {
@@ -56,8 +74,23 @@ fn months_at(sheet: &[u8], at: usize) -> Canonical
     }
 }
 
+fn months_at(sheet: &[u8], at: usize) -> Canonical
+    requires { ⌜ at < 2 ^ 29 ⌝ }
+    ensures { λ r. ⌜ itemOf r ≡ told monthSays (monthdayRange .read (sheetBits (now (sheet .entry))) at) ⌝ }
+{
+    if at / 8 + 8 <= sheet.len() {
+        let bits = field::wide_at(sheet, at);
+        if item::wide::lawful_months(bits) {
+            let first = Month(u64_to_u8(field::part(bits, 50, 4)));
+            let last = Month(u64_to_u8(field::part(bits, 46, 4)));
+            return Canonical::Ranges(Month::split_inverted_range(first, last), at + 10);
+        }
+    }
+    months_fields(sheet, at)
+}
+
 // "a step other than 1" stops.
-fn weeks_at(sheet: &[u8], at: usize) -> Canonical
+fn weeks_fields(sheet: &[u8], at: usize) -> Canonical
     requires { ⌜ at < 2 ^ 29 ⌝ }
     ensures { λ r. ⌜ itemOf r ≡ told weekSays (weekRange .read (sheetBits (now (sheet .entry))) at) ⌝ }
 {
@@ -75,8 +108,25 @@ fn weeks_at(sheet: &[u8], at: usize) -> Canonical
     Canonical::Stops
 }
 
+fn weeks_at(sheet: &[u8], at: usize) -> Canonical
+    requires { ⌜ at < 2 ^ 29 ⌝ }
+    ensures { λ r. ⌜ itemOf r ≡ told weekSays (weekRange .read (sheetBits (now (sheet .entry))) at) ⌝ }
+{
+    if at / 8 + 8 <= sheet.len() {
+        let bits = field::wide_at(sheet, at);
+        if item::wide::lawful_weeks(bits) {
+            if field::part(bits, 36, 8) == 1 {
+                let first = WeekNum(u64_to_u8(field::part(bits, 50, 6)));
+                let last = WeekNum(u64_to_u8(field::part(bits, 44, 6)));
+                return Canonical::Ranges(WeekNum::split_inverted_range(first, last), at + 20);
+            }
+        }
+    }
+    weeks_fields(sheet, at)
+}
+
 // "a holiday; a weekday offset other than 0 or any nth bit 0" stops.
-fn weekdays_at(sheet: &[u8], at: usize) -> Canonical
+fn weekdays_fields(sheet: &[u8], at: usize) -> Canonical
     requires { ⌜ at < 2 ^ 29 ⌝ }
     ensures { λ r. ⌜ itemOf r ≡ told weekdaySays (weekDayRange .read (sheetBits (now (sheet .entry))) at) ⌝ }
 {
@@ -94,6 +144,27 @@ fn weekdays_at(sheet: &[u8], at: usize) -> Canonical
         WeekDay::Holiday(kind, offset, next) => Canonical::Stops,
         WeekDay::Refused(code, place) => Canonical::Stops,
     }
+}
+
+fn weekdays_at(sheet: &[u8], at: usize) -> Canonical
+    requires { ⌜ at < 2 ^ 29 ⌝ }
+    ensures { λ r. ⌜ itemOf r ≡ told weekdaySays (weekDayRange .read (sheetBits (now (sheet .entry))) at) ⌝ }
+{
+    if at / 8 + 8 <= sheet.len() {
+        let bits = field::wide_at(sheet, at);
+        if item::wide::lawful_weekdays(bits) {
+            let offset = field::part(bits, 33, 16);
+            if item::day::every_week(offset, field::part(bits, 28, 5), field::part(bits, 23, 5)) {
+                let first = OrderedWeekday(u64_to_u8(field::part(bits, 52, 3)));
+                let last = OrderedWeekday(u64_to_u8(field::part(bits, 49, 3)));
+                return Canonical::Ranges(
+                    OrderedWeekday::split_inverted_range(first, last),
+                    at + 33,
+                );
+            }
+        }
+    }
+    weekdays_fields(sheet, at)
 }
 
 // An item of a sort: 0 years, 1 monthdays, 2 weeks, 3 weekdays.

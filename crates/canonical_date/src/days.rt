@@ -27,34 +27,44 @@ fn ranges_before(sort: usize, place: usize) -> u16
     ((place - sort * 64) / 2) as u16
 }
 
-// The rows from a sort on; their counts stand one behind the other from `head` on.
+// The four rows, the first from `start` on; their counts stand one behind the other from `counts` on, and behind them that of the spans.
 fn rows(
     form: Form,
     sheet: &[u8],
-    head: usize,
-    at: usize,
-    sort: usize,
+    counts: usize,
+    start: usize,
     ranges: &mut [u16],
     range_counts: &mut [u16],
 ) -> Days
-    requires { ⌜ (sort ≤ 4) × (head + (5 - sort) * 16 < 2 ^ 27) × (at + (4 - sort) * 832 < 2 ^ 27) × (256 ≤ length (now ranges)) × (4 ≤ length (now «range_counts»)) ⌝ }
+    requires { ⌜ (counts + 80 < 2 ^ 27) × (start + 3328 < 2 ^ 27) × (256 ≤ length (now ranges)) × (4 ≤ length (now «range_counts»)) ⌝ }
     ensures { λ r. ⌜ loaded (now (ranges .exit)) (now («range_counts» .exit)) (daysOf r)
-        ≡ loadRows (asForm form) (4 - sort) (sheetBits (now (sheet .entry))) head sort at (now (ranges .entry)) (now («range_counts» .entry)) ⌝ }
+        ≡ loadRows (asForm form) 4 (sheetBits (now (sheet .entry))) counts 0 start (now (ranges .entry)) (now («range_counts» .entry)) ⌝ }
 {
-    let count = field::count_at(form, sheet, head);
-    let Taken::Value(items, after) = count else {
-        return Days::Stops;
-    };
-    if sort == 4 {
-        return Days::Spans(items, at);
-    }
-    let row = crate::row::row_at(sheet, at, sort, items, ranges);
-    match row {
-        Row::Ranges(place, next) => {
-            range_counts[sort] = ranges_before(sort, place);
-            rows(form, sheet, after, next, sort + 1, ranges, range_counts)
+    let mut head = counts;
+    let mut at = start;
+    let mut sort: usize = 0;
+    while sort < 4 {
+        let count = field::count_at(form, sheet, head);
+        let Taken::Value(items, after) = count else {
+            return Days::Stops;
+        };
+        let row = crate::row::row_at(sheet, at, sort, items, ranges);
+        match row {
+            Row::Ranges(place, next) => {
+                range_counts[sort] = ranges_before(sort, place);
+                head = after;
+                at = next;
+            }
+            Row::Stops => {
+                return Days::Stops;
+            }
         }
-        Row::Stops => Days::Stops,
+        sort += 1;
+    }
+    let count = field::count_at(form, sheet, head);
+    match count {
+        Taken::Value(spans, after) => Days::Spans(spans, at),
+        Taken::Refused(code, place) => Days::Stops,
     }
 }
 
@@ -76,7 +86,6 @@ pub fn rule_ranges(
         sheet,
         at + title_width(form),
         at + head_width(form),
-        0,
         ranges,
         range_counts,
     )

@@ -47,27 +47,33 @@ fn put_split(ranges: &mut [u16], place: usize, split: Split) -> usize
 // Some items of a sort, one behind the other, up to the first that stops.
 fn items(
     sheet: &[u8],
-    at: usize,
+    start: usize,
     sort: usize,
-    items_left: u64,
+    count: u64,
     ranges: &mut [u16],
-    place: usize,
+    first: usize,
 ) -> Row
-    requires { ⌜ (at + «items_left» * 52 < 2 ^ 29) × (place + «items_left» * 4 ≤ length (now ranges)) ⌝ }
-    ensures { λ r. ⌜ (rowOf r ≡ answered (place + length (flat (itemsRanges sort «items_left» (sheetBits (now (sheet .entry))) at))) (itemsEnd sort «items_left» (sheetBits (now (sheet .entry))) at))
-        × (now (ranges .exit) ≡ sets (now (ranges .entry)) place (flat (itemsRanges sort «items_left» (sheetBits (now (sheet .entry))) at))) ⌝ }
+    requires { ⌜ (start + count * 52 < 2 ^ 29) × (first + count * 4 ≤ length (now ranges)) ⌝ }
+    ensures { λ r. ⌜ (rowOf r ≡ answered (first + length (flat (itemsRanges sort count (sheetBits (now (sheet .entry))) start))) (itemsEnd sort count (sheetBits (now (sheet .entry))) start))
+        × (now (ranges .exit) ≡ sets (now (ranges .entry)) first (flat (itemsRanges sort count (sheetBits (now (sheet .entry))) start))) ⌝ }
 {
-    if items_left == 0 {
-        return Row::Ranges(place, at);
-    }
-    let item = crate::canonical::item_at(sheet, at, sort);
-    match item {
-        Canonical::Ranges(split, next) => {
-            let after = put_split(ranges, place, split);
-            items(sheet, next, sort, items_left - 1, ranges, after)
+    let mut at = start;
+    let mut place = first;
+    let mut left = count;
+    while 0 < left {
+        let item = crate::canonical::item_at(sheet, at, sort);
+        match item {
+            Canonical::Ranges(split, next) => {
+                place = put_split(ranges, place, split);
+                at = next;
+            }
+            Canonical::Stops => {
+                return Row::Stops;
+            }
         }
-        Canonical::Stops => Row::Stops,
+        left -= 1;
     }
+    Row::Ranges(place, at)
 }
 
 // A sort's row, at its place in the table. No items: the whole dimension.

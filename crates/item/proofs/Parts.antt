@@ -3,7 +3,7 @@
 use mathlib.Core.Path.{_≡_, refl, sym, ap, _∙_, subst}
 use mathlib.Core.List.{List}
 use mathlib.Core.Bool.{Bool, true}
-use mathlib.Core.Option.{Option}
+use mathlib.Core.Option.{Option, none}
 use Prim.Native.Nat.{ℕ, _+_, _-_, _/_, _%_, _^_, _≤_, _<_}
 use native.Mathlib.Omega.{arith}
 use borrow.Author.Tests.{le-leb, eq-eqb, ne-eqb, lt-ltb}
@@ -12,7 +12,7 @@ use Rattle.grid.proofs.Cut.{in-holds}
 use Rattle.definition.specs.Field.{Read, got, Layout, lawful, _then_}
 use Rattle.definition.specs.Rule.{monthBounds, weekdayBounds, months, dated, fixedDays, holiday}
 use Rattle.definition.specs.Rule as Rule
-use Rattle.definition.specs.Sheet.{step, yearsOf, yearRange, weeksOf, weekRange, monthdayRange, weekDayRange, time, repeatsLayout, span}
+use Rattle.definition.specs.Sheet.{step, yearsOf, yearRange, weeksOf, weekRange, monthdayRange, weekDayRange, time, repeatsLayout, spanOf, span}
 use Rattle.definition.proofs.Reading.{then-goes, via-goes, tagged-goes}
 use Rattle.field.specs.Wide.{Wide}
 use Rattle.field.proofs.Wide.{wide-within, wide-field}
@@ -77,16 +77,20 @@ module _ {s : List ℕ} {p n : ℕ} (wide : Wide s p 56 n) where
       (wide-field wide 2 16 38 refl _ _ (p + 2) (p + 18) refl (omega arith) refl)))))
 
 -- ## Times
+-- a fixed time within a wide number
+pub wide-minutes : {s : List ℕ} {p w n : ℕ} → Wide s p w n → (before behind at : ℕ) → before + (13 + behind) ≡ w → at ≡ p + before
+    → n / 2 ^ (12 + behind) % 2 ^ 1 ≡ 0 → n / 2 ^ behind % 2 ^ 12 ≤ 2880 → time .read s at ≡ got (Rule.fixed (n / 2 ^ behind % 2 ^ 12)) (at + 13)
+unfolding time
+wide-minutes {s} {p} {w} {n} wide before behind at e f t a =
+    let tag = n / 2 ^ (12 + behind) % 2 ^ 1 in
+    tagged-goes _ _ _ _ _ (wide-field wide before 1 (12 + behind) (omega arith) _ _ at (at + 1) f refl refl)
+    (body _ _ _ _ _ (as-fixed tag (eq-eqb tag 0 t))
+    (sym (via-goes _ _ _ _ _
+    (wide-field wide (before + 1) 12 behind (omega arith) _ _ (at + 1) (at + 13) (omega arith) (omega arith) (le-leb (n / 2 ^ behind % 2 ^ 12) 2880 a)))))
+
 module _ {s : List ℕ} {p n : ℕ} (wide : Wide s p 19 n) where
   pub wide-fixed : n / 2 ^ 18 % 2 ^ 1 ≡ 0 → n / 2 ^ 6 % 2 ^ 12 ≤ 2880 → (t : Rule.Time) × (time .read s p ≡ got t (p + 13))
-  unfolding time
-  wide-fixed t a =
-      let tag = n / 2 ^ 18 % 2 ^ 1 in (
-        Rule.fixed (n / 2 ^ 6 % 2 ^ 12),
-        tagged-goes _ _ _ _ _ (wide-field wide 0 1 18 refl _ _ p (p + 1) (omega arith) refl refl)
-            (body _ _ _ _ _ (as-fixed tag (eq-eqb tag 0 t))
-            (sym (via-goes _ _ _ _ _ (wide-field wide 1 12 6 refl _ _ (p + 1) (p + 13) refl (omega arith) (le-leb (n / 2 ^ 6 % 2 ^ 12) 2880 a))))),
-      )
+  wide-fixed t a = (_, wide-minutes wide 0 6 p refl (omega arith) t a)
 
   pub wide-variable : (n / 2 ^ 18 % 2 ^ 1 ≡ 0 → ⊥) → (t : Rule.Time) × (time .read s p ≡ got t (p + 19))
   unfolding time
@@ -99,7 +103,21 @@ module _ {s : List ℕ} {p n : ℕ} (wide : Wide s p 19 n) where
             (wide-field wide 3 16 0 refl _ _ (p + 3) (p + 19) refl (omega arith) refl))))),
       )
 
--- ## Spans: times of a and b bits, which the numbers x and y begin with
+-- ## Spans
+pub wide-simple : {s : List ℕ} {p n : ℕ} → Wide s p 56 n → n / 2 ^ 55 % 2 ^ 1 ≡ 0 → n / 2 ^ 42 % 2 ^ 1 ≡ 0 → n / 2 ^ 28 % 2 ^ 1 ≡ 0
+    → n / 2 ^ 43 % 2 ^ 12 ≤ 2880 → n / 2 ^ 30 % 2 ^ 12 ≤ 2880
+    → span .read s p ≡ got (spanOf (Rule.fixed (n / 2 ^ 43 % 2 ^ 12), (Rule.fixed (n / 2 ^ 30 % 2 ^ 12), (n / 2 ^ 29 % 2 ^ 1, none)))) (p + 28)
+unfolding span repeatsLayout
+wide-simple {s} {p} {n} wide t u f a b =
+    let flag = n / 2 ^ 28 % 2 ^ 1 in
+    via-goes _ _ _ _ _
+    (then-goes _ _ _ _ (wide-minutes wide 0 43 p refl (omega arith) t a)
+    (then-goes _ _ _ _ (wide-minutes wide 13 30 (p + 13) refl refl u b)
+    (then-goes _ _ _ _ (wide-field wide 26 1 29 refl _ _ (p + 13 + 13) (p + 27) (omega arith) (omega arith) refl)
+    (tagged-goes _ _ _ _ _ (wide-field wide 27 1 28 refl _ _ (p + 27) (p + 28) refl (omega arith) refl)
+    (no-repeats flag s (p + 28) (eq-eqb flag 0 f))))))
+
+-- times of a and b bits, which the numbers x and y begin with
 module _ {s : List ℕ} {p n : ℕ} (wide : Wide s p 56 n) (a b : ℕ) (few : a ≤ 19) (more : b ≤ 19) where
   module _ (x y : ℕ) (e : x ≡ n / 2 ^ 37 % 2 ^ 19) (f : y ≡ n / 2 ^ (37 - a) % 2 ^ 19) (start : BeginsSome 19 x time a) (end : BeginsSome 19 y time b) where
     spans : {q : ℕ} {r : Option ℕ} → repeatsLayout .read s (p + (a + b + 1)) ≡ got r q → (v : Rule.Span) × (span .read s p ≡ got v q)

@@ -2,11 +2,12 @@
 // is told so need not read field by field; where it is not told, it must, since an item that is refused here is refused there with code and place.
 ghost use mathlib.Core.Path.{_≡_};
 ghost use mathlib.Core.Bool.{true};
+ghost use mathlib.Core.Option.{none};
 ghost use Prim.Native.Nat.{_+_, _-_, _/_, _%_, _≤_, _<_, _^_};
 ghost use Rattle.grid.specs.Cut.{holds};
 ghost use Rattle.definition.specs.Field.{lawful, _then_};
-ghost use Rattle.definition.specs.Rule.{months, dated, fixedDays, holiday};
-ghost use Rattle.definition.specs.Sheet.{step, yearsOf, yearRange, weeksOf, weekRange, monthdayRange, weekDayRange, time, span};
+ghost use Rattle.definition.specs.Rule.{months, dated, fixedDays, holiday, fixed};
+ghost use Rattle.definition.specs.Sheet.{step, yearsOf, yearRange, weeksOf, weekRange, monthdayRange, weekDayRange, time, spanOf, span};
 ghost use Rattle.item.specs.Begins.{Begins, BeginsSome};
 
 fn inside(value: u64, lowest: u64, upper: u64) -> bool
@@ -82,6 +83,22 @@ pub fn is_holiday(bits: u64) -> bool
     ensures { λ r. ⌜ (r ≡ true → Begins 56 bits weekDayRange (holiday (bits / 2 ^ 54 % 2 ^ 1) (bits / 2 ^ 38 % 2 ^ 16)) 18) ⌝ }
 {
     field::part(bits, 55, 1) != 0
+}
+
+// A span of two fixed times that does not repeat.
+pub fn simple_span(bits: u64) -> bool
+    ensures { λ r. ⌜ (r ≡ true → Begins 56 bits span (spanOf (fixed (bits / 2 ^ 43 % 2 ^ 12), (fixed (bits / 2 ^ 30 % 2 ^ 12), (bits / 2 ^ 29 % 2 ^ 1, none)))) 28) ⌝ }
+{
+    if field::part(bits, 55, 1) == 0 {
+        if field::part(bits, 42, 1) == 0 {
+            if field::part(bits, 28, 1) == 0 {
+                if field::part(bits, 43, 12) <= 2880 {
+                    return field::part(bits, 30, 12) <= 2880;
+                }
+            }
+        }
+    }
+    false
 }
 
 // How many bits the time takes that 19 bits begin with; 0 for minutes above 2880.

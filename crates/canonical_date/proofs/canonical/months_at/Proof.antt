@@ -1,41 +1,20 @@
--- `canonical_date::canonical::months_at` meets its contract: ends within their bounds, split by their kind.
-use mathlib.Core.Path.{refl, sym, ap, _∙_}
-use native.Mathlib.Omega.{arith}
+-- `canonical_date::canonical::months_at` meets its contract: lawful ends, parts of 56 bits, split by their kind; or field by field.
+use mathlib.Core.Path.{_∙_}
 use borrow.Author.Needs.{needs}
-use Rattle.field.proofs.Bytes.{known-bytes}
-use Rattle.item.specs.Answer.{asMonthday}
 use Rattle.canonical_date.specs.Says.{monthSays}
-use Rattle.canonical_date.proofs.Saying.{said, said-stops, said-refused, split-some, months-low}
+use Rattle.canonical_date.proofs.Saying.{said, split-some}
 use Rattle.canonical_date.proofs.canonical.months_at.Statement.{statement}
 use Rattle.canonical_date.proofs.canonical.months_at.Tie as tie
 
-u64-to-u8-requires : tie.Need-u64-to-u8-requires
-u64-to-u8-requires c κs =
-    let known = c .before .before .before .before in
-    let entry = known .before in
-    let low = months-low (entry .args .sheet .now) (known-bytes (entry .args .sheet .now) (λ j. omega (arith, known .shared-slice-known .given j))) _ _ _ _
-    (sym (c .before .before .before .monthday-range-at .ensures) ∙ ap asMonthday (c .before .read .given .1)) in
-    omega (arith, low .0)
-
-u64-to-u8-requires-2 : tie.Need-u64-to-u8-requires-2
-u64-to-u8-requires-2 c κs =
-    let after-monthday-range-at = c .before .before .before .before in
-    let known = after-monthday-range-at .before in
-    let entry = known .before in
-    let low = months-low (entry .args .sheet .now) (known-bytes (entry .args .sheet .now) (λ j. omega (arith, known .shared-slice-known .given j))) _ _ _ _
-    (sym (after-monthday-range-at .monthday-range-at .ensures) ∙ ap asMonthday (c .before .before .read .given .1)) in
-    omega (arith, low .1)
-
-returns : tie.Need-returns
-returns c =
-    said monthSays _ _ _ _ (sym (c .before .before .before .before .before .before .monthday-range-at .ensures) ∙ ap asMonthday (c .before .before .before .before .read .given .1))
-    (split-some _ _ _ _ _ _ (c .split-inverted-range .ensures) (c .before .before .u64-to-u8 .ensures) (c .before .u64-to-u82 .ensures))
+at-once : tie.Need-returns
+at-once c =
+    let last = c .before in
+    let first = last .before .before in
+    let lawful = first .before .before .before in
+    said monthSays _ _ _ _ (lawful .lawful-months .ensures (first .before .before .if2 .taken) _ _ (lawful .before .wide-at .ensures))
+    (split-some _ _ _ _ _ _ (c .split-inverted-range .ensures) (first .u64-to-u8 .ensures ∙ first .before .part .ensures) (last .u64-to-u82 .ensures ∙ last .before .part2 .ensures))
 
 pub months-at-spec : {M : Type 1} → statement M
 months-at-spec =
     tie.close
-    (tie.spec (λ c κs. search needs) (λ c. search needs) u64-to-u8-requires u64-to-u8-requires-2 (λ c κs. search needs)
-    (λ c. search needs) (λ c. search needs) (λ c. search needs) returns
-    (λ c. said-stops monthSays _ _ _ (sym (c .before .before .before .monthday-range-at .ensures) ∙ ap asMonthday (c .before .read2 .given .1)) refl)
-    (λ c. said-stops monthSays _ _ _ (sym (c .before .before .before .monthday-range-at .ensures) ∙ ap asMonthday (c .before .read3 .given .1)) refl)
-    (λ c. said-refused monthSays _ _ _ (sym (c .before .before .before .monthday-range-at .ensures) ∙ ap asMonthday (c .before .read4 .given .1))))
+    (tie.spec (λ c. search needs) (λ c κs. search needs) (λ c κs. search needs) (λ c κs. search needs) (λ c κs. search needs) (λ c κs. search needs) (λ c κs. search needs) (λ c κs. search needs) (λ c. search needs) at-once (λ c κs. search needs) (λ c. search needs))

@@ -1,48 +1,23 @@
--- `canonical_date::canonical::weeks_at` meets its contract: ends within their bounds, split by their kind.
-use mathlib.Core.Path.{sym, ap, _∙_}
-use native.Mathlib.Omega.{arith}
+-- `canonical_date::canonical::weeks_at` meets its contract: lawful ends, parts of 56 bits, split by their kind; or field by field.
+use mathlib.Core.Path.{sym, _∙_}
 use borrow.Author.Needs.{needs}
-use borrow.Author.Tests.{eq-eqb, ne-eqb}
-use Rattle.definition.specs.Sheet.{weeksOf}
-use Rattle.field.proofs.Bytes.{known-bytes}
-use Rattle.item.specs.Answer.{asStepped}
+use borrow.Author.Tests.{eq-eqb}
 use Rattle.canonical_date.specs.Says.{weekSays}
-use Rattle.canonical_date.proofs.Saying.{said, said-stops, said-refused, split-some, only-some, only-none, weeks-low}
+use Rattle.canonical_date.proofs.Saying.{said, split-some, only-some}
 use Rattle.canonical_date.proofs.canonical.weeks_at.Statement.{statement}
 use Rattle.canonical_date.proofs.canonical.weeks_at.Tie as tie
 
-u64-to-u8-requires : tie.Need-u64-to-u8-requires
-u64-to-u8-requires c κs =
-    let after-week-range-at = c .before .before .before .before in
-    let known = after-week-range-at .before in
-    let entry = known .before in
-    let low = weeks-low (entry .args .sheet .now) (known-bytes (entry .args .sheet .now) (λ j. omega (arith, known .shared-slice-known .given j))) _ _ _
-    (sym (after-week-range-at .week-range-at .ensures) ∙ ap (asStepped weeksOf) (c .before .before .read .given .1)) in
-    omega (arith, low .0)
-
-u64-to-u8-requires-2 : tie.Need-u64-to-u8-requires-2
-u64-to-u8-requires-2 c κs =
-    let after-week-range-at = c .before .before .before .before .before in
-    let known = after-week-range-at .before in
-    let entry = known .before in
-    let low = weeks-low (entry .args .sheet .now) (known-bytes (entry .args .sheet .now) (λ j. omega (arith, known .shared-slice-known .given j))) _ _ _
-    (sym (after-week-range-at .week-range-at .ensures) ∙ ap (asStepped weeksOf) (c .before .before .before .read .given .1)) in
-    omega (arith, low .1)
-
-returns-2 : tie.Need-returns-2
-returns-2 c =
-    let after-read = c .before .before .before .before .before in
-    let after-week-range-at = after-read .before .before in
-    said weekSays _ _ _ _ (sym (after-week-range-at .week-range-at .ensures) ∙ ap (asStepped weeksOf) (after-read .read .given .1))
-    (only-some _ _ _ (eq-eqb _ 1 (c .before .before .before .if1 .taken))
-    (split-some _ _ _ _ _ _ (c .split-inverted-range .ensures) (c .before .before .u64-to-u8 .ensures) (c .before .u64-to-u82 .ensures)))
+at-once : tie.Need-returns
+at-once c =
+    let last = c .before in
+    let first = last .before .before in
+    let step = first .before .before .before in
+    let lawful = step .before .before in
+    said weekSays _ _ _ _ (lawful .lawful-weeks .ensures (step .before .if2 .taken) _ _ (lawful .before .wide-at .ensures))
+    (only-some _ _ _ (eq-eqb _ 1 (sym (step .part .ensures) ∙ first .before .before .if3 .taken))
+    (split-some _ _ _ _ _ _ (c .split-inverted-range .ensures) (first .u64-to-u8 .ensures ∙ first .before .part2 .ensures) (last .u64-to-u82 .ensures ∙ last .before .part3 .ensures)))
 
 pub weeks-at-spec : {M : Type 1} → statement M
 weeks-at-spec =
     tie.close
-    (tie.spec (λ c κs. search needs) (λ c. search needs) (λ c. search needs)
-    (λ c. said-refused weekSays _ _ _ (sym (c .before .before .week-range-at .ensures) ∙ ap (asStepped weeksOf) (c .enum-told .given .1)))
-    u64-to-u8-requires u64-to-u8-requires-2 (λ c κs. search needs) returns-2
-    (λ c.
-    let after-week-range-at = c .before .before .before .before in
-    said-stops weekSays _ _ _ (sym (after-week-range-at .week-range-at .ensures) ∙ ap (asStepped weeksOf) (c .before .before .read .given .1)) (only-none _ _ (ne-eqb _ 1 (c .if1 .left)))))
+    (tie.spec (λ c. search needs) (λ c κs. search needs) (λ c κs. search needs) (λ c κs. search needs) (λ c κs. search needs) (λ c κs. search needs) (λ c κs. search needs) (λ c κs. search needs) (λ c κs. search needs) (λ c. search needs) at-once (λ c κs. search needs) (λ c. search needs))

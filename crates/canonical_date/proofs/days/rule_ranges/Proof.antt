@@ -33,7 +33,6 @@ rule-ranges-spec =
     (λ c κs.
     let entry = c .before .before .before .before .before .before .before in
     let low = entry .pre .1 in (
-      omega arith,
       omega (arith, low .0, c .before .before .before .title-width .ensures .1),
       omega (arith, low .0, c .before .before .head-width .ensures .1),
       low .1,
