@@ -1,8 +1,8 @@
--- THE TWO STORES, as they are made: one of 33 places for up to 16 boxes, 16 lists from before a rule and 17 that it can make, and one of 1,025, which is enough for any: 512 and
--- 513. Every number in them is 0.
+-- THE STORES, as they are made: of twice as many places as there can be boxes and one more, for a list of each from before a rule and for what the rule makes
+-- of each and of the empty list; and one of 1,025, which is enough for any sheet: 512 and 513. Every number in them is 0.
 use mathlib.Core.Path.{_≡_, refl, sym}
 use mathlib.Core.List.{List}
-use Prim.Native.Nat.{ℕ, zero, suc, _-_, _/_, _≤_}
+use Prim.Native.Nat.{ℕ, zero, suc, _+_, _-_, _*_, _/_, _≤_}
 use native.Mathlib.Omega.{arith}
 use lib.ListN.{length, getD, take, replicate, length-replicate}
 use lib.Seq.{length-take-le}
