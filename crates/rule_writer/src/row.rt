@@ -6,7 +6,6 @@ use item_writer::day::put_weekdays;
 use item_writer::day::put_weeks;
 use item_writer::day::put_years;
 use item_writer::time::put_span;
-ghost use mathlib.Core.Path.{_≡_};
 ghost use mathlib.Core.List.{flatMap};
 ghost use Prim.Native.Nat.{_+_, _*_, _≤_};
 ghost use lib.ListN.{length};

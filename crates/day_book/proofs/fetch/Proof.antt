@@ -8,7 +8,7 @@ use lib.Seq.{length-take-le}
 use denote.Ref.{now}
 use borrow.Author.Needs.{needs}
 use Rattle.words.specs.Words.{part}
-use Rattle.tables.specs.Days.{boxWords, wordsOf, numberWords}
+use Rattle.tables.specs.Days.{wordsOf, numberWords}
 use Rattle.day_book.proofs.Keeping.{folded-there, still-held, one-more-held}
 use Rattle.day_book.proofs.fetch.Statement.{statement}
 use Rattle.day_book.proofs.fetch.Tie as tie

@@ -3,7 +3,6 @@
 use mathlib.Core.Path.{_≡_, refl, _∙_}
 use native.Mathlib.Omega.{arith}
 use lib.ListN.{length}
-use borrow.Author.Needs.{needs}
 use Rattle.forms.specs.Form.{asForm}
 use Rattle.day_book.specs.Book.{Open}
 use Rattle.tables.specs.Days.{numberWords}

@@ -1,5 +1,5 @@
 -- `number_lists::short::all_short` meets its contract. The loop's invariant: the lists passed are short.
-use mathlib.Core.Path.{_≡_, sym, _∙_}
+use mathlib.Core.Path.{sym}
 use mathlib.Core.Bool.{true, true≢false}
 use Prim.Native.Nat.{_-_, _≤_}
 use native.Mathlib.Omega.{arith}

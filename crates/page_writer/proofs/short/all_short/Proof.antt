@@ -1,5 +1,5 @@
 -- `page_writer::short::all_short` meets its contract. The loop's invariant: the lists of the pages passed are short.
-use mathlib.Core.Path.{_≡_, sym, ap, _∙_}
+use mathlib.Core.Path.{_≡_, sym, ap}
 use mathlib.Core.Bool.{true≢false}
 use Prim.Native.Nat.{_+_, _-_, _*_, _≤_}
 use native.Mathlib.Omega.{arith}

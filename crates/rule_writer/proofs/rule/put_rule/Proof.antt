@@ -1,8 +1,5 @@
 -- `rule_writer::rule::put_rule` meets its contract: title, counts, rows, spans, one behind the other.
-use mathlib.Core.Path.{refl}
-use native.Mathlib.Omega.{arith}
 use borrow.Author.Needs.{needs}
-use Rattle.tables.specs.Items.{rowPlace}
 use Rattle.item_writer.proofs.Chain.{wrote-then, room-first, room-rest, room-as, wrote-as}
 use Rattle.rule_writer.proofs.Laid.{rule-parts}
 use Rattle.rule_writer.proofs.rule.put_rule.Statement.{statement}
