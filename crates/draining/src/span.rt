@@ -40,7 +40,7 @@ fn open_bit(open_end: u64) -> u64
     if open_end == 1 { 1 } else { 0 }
 }
 
-fn number_at(sheet: &[u8], at: usize) -> NumberRead
+fn number_fields(sheet: &[u8], at: usize) -> NumberRead
     requires { ⌜ at < 2 ^ 29 ⌝ }
     ensures { λ r. ⌜ numberOf r ≡ numberAt (sheetBits (now (sheet .entry))) at ⌝ }
 {
@@ -56,24 +56,49 @@ fn number_at(sheet: &[u8], at: usize) -> NumberRead
     }
 }
 
+// A span without repeats between two fixed times is read at once where eight bytes are left, any other field by field.
+fn number_at(sheet: &[u8], at: usize) -> NumberRead
+    requires { ⌜ at < 2 ^ 29 ⌝ }
+    ensures { λ r. ⌜ numberOf r ≡ numberAt (sheetBits (now (sheet .entry))) at ⌝ }
+{
+    if at / 8 + 8 <= sheet.len() {
+        let bits = field::wide_at(sheet, at);
+        if item::wide::simple_span(bits) {
+            let first = codes::fixed_time(u64_to_u16(field::part(bits, 43, 12)));
+            let last = codes::fixed_time(u64_to_u16(field::part(bits, 30, 12)));
+            let number = codes::span(first, last, open_bit(field::part(bits, 29, 1)), 0);
+            return NumberRead::Span(number, at + 28);
+        }
+    }
+    number_fields(sheet, at)
+}
+
 // The numbers of some spans, one behind the other, up to the first that may reach tomorrow; whether there is one.
 pub fn load_spans(sheet: &[u8], at: usize, spans_left: u64, spans: &mut [u64], place: usize) -> bool
     requires { ⌜ (at + «spans_left» * 52 < 2 ^ 29) × (place + «spans_left» ≤ length (now spans)) ⌝ }
     ensures { λ r. ⌜ (r ≡ spansStop «spans_left» (sheetBits (now (sheet .entry))) at)
         × (now (spans .exit) ≡ sets (now (spans .entry)) place (spanNumbers «spans_left» (sheetBits (now (sheet .entry))) at)) ⌝ }
 {
-    if spans_left == 0 {
-        return false;
-    }
-    let read = number_at(sheet, at);
-    match read {
-        NumberRead::Span(number, next) => {
-            if codes::no_overlap_with_next_day(number) {
-                spans[place] = number;
-                return load_spans(sheet, next, spans_left - 1, spans, place + 1);
+    let mut from = at;
+    let mut index = place;
+    let mut left = spans_left;
+    while 0 < left {
+        let read = number_at(sheet, from);
+        match read {
+            NumberRead::Span(number, next) => {
+                if codes::no_overlap_with_next_day(number) {
+                    spans[index] = number;
+                    from = next;
+                } else {
+                    return true;
+                }
             }
-            true
+            NumberRead::Refused => {
+                return true;
+            }
         }
-        NumberRead::Refused => true,
+        index += 1;
+        left -= 1;
     }
+    false
 }
