@@ -8,6 +8,7 @@ use bounded::WeekNum;
 use bounded::Year;
 use casts::u64_to_u8;
 use casts::u64_to_u16;
+use field::width;
 use item::day::Monthday;
 use item::day::Stepped;
 use item::day::WeekDay;
@@ -47,9 +48,9 @@ fn years_at(sheet: &[u8], at: usize) -> Canonical
     if at / 8 + 8 <= sheet.len() {
         let bits = field::wide_at(sheet, at);
         if item::wide::lawful_years(bits) {
-            if field::part(bits, 12, 16) == 1 {
-                let first = Year(u64_to_u16(field::part(bits, 42, 14)));
-                let last = Year(u64_to_u16(field::part(bits, 28, 14)));
+            if field::part(bits, 12, width::YEAR_STEP) == 1 {
+                let first = Year(u64_to_u16(field::part(bits, 42, width::YEAR)));
+                let last = Year(u64_to_u16(field::part(bits, 28, width::YEAR)));
                 return Canonical::Ranges(Year::split_inverted_range(first, last), at + 44);
             }
         }
@@ -81,8 +82,8 @@ fn months_at(sheet: &[u8], at: usize) -> Canonical
     if at / 8 + 8 <= sheet.len() {
         let bits = field::wide_at(sheet, at);
         if item::wide::lawful_months(bits) {
-            let first = Month(u64_to_u8(field::part(bits, 50, 4)));
-            let last = Month(u64_to_u8(field::part(bits, 46, 4)));
+            let first = Month(u64_to_u8(field::part(bits, 50, width::MONTH)));
+            let last = Month(u64_to_u8(field::part(bits, 46, width::MONTH)));
             return Canonical::Ranges(Month::split_inverted_range(first, last), at + 10);
         }
     }
@@ -115,9 +116,9 @@ fn weeks_at(sheet: &[u8], at: usize) -> Canonical
     if at / 8 + 8 <= sheet.len() {
         let bits = field::wide_at(sheet, at);
         if item::wide::lawful_weeks(bits) {
-            if field::part(bits, 36, 8) == 1 {
-                let first = WeekNum(u64_to_u8(field::part(bits, 50, 6)));
-                let last = WeekNum(u64_to_u8(field::part(bits, 44, 6)));
+            if field::part(bits, 36, width::WEEK_STEP) == 1 {
+                let first = WeekNum(u64_to_u8(field::part(bits, 50, width::WEEK)));
+                let last = WeekNum(u64_to_u8(field::part(bits, 44, width::WEEK)));
                 return Canonical::Ranges(WeekNum::split_inverted_range(first, last), at + 20);
             }
         }
@@ -153,10 +154,14 @@ fn weekdays_at(sheet: &[u8], at: usize) -> Canonical
     if at / 8 + 8 <= sheet.len() {
         let bits = field::wide_at(sheet, at);
         if item::wide::lawful_weekdays(bits) {
-            let offset = field::part(bits, 33, 16);
-            if item::day::every_week(offset, field::part(bits, 28, 5), field::part(bits, 23, 5)) {
-                let first = OrderedWeekday(u64_to_u8(field::part(bits, 52, 3)));
-                let last = OrderedWeekday(u64_to_u8(field::part(bits, 49, 3)));
+            let offset = field::part(bits, 33, width::OFFSET);
+            if item::day::every_week(
+                offset,
+                field::part(bits, 28, width::NTH),
+                field::part(bits, 23, width::NTH),
+            ) {
+                let first = OrderedWeekday(u64_to_u8(field::part(bits, 52, width::WEEKDAY)));
+                let last = OrderedWeekday(u64_to_u8(field::part(bits, 49, width::WEEKDAY)));
                 return Canonical::Ranges(
                     OrderedWeekday::split_inverted_range(first, last),
                     at + 33,

@@ -1,6 +1,7 @@
 // A rule's spans as numbers.
 use casts::u64_to_u8;
 use casts::u64_to_u16;
+use field::width;
 use item::time::SpanRead;
 use item::time::Time;
 ghost use mathlib.Core.Path.{_≡_};
@@ -64,9 +65,9 @@ fn number_at(sheet: &[u8], at: usize) -> NumberRead
     if at / 8 + 8 <= sheet.len() {
         let bits = field::wide_at(sheet, at);
         if item::wide::simple_span(bits) {
-            let first = codes::fixed_time(u64_to_u16(field::part(bits, 43, 12)));
-            let last = codes::fixed_time(u64_to_u16(field::part(bits, 30, 12)));
-            let number = codes::span(first, last, open_bit(field::part(bits, 29, 1)), 0);
+            let first = codes::fixed_time(u64_to_u16(field::part(bits, 43, width::MINUTES)));
+            let last = codes::fixed_time(u64_to_u16(field::part(bits, 30, width::MINUTES)));
+            let number = codes::span(first, last, open_bit(field::part(bits, 29, width::FLAG)), 0);
             return NumberRead::Span(number, at + 28);
         }
     }

@@ -1,6 +1,7 @@
 // A rule's head and its end: operator, kind and comment; the five counts; and the items behind them.
 use crate::end::Step;
 use field::Taken;
+use field::width;
 use forms::Form;
 use forms::item_count_width;
 use forms::title_width;
@@ -136,8 +137,8 @@ fn body_end(
 fn lawful_title(form: Form, bits: u64) -> bool
     ensures { λ r. ⌜ (r ≡ true → BeginsSome 56 bits (title (asForm form) sheetLimits) (titleWidth (asForm form))) ⌝ }
 {
-    if field::part(bits, 54, 2) < 3 {
-        return field::part(bits, 52, 2) < 3;
+    if field::part(bits, 54, width::CHOICE) < 3 {
+        return field::part(bits, 52, width::CHOICE) < 3;
     }
     false
 }
