@@ -1,12 +1,11 @@
 -- The fields within a wide number: each is a part of it, and a field whose test its part passes is read as that part. Rests on the laws of fields
 -- in parts.
-use mathlib.Core.Path.{_≡_, refl, sym, ap, ap₂, _∙_}
+use mathlib.Core.Path.{_≡_, sym, ap, ap₂, _∙_}
 use mathlib.Core.List.{List}
 use mathlib.Core.Bool.{Bool, true}
-use Prim.Native.Nat.{ℕ, _+_, _*_, _-_, _/_, _%_, _^_, _≤_, _<_}
+use Prim.Native.Nat.{ℕ, _+_, _*_, _-_, _/_, _%_, _^_, _≤_}
 use native.Mathlib.Omega.{arith}
 use native.Mathlib.Nat.{add-zero}
-use lib.Dec.{leb}
 use lib.ListN.{length}
 use lib.Pow.{pow-pos, low, shl-shr, shr-shr, mod-pow-add, field as pow-field}
 use borrow.Author.Tests.{le-leb}

@@ -8,11 +8,10 @@ use Prim.Native.Nat.{ℕ, _+_, _-_, _/_, _%_, _^_, _≤_, _<_}
 use native.Mathlib.Omega.{arith}
 use borrow.Author.Tests.{le-leb, eq-eqb, ne-eqb, lt-ltb}
 use Rattle.grid.specs.Cut.{Range, holds}
-use Rattle.grid.proofs.Cut.{in-holds}
-use Rattle.definition.specs.Field.{Read, got, Layout, lawful, _then_}
+use Rattle.definition.specs.Field.{got, Layout, lawful, _then_}
 use Rattle.definition.specs.Rule.{monthBounds, weekdayBounds, months, dated, fixedDays, holiday}
 use Rattle.definition.specs.Rule as Rule
-use Rattle.definition.specs.Sheet.{step, yearsOf, yearRange, weeksOf, weekRange, monthdayRange, weekDayRange, time, repeatsLayout, spanOf, span}
+use Rattle.definition.specs.Sheet.{step, monthdayRange, weekDayRange, time, repeatsLayout, spanOf, span}
 use Rattle.definition.proofs.Reading.{then-goes, via-goes, tagged-goes}
 use Rattle.field.specs.Wide.{Wide}
 use Rattle.field.proofs.Wide.{wide-within, wide-field}

@@ -2,7 +2,7 @@
 use mathlib.Core.Path.{_≡_}
 use mathlib.Core.List.{List}
 use Prim.Native.Nat.{ℕ, _+_}
-use Rattle.definition.specs.Field.{Read, got, Layout}
+use Rattle.definition.specs.Field.{got, Layout}
 use Rattle.field.specs.Wide.{Wide}
 
 -- the w bits of n begin with this value, in m bits

@@ -1,5 +1,5 @@
 -- `draining::span::number_at` meets its contract: the number of a simple span, made of parts of 56 bits; or of any span, field by field.
-use mathlib.Core.Path.{_≡_, ap, _∙_}
+use mathlib.Core.Path.{ap, _∙_}
 use mathlib.Core.Bool.{cond}
 use Prim.Native.Nat.{_/_, _%_, _^_, _<_}
 use native.Mathlib.Omega.{arith}

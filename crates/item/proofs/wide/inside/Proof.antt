@@ -1,5 +1,5 @@
 -- `item::wide::inside` meets its contract.
-use mathlib.Core.Path.{refl, sym}
+use mathlib.Core.Path.{sym}
 use borrow.Author.Tests.{le-leb, lt-leb}
 use Rattle.item.proofs.wide.inside.Statement.{statement}
 use Rattle.item.proofs.wide.inside.Tie as tie

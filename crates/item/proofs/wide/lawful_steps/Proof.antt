@@ -1,5 +1,5 @@
 -- `item::wide::lawful_steps` meets its contract: its three parts are lawful fields, one behind the other.
-use mathlib.Core.Path.{sym, _∙_, subst}
+use mathlib.Core.Path.{subst}
 use mathlib.Core.Bool.{false≢true}
 use Prim.Native.Nat.{_<_}
 use borrow.Author.Needs.{needs}
