@@ -1,24 +1,24 @@
 -- One lemma for each return of `normalize_time_rules`: the words that it wrote are the flat form of the list's day.
 use mathlib.Core.Path.{_≡_, refl, sym, ap, ap₂, _∙_, subst}
-use mathlib.Core.List.{List, [], _∷_, _++_, map}
+use mathlib.Core.List.{List, [], _++_}
 use mathlib.Core.Bool.{Bool, true, false}
-use Prim.Native.Nat.{ℕ, zero, suc, _+_, _*_, _-_, _≤_, _<_}
+use Prim.Native.Nat.{ℕ, zero, suc, _+_, _*_, _≤_, _<_}
 use native.Mathlib.Omega.{arith}
 use lib.Dec.{eqb}
-use lib.ListN.{length, getD, set, length-append, length-map, length-set}
-use lib.Seq.{sets, length-sets, getD-set-same}
+use lib.ListN.{length, getD, length-append}
+use lib.Seq.{sets}
 use Rattle.laws.specs.Lists.{All}
 use Rattle.laws.proofs.Stores.{sets-append}
 use Rattle.definition.specs.Day.{simple, day}
 use Rattle.codes.specs.Number.{closedNumber, spanAt}
 use Rattle.words.specs.Words.{part}
 use Rattle.day_paint.specs.Stroke.{strokesOfRun, strokesFrom, shown}
-use Rattle.day_paint.specs.Piece.{Piece, pieceStart, pieceState, Tiles, DayLaid}
+use Rattle.day_paint.specs.Piece.{Piece, Tiles, DayLaid}
 use Rattle.day_sweep.specs.Row.{timeLimit, classesWords}
 use Rattle.canonical_time.specs.Flatten.{sameStates, statesFrom, spansFrom}
 use Rattle.day_group.specs.Groups.{groupWords}
 use Rattle.day_flat.specs.Day.{flat, listRules}
-use Rattle.words.proofs.Sets.{part-sets, length-part, getD-sets}
+use Rattle.words.proofs.Sets.{part-sets, length-part}
 use Rattle.canonical_time.proofs.FlattenReturns.{length-same, Flattened}
 use Rattle.canonical_time.proofs.MeanPieces.{tiles-small}
 use Rattle.canonical_time.proofs.MeanDay.{day-words}
@@ -57,24 +57,18 @@ strokes-few xs ps i (suc r) = go (simple (spanAt (getD ps i 0))) refl (strokes-f
     go false e ih = rw (e, strokesFrom) (omega (arith, run-few xs ps (getD xs i 0) (i + 1) r))
 
 -- ## Cuts are small
-laid-small : (s : List ℕ) (a : ℕ) (t : List ℕ) → All (λ c. c < 2048) t → a + length t ≤ length s → (k : ℕ) → k < length t → getD (sets s a t) (a + k) 0 < 2048
-laid-small s a [] h l k m = absurd (omega arith)
-laid-small s a (x ∷ t) h l zero m =
-    let e : getD (sets (set s a x) (suc a) t) a 0 ≡ x = getD-sets (set s a x) a (suc a) t (omega arith) ∙ getD-set-same s a x 0 (omega arith) in
-    let z : a + 0 ≡ a = omega arith in rw (z, e) (h .0)
-laid-small s a (x ∷ t) h l (suc k) m =
-    let z : a + suc k ≡ suc a + k = omega arith in rw z (laid-small (set s a x) (suc a) t (h .1) (omega (arith, length-set s a x)) k (omega arith))
+part-small : (s : List ℕ) (a n : ℕ) → All (λ c. c < 2048) (part s a n) → (k : ℕ) → k < n → getD s (a + k) 0 < 2048
+unfolding part
+part-small s a zero h k l = absurd (omega arith)
+part-small s a (suc n) h zero l = let z : a + 0 ≡ a = omega arith in rw z (h .0)
+part-small s a (suc n) h (suc k) l = let z : a + suc k ≡ a + 1 + k = omega arith in rw z (part-small s (a + 1) n (h .1) k (omega arith))
 
-pub cuts-bounded : (f : ℕ → ℕ) (before cuts cells₀ cells : List ℕ) (m : ℕ) → DayLaid f before cuts cells₀ cells m → m < length before
-    → (j : ℕ) → j ≤ m → getD cuts j 0 < timeLimit
-cuts-bounded f before cuts cells₀ cells m day room j l =
-    let P : List Piece = day .tiles in
-    let ws : List ℕ = map pieceStart P ++ 1440 ∷ [] in
-    let size : length ws ≡ suc m = length-append (map pieceStart P) (1440 ∷ []) ∙ omega (arith, length-map P pieceStart, day .counted) in
-    let small = tiles-small f 0 1440 P (omega arith) (day .tile) in
-    let b = laid-small before 0 ws small (omega (arith, size)) j (omega (arith, size)) in
+pub cuts-bounded : (f : ℕ → ℕ) (cuts cells : List ℕ) (m : ℕ) → DayLaid f cuts cells m → (j : ℕ) → j ≤ m → getD cuts j 0 < timeLimit
+cuts-bounded f cuts cells m day j l =
+    let small = tiles-small f 0 1440 (day .tiles) (omega arith) (day .tile) in
+    let b = part-small cuts 0 (suc m) (subst (All (λ c. c < 2048)) (sym (day .starts-read)) small) j (omega arith) in
     let z : 0 + j ≡ j = omega arith in
-    let g : getD cuts j 0 ≡ getD (sets before 0 ws) (0 + j) 0 = ap₂ (λ v i. getD v i 0) (day .starts-laid) (sym z) in omega arith
+    let g : getD cuts (0 + j) 0 ≡ getD cuts j 0 = ap (λ i. getD cuts i 0) z in omega arith
 
 -- where all spans are strokes there is no group
 no-groups : (xs ps : List ℕ) (i r : ℕ) → length (strokesFrom xs ps i r) ≡ r → groupWords xs ps i r ≡ []
@@ -88,12 +82,12 @@ no-groups xs ps i (suc r) h = go (simple (spanAt (getD ps i 0))) refl (no-groups
     go false e ih = absurd (omega (arith, rw (e, strokesFrom) at h, run-few xs ps (getD xs i 0) (i + 1) r))
 
 -- ## The whole
-module _ (states counts spans list xs₀ xs ps₀ ps q₀ q cs₀ cs vs₀ vs out₀ out₁ : List ℕ) (L N k m at : ℕ)
+module _ (states counts spans list xs₀ xs ps₀ ps q₀ q cs vs out₀ out₁ : List ℕ) (L N k m at : ℕ)
     (flat-list : Flattened states counts spans list L xs₀ ps₀ N xs ps)
     (stroked : (q ≡ sets q₀ 0 (strokesFrom xs ps 0 N)) × (k ≡ length (strokesFrom xs ps 0 N)))
-    (pieced : DayLaid (shown closedNumber (part q 0 k)) cs₀ cs vs₀ vs m × (m ≤ 2 * k + 1))
+    (pieced : DayLaid (shown closedNumber (part q 0 k)) cs vs m × (m ≤ 2 * k + 1))
     (swept : (out₁ ≡ sets out₀ 0 (classesWords cs m 1 vs 5)) × (at ≡ length (classesWords cs m 1 vs 5)))
-    (room : (16 * L ≤ length xs₀) × (16 * L ≤ length ps₀) × (32 * L + 2 ≤ length q₀) × (32 * L + 2 ≤ length cs₀) × (32 * L + 2 ≤ length vs₀)) where
+    (room : (16 * L ≤ length xs₀) × (16 * L ≤ length ps₀) × (32 * L + 2 ≤ length q₀) × (32 * L + 2 ≤ length vs)) where
   abbrev D : List ℕ
   D = flat (day (listRules states counts spans list 0 L))
 
@@ -112,15 +106,8 @@ module _ (states counts spans list xs₀ xs ps₀ ps q₀ q cs₀ cs vs₀ vs ou
       let tiled = pieced .0 in
       let P : List Piece = tiled .tiles in
       let tiles : Tiles (shown closedNumber Q) 0 1440 P = subst (λ v. Tiles (shown closedNumber v) 0 1440 P) q-read (tiled .tile) in
-      let W : List ℕ = map pieceStart P ++ 1440 ∷ [] in
-      let mW : suc m ≡ length W = sym (length-append (map pieceStart P) (1440 ∷ []) ∙ omega (arith, length-map P pieceStart, tiled .counted)) in
-      let c-read : part cs 0 (suc m) ≡ W =
-      ap₂ (λ v w. part v 0 w) (tiled .starts-laid) mW ∙ part-sets cs₀ 0 W (omega (arith, mW, few, pieced .1, flat-list .3, room .3)) in
-      let S : List ℕ = map pieceState P in
-      let mS : m ≡ length S = omega (arith, length-map P pieceState, tiled .counted) in
-      let v-read : part vs 0 m ≡ S = ap₂ (λ v w. part v 0 w) (tiled .states-laid) mS ∙ part-sets vs₀ 0 S (omega (arith, mS, few, pieced .1, flat-list .3, room .4)) in
-      let long : m ≤ length vs = omega (arith, ap length (tiled .states-laid), length-sets vs₀ 0 S, few, pieced .1, flat-list .3, room .4) in
-      day-words states counts spans list 0 L xs ps cs vs N m P a b tiles (tiled .counted) long c-read v-read
+      day-words states counts spans list 0 L xs ps cs vs N m P a b tiles (tiled .counted) (omega (arith, few, pieced .1, flat-list .3, room .3))
+      (tiled .starts-read) (tiled .states-read)
 
   laid : (B : List ℕ) → groupWords xs ps 0 N ≡ B → (out₂ : List ℕ) (r : ℕ) → out₂ ≡ sets out₁ at B → r ≡ at + length B → (out₂ ≡ sets out₀ 0 D) × (r ≡ length D)
   laid B e out₂ r l c =

@@ -4,4 +4,6 @@ pub mod Meeting
 pub mod Pieces
 pub mod PieceReturns
 pub mod MeanPiece
+pub mod Tiled
 pub mod Minutes
+pub mod RisingReturns

@@ -37,15 +37,15 @@ shown-last q S m a (suc n) =
     let e : a + 1 + n ≡ a + suc n = omega arith in
     shown-last q (strokeOver (getD q a 0) m S) m (a + 1) n ∙ ap (λ i. strokeOver (getD q i 0) m (shown (strokeOver (getD q a 0) m S) (part q (a + 1) n) m)) e
 
-over-in : (x m S : ℕ) → strokeStart x ≤ m → m < strokeEnd x → strokeOver x m S ≡ strokeState x
+pub over-in : (x m S : ℕ) → strokeStart x ≤ m → m < strokeEnd x → strokeOver x m S ≡ strokeState x
 unfolding strokeOver
 over-in x m S h k = rw (le-leb (strokeStart x) m h, lt-ltb m (strokeEnd x) k)
 
-over-before : (x m S : ℕ) → m < strokeStart x → strokeOver x m S ≡ S
+pub over-before : (x m S : ℕ) → m < strokeStart x → strokeOver x m S ≡ S
 unfolding strokeOver
 over-before x m S h = rw (lt-leb (strokeStart x) m h)
 
-over-after : (x m S : ℕ) → strokeEnd x ≤ m → strokeOver x m S ≡ S
+pub over-after : (x m S : ℕ) → strokeEnd x ≤ m → strokeOver x m S ≡ S
 unfolding strokeOver
 over-after x m S h = go (leb (strokeStart x) m) refl
   where

@@ -1,21 +1,21 @@
 -- Laws of minutes that are painted with numbers: what each holds after a stroke, how often they change, and how they are read as pieces.
 -- Rests on the laws of what strokes show.
 use mathlib.Core.Path.{_≡_, refl, sym, ap, ap₂, _∙_, subst}
-use mathlib.Core.List.{List, [], _∷_, _++_, map, map-append}
+use mathlib.Core.List.{List}
 use mathlib.Core.Bool.{Bool, true, false, _&&_, cond}
-use Prim.Native.Nat.{ℕ, zero, suc, _+_, _*_, _-_, _≤_, _<_}
+use Prim.Native.Nat.{ℕ, zero, suc, _+_, _-_, _≤_, _<_}
 use native.Mathlib.Omega.{arith}
 use lib.Dec.{eqb, leb, ltb}
-use lib.ListN.{length, getD, set, replicate, length-append, length-map}
-use lib.Seq.{sets, getD-set-same, getD-set-other}
+use lib.ListN.{length, getD, set, replicate}
+use lib.Seq.{getD-set-same, getD-set-other}
 use borrow.Author.Tests.{lt-ltb, le-ltb, le-leb, lt-leb, eq-eqb, ne-eqb, ltb-true, ltb-false, leb-true, leb-false, eqb-true, eqb-false}
-use Rattle.laws.proofs.Stores.{sets-append}
 use Rattle.codes.specs.Number.{closedNumber}
 use Rattle.words.specs.Words.{part}
 use Rattle.day_paint.specs.Stroke.{strokeStart, strokeEnd, strokeState, strokeOver, shown}
-use Rattle.day_paint.specs.Piece.{Piece, pieceStart, pieceState, earlier, dayPieces, Tiles, DayLaid}
+use Rattle.day_paint.specs.Piece.{earlier, DayLaid}
 use Rattle.day_paint.specs.Minute.{numberState, filledAt, changes, Painted}
-use Rattle.day_paint.proofs.MeanPiece.{shown-last, tiles-append, tiles-same, pieces-tile}
+use Rattle.day_paint.proofs.MeanPiece.{shown-last}
+use Rattle.day_paint.proofs.Tiled.{TiledTo, tiled-start, tiled-put, tiled-ends}
 
 pub zeros : (n m : ℕ) → getD {A = ℕ} (replicate n 0) m 0 ≡ 0
 zeros zero m = refl
@@ -244,33 +244,13 @@ module _ (strokes minutes starts₀ states₀ : List ℕ) where
 
   -- read up to a minute
   pub record Reading (starts states : List ℕ) (place from : ℕ) : Type 0 where
-    pub tiles : List Piece
-    pub tile : Tiles shownAt 0 from tiles
-    pub starts-laid : starts ≡ sets starts₀ 0 (map pieceStart tiles)
-    pub states-laid : states ≡ sets states₀ 0 (map pieceState tiles)
-    pub counted : place ≡ length tiles
+    pub tiled : TiledTo starts₀ states₀ shownAt starts states place from
     pub upTo : from ≤ 1440
     pub room : from < 1440 → place ≤ changes minutes from
     pub most : place ≤ changes minutes 1439 + 1
 
   pub reading-start : Reading starts₀ states₀ 0 0
-  reading-start = record {
-    tiles = [];
-    tile = refl;
-    starts-laid = refl;
-    states-laid = refl;
-    counted = refl;
-    upTo = omega arith;
-    room = λ h. omega arith;
-    most = omega arith;
-  }
-
-  one-more : (s t : List ℕ) (f : Piece → ℕ) (place : ℕ) (P : List Piece) (p : Piece) (x : ℕ) → s ≡ sets t 0 (map f P) → place ≡ length P → x ≡ f p
-      → set s place x ≡ sets t 0 (map f (P ++ p ∷ []))
-  one-more s t f place P p x e l q =
-      let z : place ≡ 0 + length (map f P) = omega (arith, length-map P f) in
-      ap₂ (λ v k. set v k x) e z ∙ ap (set (sets t 0 (map f P)) (0 + length (map f P))) q ∙ sym (sets-append t 0 (map f P) (f p ∷ []))
-      ∙ ap (sets t 0) (sym (map-append f P (p ∷ [])))
+  reading-start = record { tiled = tiled-start starts₀ states₀ shownAt; upTo = omega arith; room = λ h. omega arith; most = omega arith }
 
   module _ (starts states : List ℕ) (place from : ℕ) (g : Reading starts states place from) where
     pub reading-room : from < 1440 → place ≤ changes minutes 1439
@@ -303,54 +283,16 @@ module _ (strokes minutes starts₀ states₀ : List ℕ) where
       pub reading-on : (starts₁ states₁ : List ℕ) (place₁ at : ℕ) → at ≡ from
           → (starts₁ ≡ set starts place at) × (states₁ ≡ set states place S) × (place₁ ≡ place + 1) → Reading starts₁ states₁ place₁ next
       reading-on starts₁ states₁ place₁ at ea put = record {
-        tiles = g .tiles ++ (from, next, S) ∷ [];
-        tile = tiles-append shownAt 0 from next (g .tiles) ((from, next, S) ∷ []) (g .tile)
-            (refl, omega (arith, run .0), (λ m l u. ap (numberState strokes) (own m l u) ∙ sym es), refl);
-        starts-laid = put .0 ∙ one-more starts starts₀ pieceStart place (g .tiles) (from, next, S) at (g .starts-laid) (g .counted) ea;
-        states-laid = put .1 ∙ one-more states states₀ pieceState place (g .tiles) (from, next, S) S (g .states-laid) (g .counted) refl;
-        counted = omega (arith, put .2, g .counted, length-append (g .tiles) ((from, next, S) ∷ []));
+        tiled = tiled-put starts₀ states₀ shownAt starts states place from (g .tiled) next S (omega (arith, run .0))
+            (λ m l u. ap (numberState strokes) (own m l u) ∙ sym es) starts₁ states₁ place₁ at ea put;
         upTo = run .1;
         room = λ l. omega (arith, put .2, g .room h, changed l);
         most = omega (arith, put .2, reading-room h);
       }
 
-    pub reading-ends : 1440 ≤ from → DayLaid shownAt starts₀ (set starts place 1440) states₀ states place × (place ≤ changes minutes 1439 + 1)
-    reading-ends h =
-        let z : from ≡ 1440 = omega (arith, g .upTo) in
-        let l : place ≡ 0 + length (map pieceStart (g .tiles)) = omega (arith, g .counted, length-map (g .tiles) pieceStart) in (
-          record {
-            tiles = g .tiles;
-            tile = subst (λ k. Tiles shownAt 0 k (g .tiles)) z (g .tile);
-            starts-laid = ap₂ (λ v k. set v k 1440) (g .starts-laid) l ∙ sym (sets-append starts₀ 0 (map pieceStart (g .tiles)) (1440 ∷ []));
-            states-laid = g .states-laid;
-            counted = g .counted;
-          },
-          g .most,
-        )
-
--- the same pieces, for what shows the same on each minute
-pub day-same : (f h : ℕ → ℕ) → ((m : ℕ) → m < 1440 → h m ≡ f m) → (starts₀ starts states₀ states : List ℕ) (r : ℕ) → DayLaid f starts₀ starts states₀ states r
-    → DayLaid h starts₀ starts states₀ states r
-day-same f h e starts₀ starts states₀ states r d = record {
-  tiles = d .tiles;
-  tile = tiles-same f h 0 1440 (d .tiles) (λ m l u. e m u) (d .tile);
-  starts-laid = d .starts-laid;
-  states-laid = d .states-laid;
-  counted = d .counted;
-}
-
--- pieces found from the last stroke back
-pub day-pieces : (strokes : List ℕ) (k : ℕ) (starts₀ starts states₀ states : List ℕ) (r : ℕ)
-    → (starts ≡ sets starts₀ 0 (map pieceStart (dayPieces strokes k) ++ 1440 ∷ [])) × (states ≡ sets states₀ 0 (map pieceState (dayPieces strokes k)))
-    × (r ≡ length (dayPieces strokes k)) × (r ≤ 2 * k + 1)
-    → DayLaid (shown closedNumber (part strokes 0 k)) starts₀ starts states₀ states r × (r ≤ 2 * k + 1)
-day-pieces strokes k starts₀ starts states₀ states r h = (
-  record {
-    tiles = dayPieces strokes k;
-    tile = pieces-tile strokes k 0 1440 (omega arith);
-    starts-laid = h .0;
-    states-laid = h .1;
-    counted = h .2;
-  },
-  h .3,
-)
+    pub reading-ends : 1440 ≤ from → changes minutes 1439 + 2 ≤ length starts₀ → changes minutes 1439 + 1 ≤ length states₀
+        → DayLaid shownAt (set starts place 1440) states place × (place ≤ changes minutes 1439 + 1)
+    reading-ends h r l = (
+      tiled-ends starts₀ states₀ shownAt starts states place from (g .tiled) (omega (arith, g .upTo)) (omega (arith, g .most)) (omega (arith, g .most)),
+      g .most,
+    )

@@ -6,8 +6,8 @@ use mathlib.Core.Bool.{Bool, true, false, cond}
 use Prim.Native.Nat.{ℕ, zero, suc, _≤_, _<_}
 use lib.Dec.{ltb}
 use lib.ListN.{length, getD}
-use lib.Seq.{sets}
 use Rattle.codes.specs.Number.{closedNumber}
+use Rattle.words.specs.Words.{part}
 use Rattle.day_paint.specs.Stroke.{strokeStart, strokeEnd, strokeState}
 
 -- from a minute up to another, excluded, with a state
@@ -65,10 +65,10 @@ abbrev pub Tiles : (ℕ → ℕ) → ℕ → ℕ → List Piece → Type 0
 Tiles f a b [] = a ≡ b
 Tiles f a b (t ∷ L) = (pieceStart t ≡ a) × (a < pieceEnd t) × ((m : ℕ) → a ≤ m → m < pieceEnd t → f m ≡ pieceState t) × Tiles f (pieceEnd t) b L
 
--- pieces that tile a day, laid over what stood there: their starts with the day's end behind them, and their states; r of them
-pub record DayLaid (f : ℕ → ℕ) (starts₀ starts states₀ states : List ℕ) (r : ℕ) : Type 0 where
+-- pieces that tile a day stand in two buffers: their starts with the day's end behind them, and their states; r of them
+pub record DayLaid (f : ℕ → ℕ) (starts states : List ℕ) (r : ℕ) : Type 0 where
   pub tiles : List Piece
   pub tile : Tiles f 0 1440 tiles
-  pub starts-laid : starts ≡ sets starts₀ 0 (map pieceStart tiles ++ 1440 ∷ [])
-  pub states-laid : states ≡ sets states₀ 0 (map pieceState tiles)
+  pub starts-read : part starts 0 (suc r) ≡ map pieceStart tiles ++ 1440 ∷ []
+  pub states-read : part states 0 r ≡ map pieceState tiles
   pub counted : r ≡ length tiles

@@ -1,6 +1,8 @@
-// Which spans of a list paint, as strokes; and the pieces of a day that the strokes show: of few strokes by piece.rt, of many by minute.rt.
+// Which spans of a list paint, as strokes; and the pieces of a day that the strokes show: of strokes that rise by rising.rt, of few others by piece.rt, of
+// many by minute.rt.
 pub mod minute;
 pub mod piece;
+pub mod rising;
 
 use casts::u32_to_u64;
 use codes::end_of;
@@ -8,6 +10,7 @@ use codes::is_simple;
 use codes::start_of;
 use minute::write_painted;
 use piece::write_pieces;
+use rising::write_rising;
 ghost use mathlib.Core.Path.{_≡_};
 ghost use Prim.Native.Nat.{_+_, _*_, _-_, _<_, _≤_};
 ghost use lib.ListN.{length};
@@ -93,10 +96,14 @@ const MANY: usize = 32;
 // Writes the pieces of a day under k strokes, their starts with the day's end behind them, and their states; answers how many there are.
 pub fn write_day(starts: &mut [u64], states: &mut [u64], strokes: &[u64], k: usize) -> usize
     requires { ⌜ (k < 65536) × (k ≤ length (now strokes)) × (2 * k + 2 ≤ length (now starts)) × (2 * k + 1 ≤ length (now states)) ⌝ }
-    ensures { λ r. ⌜ DayLaid (shown closedNumber (part (now (strokes .entry)) 0 k)) (now (starts .entry)) (now (starts .exit)) (now (states .entry)) (now (states .exit)) r
+    ensures { λ r. ⌜ DayLaid (shown closedNumber (part (now (strokes .entry)) 0 k)) (now (starts .exit)) (now (states .exit)) r
         × (r ≤ 2 * k + 1) ⌝ }
 {
     if k < MANY {
+        let m = write_rising(starts, states, strokes, k);
+        if 0 < m {
+            return m;
+        }
         return write_pieces(starts, states, strokes, k);
     }
     write_painted(starts, states, strokes, k)

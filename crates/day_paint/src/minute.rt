@@ -94,8 +94,7 @@ fn run_end(minutes: &[u16], number: u16, i: usize) -> usize
 fn write_minutes(starts: &mut [u64], states: &mut [u64], minutes: &[u16], strokes: &[u64]) -> usize
     requires { ⌜ (1440 ≤ length (now minutes)) × (changes (now minutes) 1439 + 2 ≤ length (now starts)) × (changes (now minutes) 1439 + 1 ≤ length (now states)) ⌝ }
     requires { ⌜ ((m : ℕ) → getD (now minutes) m 0 ≤ length (now strokes)) ⌝ }
-    ensures { λ r. ⌜ DayLaid (λ m. numberState (now (strokes .entry)) (getD (now (minutes .entry)) m 0)) (now (starts .entry)) (now (starts .exit)) (now (states .entry))
-        (now (states .exit)) r × (r ≤ changes (now (minutes .entry)) 1439 + 1) ⌝ }
+    ensures { λ r. ⌜ DayLaid (λ m. numberState (now (strokes .entry)) (getD (now (minutes .entry)) m 0)) (now (starts .exit)) (now (states .exit)) r × (r ≤ changes (now (minutes .entry)) 1439 + 1) ⌝ }
 {
     let mut place: usize = 0;
     let mut from: usize = 0;
@@ -112,7 +111,7 @@ fn write_minutes(starts: &mut [u64], states: &mut [u64], minutes: &[u16], stroke
 // Writes the pieces of a day under k strokes, their starts with the day's end behind them, and their states; answers how many there are.
 pub fn write_painted(starts: &mut [u64], states: &mut [u64], strokes: &[u64], k: usize) -> usize
     requires { ⌜ (k < 65536) × (k ≤ length (now strokes)) × (2 * k + 2 ≤ length (now starts)) × (2 * k + 1 ≤ length (now states)) ⌝ }
-    ensures { λ r. ⌜ DayLaid (shown closedNumber (part (now (strokes .entry)) 0 k)) (now (starts .entry)) (now (starts .exit)) (now (states .entry)) (now (states .exit)) r
+    ensures { λ r. ⌜ DayLaid (shown closedNumber (part (now (strokes .entry)) 0 k)) (now (starts .exit)) (now (states .exit)) r
         × (r ≤ 2 * k + 1) ⌝ }
 {
     let mut minutes = bare_minutes();

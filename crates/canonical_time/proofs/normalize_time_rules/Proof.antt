@@ -41,7 +41,7 @@ sweep-classes-requires c κs =
         omega (arith, few, room, spans, size, pieced .write-day .kept .0),
         omega (arith, few, room, spans, size, pieced .write-day .kept .1 .0),
       ),
-      cuts-bounded _ _ _ _ _ _ (pieced .write-day .ensures .0) (omega (arith, few, room, spans, size)),
+      cuts-bounded _ _ _ _ (pieced .write-day .ensures .0),
     )
 
 same-length : tie.Need-same-length
@@ -70,8 +70,8 @@ returns c =
     let flat = stroked .before .before .before .before .before .before .before .before in
     let entry = flat .before .before .before .before .before .before .before .before .before .before .before .before .before in
     let room = entry .pre .1 in
-    painted-laid _ _ _ _ _ _ _ _ _ _ _ _ _ _ _ _ _ _ _ _ _ (flat .flatten .ensures) (stroked .write-strokes .ensures) (pieced .write-day .ensures)
-    (swept .sweep-classes .ensures .0, swept .sweep-classes .ensures .1) (room .1, room .2, room .3, room .4, room .5) (omega arith)
+    painted-laid _ _ _ _ _ _ _ _ _ _ _ _ _ _ _ _ _ _ _ (flat .flatten .ensures) (stroked .write-strokes .ensures) (pieced .write-day .ensures)
+    (swept .sweep-classes .ensures .0, swept .sweep-classes .ensures .1) (room .1, room .2, room .3, omega (arith, room .5, pieced .write-day .kept .1 .0)) (omega arith)
 
 groups-requires : tie.Need-groups-requires
 groups-requires c κs =
@@ -122,8 +122,8 @@ returns-2 c =
     let flat = stroked .before .before .before .before .before .before .before .before in
     let entry = flat .before .before .before .before .before .before .before .before .before .before .before .before .before in
     let room = entry .pre .1 in
-    grouped-laid _ _ _ _ _ _ _ _ _ _ _ _ _ _ _ _ _ _ _ _ _ (flat .flatten .ensures) (stroked .write-strokes .ensures) (pieced .write-day .ensures)
-    (swept .sweep-classes .ensures .0, swept .sweep-classes .ensures .1) (room .1, room .2, room .3, room .4, room .5) _ _ (grouped .groups .ensures)
+    grouped-laid _ _ _ _ _ _ _ _ _ _ _ _ _ _ _ _ _ _ _ (flat .flatten .ensures) (stroked .write-strokes .ensures) (pieced .write-day .ensures)
+    (swept .sweep-classes .ensures .0, swept .sweep-classes .ensures .1) (room .1, room .2, room .3, omega (arith, room .5, pieced .write-day .kept .1 .0)) _ _ (grouped .groups .ensures)
 
 pub normalize-time-rules-spec : {M : Type 1} → statement M
 normalize-time-rules-spec =

@@ -88,7 +88,10 @@ same-length-2 : tie.Need-same-length-2 Inv-loop μ-loop
 same-length-2 c = c .before .loop .inv .1
 
 returns : tie.Need-returns Inv-loop μ-loop
-returns c = reading-ends _ _ _ _ _ _ _ _ (c .before .loop .inv .2) (omega (arith, c .loop-test .left))
+returns c =
+    let loop = c .before in
+    let pre = loop .before .before .before .before .before .pre .0 in
+    reading-ends _ _ _ _ _ _ _ _ (loop .loop .inv .2) (omega (arith, c .loop-test .left)) (pre .1) (pre .2)
 
 pub write-minutes-spec : {M : Type 1} → statement M
 write-minutes-spec =

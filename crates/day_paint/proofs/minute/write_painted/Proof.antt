@@ -1,7 +1,7 @@
 -- `day_paint::minute::write_painted` meets its contract.
 use mathlib.Core.Path.{sym}
 use native.Mathlib.Omega.{arith}
-use Rattle.day_paint.proofs.Minutes.{day-same}
+use Rattle.day_paint.proofs.Tiled.{day-same}
 use borrow.Author.Needs.{needs}
 use Rattle.day_paint.proofs.minute.write_painted.Statement.{statement}
 use Rattle.day_paint.proofs.minute.write_painted.Tie as tie
@@ -39,7 +39,7 @@ returns c =
     let written = c .before .before .before .before in
     let painted = written .before .before .before .before .before .paint .ensures in
     let day = written .write-minutes .ensures in
-    (day-same _ _ (λ m h. sym (painted .shows m h)) _ _ _ _ _ (day .0), omega (arith, painted .few, day .1))
+    (day-same _ _ (λ m h. sym (painted .shows m h)) _ _ _ (day .0), omega (arith, painted .few, day .1))
 
 pub write-painted-spec : {M : Type 1} → statement M
 write-painted-spec =
