@@ -40,7 +40,7 @@ pub fn normalize_time_rules(
     let n = flatten(span_states, span_codes, states, span_counts, spans, list);
     let k = write_strokes(strokes, span_states, span_codes, n);
     let m = write_day(minute_cuts, interval_states, strokes, k);
-    // From here on the pieces say all that the strokes said, and `strokes` is used again, as a buffer: here it takes the runs of a state.
+    // From here on the pieces say all that the strokes said, and `strokes` is used again, as a buffer: here it takes the chain of the intervals.
     let at = sweep_classes(out, strokes, minute_cuts, interval_states, m);
     // Where every span is a stroke, there is no group.
     if k == n {
