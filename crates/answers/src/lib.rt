@@ -1,4 +1,6 @@
 // What users get: the numbers of a fold, of a lookup, and of an entry that writes a sheet or a line; and what these are on a refusal.
+#![tactic(auto)]
+
 pub mod lent;
 
 ghost use Rattle.std.specs.Prelude.{◌≡◌};
@@ -8,7 +10,7 @@ ghost use Rattle.answers.specs.Numbers.{fold_numbers, looked_up};
 
 // "The fold answers code, drained, emitted (folded rules only), left (rules copied), bytes written, place." And 02: why it stopped, "0 if nothing
 // stopped".
-#[derive(Drop)]
+#[derive(Clone, Copy)]
 pub struct Folded {
     pub code: u64,
     pub drained: u64,
@@ -20,7 +22,7 @@ pub struct Folded {
 }
 
 // The lookup "answers code, kind, comment and the table's place".
-#[derive(Drop)]
+#[derive(Clone, Copy)]
 pub struct Answer {
     pub code: u64,
     pub kind: u64,
@@ -29,7 +31,7 @@ pub struct Answer {
 }
 
 // "Every other entry that writes a sheet or text answers code, bytes written and place".
-#[derive(Drop)]
+#[derive(Clone, Copy)]
 pub struct Written {
     pub code: u8,
     pub bytes: usize,

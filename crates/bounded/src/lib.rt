@@ -3,6 +3,8 @@
 // enums' cases stand for.
 //
 // Ranges are plain numbers of 32 bits, whatever the kind: so every item, lawful or not, has its ranges, and no function here has a `requires`.
+#![tactic(auto)]
+
 ghost use Rattle.std.specs.Prelude.{◌≡◌};
 ghost use Rattle.definition.specs.Rule.{weekday_bounds, week_bounds, month_bounds, year_bounds};
 ghost use Rattle.definition.specs.Range.{split};
@@ -10,21 +12,21 @@ ghost use Rattle.bounded.specs.Strict.{pair_of, strict, list_of, inclusive, ends
 ghost use Rattle.bounded.specs.Kind.{next, prior, weekday_in, week_in, month_in, year_in};
 
 // A range from its start up to its end, excluded.
-#[derive(Drop)]
+#[derive(Clone, Copy)]
 pub struct StrictRange {
     pub start: u32,
     pub end: u32,
 }
 
 // An item's ranges: one, or two where it wraps.
-#[derive(Drop)]
+#[derive(Clone, Copy)]
 pub enum Split {
     One(StrictRange),
     Two(StrictRange, StrictRange),
 }
 
 // A strict range's first and last value; an empty one has none.
-#[derive(Drop)]
+#[derive(Clone, Copy)]
 pub enum Inclusive {
     Nothing,
     Ends(u32, u32),
@@ -73,10 +75,10 @@ pub fn to_range_inclusive(range: StrictRange) -> Inclusive
 }
 
 // Weekdays, Monday 0.
-#[derive(Drop)]
+#[derive(Clone, Copy)]
 pub struct OrderedWeekday(pub u8);
 
-#[derive(Drop)]
+#[derive(Clone, Copy)]
 pub enum WeekdayOption {
     None,
     Some(OrderedWeekday),
@@ -130,10 +132,10 @@ impl OrderedWeekday {
 }
 
 // Weeks of a year.
-#[derive(Drop)]
+#[derive(Clone, Copy)]
 pub struct WeekNum(pub u8);
 
-#[derive(Drop)]
+#[derive(Clone, Copy)]
 pub enum WeekOption {
     None,
     Some(WeekNum),
@@ -187,10 +189,10 @@ impl WeekNum {
 }
 
 // Months, January 1.
-#[derive(Drop)]
+#[derive(Clone, Copy)]
 pub struct Month(pub u8);
 
-#[derive(Drop)]
+#[derive(Clone, Copy)]
 pub enum MonthOption {
     None,
     Some(Month),
@@ -244,10 +246,10 @@ impl Month {
 }
 
 // Years.
-#[derive(Drop)]
+#[derive(Clone, Copy)]
 pub struct Year(pub u16);
 
-#[derive(Drop)]
+#[derive(Clone, Copy)]
 pub enum YearOption {
     None,
     Some(Year),

@@ -1,4 +1,6 @@
 // A box's day as words, and whether they are those of another day.
+#![tactic(auto)]
+
 mod scratch;
 
 ghost use Rattle.std.specs.Prelude.{◌≡◌, ◌≤◌, eqb, length};

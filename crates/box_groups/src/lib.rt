@@ -1,6 +1,8 @@
 // The group of a box, as a list of its boxes: grown dimension after dimension, from the last one up, and emptied. A column is good for a group if the
 // boxes listed so far, moved into it, all have the group's value; its boxes are then appended, so that in the end all boxes of the group are listed.
 // The first box of the group is the first one that has its value: no column before its own is good.
+#![tactic(auto)]
+
 pub mod search;
 
 ghost use Rattle.std.specs.Prelude.{◌≡◌, false, true, ℕ, ◌+◌, ◌*◌, ◌≤◌, ◌<◌, length, get_or, take};

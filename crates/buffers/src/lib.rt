@@ -1,5 +1,7 @@
 // Scratch arrays: for the words of a day and for folding a list, by how long the list is, and for what a fold notes of days and boxes. Each
 // array is made in a function of its own, so that a proof knows its length from the contract and never looks at the array.
+#![tactic(auto)]
+
 ghost use Rattle.std.specs.Prelude.{◌≡◌, length};
 
 // The words of a day of a list of up to 4 rules, and of up to 32: 64 words for each rule, and one.

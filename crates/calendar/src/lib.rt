@@ -1,5 +1,7 @@
 // Gregorian dates from 1900 to 9999: leap years, month lengths, the weekday of 1 January, day of the year, weekday and ISO week. The definition
 // is definition's specs/Date. Numbers that are no date get an answer too: that there is none.
+#![tactic(auto)]
+
 mod new_years;
 
 ghost use Rattle.std.specs.Prelude.{◌≡◌, true, ◌-◌, ◌<◌, ◌≤◌, get_or};
@@ -10,7 +12,7 @@ ghost use Rattle.calendar.specs.Days.{InYear};
 use new_years::NEW_YEARS;
 
 // The point of a date, or that there is no such date.
-#[derive(Drop)]
+#[derive(Clone, Copy)]
 pub enum Dated {
     Point {
         weekday: u8,

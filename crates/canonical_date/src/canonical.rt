@@ -12,7 +12,7 @@ use field::width;
 use item::day::{Monthday, Stepped, WeekDay};
 
 // An item's ranges and the bit after it; or the item stops its rule.
-#[derive(Drop)]
+#[derive(Clone, Copy)]
 pub enum Canonical {
     Ranges(Split, usize),
     Stops,

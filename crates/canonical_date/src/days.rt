@@ -11,7 +11,7 @@ use field::Taken;
 use forms::{Form, head_width, title_width};
 
 // How many spans a rule has and where they begin; or an item of its days stops it.
-#[derive(Drop)]
+#[derive(Clone, Copy)]
 pub enum Days {
     Spans(u64, usize),
     Stops,

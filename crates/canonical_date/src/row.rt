@@ -10,7 +10,7 @@ use crate::canonical::Canonical;
 use bounded::{Split, StrictRange};
 
 // The place after a row's ranges and the bit after its items; or an item stops.
-#[derive(Drop)]
+#[derive(Clone, Copy)]
 pub enum Row {
     Ranges(usize, usize),
     Stops,

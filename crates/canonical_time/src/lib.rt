@@ -1,5 +1,7 @@
 // From a list to a day, ported from canonical_time.rs: the simple spans up to the end of the first group's run paint; all other spans stay in
 // groups.
+#![tactic(auto)]
+
 pub mod flatten;
 
 ghost use Rattle.std.specs.Prelude.{◌≡◌, ◌+◌, ◌*◌, ◌≤◌, length};

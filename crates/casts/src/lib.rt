@@ -1,5 +1,7 @@
 // Numbers taken from one type to another, each in a function of its own: so a caller need not prove that a number fits, and learns from the
 // contract how large it is at most.
+#![tactic(auto)]
+
 ghost use Rattle.std.specs.Prelude.{◌≡◌, ◌<◌};
 
 pub fn u8_to_u16(number: u8) -> u16

@@ -1,4 +1,6 @@
 // Spans and states as numbers: the order of the spans' numbers is 01's order of spans, and a `match` on a state's number decides its class.
+#![tactic(auto)]
+
 pub mod title;
 
 ghost use Rattle.std.specs.Prelude.{◌≡◌, not, ◌+◌, ◌*◌, ◌<◌, ◌/◌, ◌%◌};

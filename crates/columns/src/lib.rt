@@ -1,5 +1,7 @@
 // The first engine, over nested columns: equal lists are kept once in a store, each list's day is folded once, and groups are popped column by column. Its
 // parts are the crates that it uses here; `plain` does the same over boxes alone.
+#![tactic(auto)]
+
 ghost use Rattle.std.specs.Prelude.{List, ◌*◌, ◌≤◌, length};
 ghost use Rattle.definition.specs.Rule.{Rule};
 ghost use Rattle.paving.specs.Grid.{size_of};

@@ -1,5 +1,7 @@
 // The conversion of a checked sheet to the other form (02, M-106): "Stored sheets move to form 2 and back". Mark, counts and comments are written anew,
 // and every other bit is copied.
+#![tactic(auto)]
+
 pub mod rule;
 
 ghost use Rattle.std.specs.Prelude.{◌≡◌, ◌+◌, ◌*◌, ◌≤◌, ◌<◌, ◌^◌, ltb, length};

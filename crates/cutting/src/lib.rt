@@ -1,4 +1,6 @@
 // Each dimension cut at both ends of the drained rules' ranges, and the number of boxes between the cuts.
+#![tactic(auto)]
+
 ghost use Rattle.std.specs.Prelude.{◌≡◌, List, [], ◌*◌, ◌≤◌, ◌<◌, ◌^◌, length};
 ghost use Rattle.definition.specs.Rule.{Rule};
 ghost use Rattle.definition.specs.Point.{dimensions};

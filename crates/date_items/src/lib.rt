@@ -1,6 +1,8 @@
 // Sets of intervals back to items, the writing half of the Rust's `canonical_date.rs`, once for every dimension: the marked columns'
 // intervals, touching ones joined, as first and last values start, end, start, end .. in a lent slice; a full dimension has none.
 // The interval of column x goes from cut x of the dimension's row to the next cut.
+#![tactic(auto)]
+
 ghost use Rattle.std.specs.Prelude.{◌≡◌, map, ◌+◌, ◌-◌, ◌*◌, ◌≤◌, ◌<◌, length, get_or, set};
 ghost use Rattle.std.proofs.lemmas.List.Edits.{sets};
 ghost use Rattle.date_items.specs.Runs.{mark_at, run_end, cut_of, Cuts, runs_from, as_item, items_at};

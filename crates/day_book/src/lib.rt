@@ -1,6 +1,8 @@
 // The book of days: the words of days that were folded, one behind the other, so that a day on many pages is folded once. `notes` has two numbers for each
 // day's number: where its words stand, and how many they are, none where the day isn't in the book. Behind what is filled there is always room for one
 // day more: one that the book can't keep is folded there, and the next one over it.
+#![tactic(auto)]
+
 ghost use Rattle.std.specs.Prelude.{◌-◌, ◌≤◌, ◌<◌};
 ghost use Rattle.tables.specs.Days.{Ready, number_words};
 ghost use Rattle.day_book.specs.Book.{Open, Fetch};
@@ -9,7 +11,7 @@ use box_day::fold_box;
 use casts::u16_to_usize;
 
 // Where a day's words stand, how many they are, and how much of the book is filled.
-#[derive(Drop)]
+#[derive(Clone, Copy)]
 pub struct Fetched {
     pub from: usize,
     pub count: usize,

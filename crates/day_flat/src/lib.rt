@@ -1,5 +1,7 @@
 // Days in their flat form, as words: for each entry its state, how many spans it has, and these. Whether two days are equal, a number that
 // equal ones share, and the class of one.
+#![tactic(auto)]
+
 pub mod class;
 
 ghost use Rattle.std.specs.Prelude.{◌≡◌, ◌≤◌, eqb, length};

@@ -1,5 +1,7 @@
 // Looks for the day of a list among the days of the lists before: where the hash is the same, that list is folded again and the words are
 // compared.
+#![tactic(auto)]
+
 ghost use Rattle.std.specs.Prelude.{◌≡◌, ℕ, suc, ◌≤◌, ◌<◌, length, get_or};
 ghost use Rattle.words.specs.Words.{part};
 ghost use Rattle.tables.specs.Days.{box_words, Ready, number_words};

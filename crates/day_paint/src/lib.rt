@@ -1,5 +1,7 @@
 // Which spans of a list paint, as strokes; and the pieces of a day that the strokes show: of strokes that rise by rising.rt, of few others by piece.rt, of
 // many by minute.rt.
+#![tactic(auto)]
+
 pub mod minute;
 pub mod piece;
 pub mod rising;

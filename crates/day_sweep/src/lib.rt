@@ -1,5 +1,7 @@
 // Writes painted states, class by class: each state once, with all its runs of minutes, after which its intervals are emptied. In chain.rt, the
 // chain by which the intervals of a state are found.
+#![tactic(auto)]
+
 pub mod chain;
 
 ghost use Rattle.std.specs.Prelude.{◌≡◌, ℕ, ◌+◌, ◌*◌, ◌-◌, ◌<◌, ◌≤◌, length, get_or};

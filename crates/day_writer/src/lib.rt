@@ -1,5 +1,7 @@
 // A day's rules over items, measured and written: the first entry Normal, all others Additional. The day stands as words, entry after
 // entry: its state, how many spans, their numbers; the items stand as counts of pairs by sorts and the pairs' ends, as in `rule_writer`.
+#![tactic(auto)]
+
 ghost use Rattle.std.specs.Prelude.{◌≡◌, List, ℕ, ◌*◌, ◌≤◌, ◌<◌, ◌^◌, length, get_or};
 ghost use Rattle.laws.specs.Lists.{any_of};
 ghost use Rattle.definition.specs.Fold.{many_items};
@@ -15,7 +17,7 @@ use rule_size::rule_bits;
 use rule_writer::rule::put_rule;
 
 // How many rules a day makes, how many bits these take, and whether one of them has more items of a sort than the counts of the form can carry.
-#[derive(Drop)]
+#[derive(Clone, Copy)]
 pub struct Measure {
     pub rules: usize,
     pub bits: usize,
@@ -23,7 +25,7 @@ pub struct Measure {
 }
 
 // The first two, of some entries.
-#[derive(Drop)]
+#[derive(Clone, Copy)]
 struct Size {
     rules: usize,
     bits: usize,

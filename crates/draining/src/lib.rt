@@ -1,5 +1,7 @@
 // Draining: "Rules before the first stopper, in order", each with its state, its spans, its ranges and whether it replaces, in tables; and why
 // the first stopper stops. What comes after the draining reads the tables and no sheet.
+#![tactic(auto)]
+
 pub mod rule;
 pub mod span;
 
@@ -13,7 +15,7 @@ ghost use Rattle.draining.specs.Table.{Tabled, rules_from};
 use forms::Form;
 
 // How many rules were drained, and why the next one stopped, 0 where there is none.
-#[derive(Drop)]
+#[derive(Clone, Copy)]
 pub struct Drained {
     pub rules: usize,
     pub why: u64,

@@ -17,7 +17,7 @@ use forms::Form;
 use sheet::rule::TitleRead;
 
 // How many spans a rule has; or an item or a span stops it.
-#[derive(Drop)]
+#[derive(Clone, Copy)]
 pub enum Load {
     Spans(u64),
     Stops,

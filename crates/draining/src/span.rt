@@ -12,7 +12,7 @@ use field::width;
 use item::time::{SpanRead, Time};
 
 // A span's number and the bit after it.
-#[derive(Drop)]
+#[derive(Clone, Copy)]
 pub enum NumberRead {
     Span(u64, usize),
     Refused,

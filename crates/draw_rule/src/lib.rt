@@ -1,5 +1,7 @@
 // A rule drawn over the boxes that its ranges cover: first the columns that each range covers are searched, then the walk over them comes to a box once
 // for each combination of one covering range per dimension.
+#![tactic(auto)]
+
 mod runs;
 mod walk;
 

@@ -12,7 +12,7 @@ use list_store::{Drawn, draw};
 use tables::RANGE_PLACES;
 
 // Nodes side by side: the first, and the one behind the last.
-#[derive(Drop)]
+#[derive(Clone, Copy)]
 struct Run {
     first: usize,
     end: usize,

@@ -1,5 +1,7 @@
 // Draws all rules over the boxes, one after the other, out of the tables of their days: each box then names the list of its points in the store. Stops
 // at the first rule after which a list is too long (6) or there are too many lists (14).
+#![tactic(auto)]
+
 mod settle;
 
 ghost use Rattle.std.specs.Prelude.{List, ◌+◌, ◌*◌, ◌≤◌, ◌<◌, length};
@@ -17,7 +19,7 @@ use list_store::Drawn;
 use settle::settle;
 
 // How many lists the boxes hold, each once; or a refusal: its code, and the rule after which it was met.
-#[derive(Drop)]
+#[derive(Clone, Copy)]
 pub enum Listed {
     Held(usize),
     Refused(u64, u64),

@@ -1,6 +1,8 @@
 // The fields of the packed sheet, read at a bit: one reader, which takes the whole bytes that a field spans, and above it one small function
 // for each field that not every value of its width may stand in. Where eight bytes are left, they are taken as one number of 56 bits: a machine
 // loads them at once, and no item of a sheet has more bits. Positions stay below `2 ^ 32`: the crates above show that no lawful sheet reaches further.
+#![tactic(auto)]
+
 pub mod width;
 
 ghost use Rattle.std.specs.Prelude.{◌≡◌, ◌+◌, ◌*◌, ◌-◌, ◌/◌, ◌%◌, ◌≤◌, ◌<◌, ◌^◌, length};
@@ -16,7 +18,7 @@ use forms::{Form, comment_width, item_count_width, rule_count_width};
 use limits::{items_allowed, rules_allowed};
 
 // A field's value with the bit after it, or a refusal's code and place.
-#[derive(Drop)]
+#[derive(Clone, Copy)]
 pub enum Taken {
     Value(u64, usize),
     Refused(u8, usize),

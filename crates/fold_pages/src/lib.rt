@@ -1,6 +1,8 @@
 // From boxes with lists to pages of the folded rules: numbers the lists' days, gives each box the number of its list's day, pops the groups of
 // boxes that have one day, writes each as a page, and counts the pages. `fold_classed` has twelve parameters: the rules' times are three slices,
 // the cuts of the paving are three, and the language lends no struct of slices.
+#![tactic(auto)]
+
 ghost use Rattle.std.specs.Prelude.{◌≡◌, List, ◌*◌, ◌≤◌, ◌<◌, length, get_or};
 ghost use Rattle.std.proofs.lemmas.List.Edits.{sets};
 ghost use Rattle.definition.specs.Rule.{Rule};

@@ -1,5 +1,7 @@
 // Writes the result: all is measured first, then refused where the form can't count it (13) or the buffer has no room (7), or written: mark and rule count, the rules of the pages,
 // the rules left as their bits stand in the sheet, zero bits to the byte's end.
+#![tactic(auto)]
+
 ghost use Rattle.std.specs.Prelude.{◌≡◌, cond, List, ◌-◌, ◌*◌, ◌≤◌, ◌<◌, ◌^◌, ltb, length, get_or};
 ghost use Rattle.definition.specs.Field.{packed};
 ghost use Rattle.definition.specs.Rule.{Rule};
@@ -21,7 +23,7 @@ use limits::lacks_room;
 use page_writer::{measure_pages, write_pages};
 
 // The rules left, where they stand in the sheet: from a bit up to another, how many they are, and why the first of them stopped the fold.
-#[derive(Drop)]
+#[derive(Clone, Copy)]
 pub struct Left {
     pub start: usize,
     pub end: usize,

@@ -1,7 +1,12 @@
 // foldline: folds the sheet of form 1 on standard input and prints the fold as one line of text: what the cockpit shows. Where the fold or the line
 // is refused, one line says which of the two, the code and the place. A sheet has at most 65,536 bytes, else `too long` is printed.
+#![tactic(auto)]
+
 use answers::{Folded, Written};
-use libc::{STDIN_FILENO, STDOUT_FILENO};
+
+// The standard streams' numbers.
+const STDIN_FILENO: i32 = 0;
+const STDOUT_FILENO: i32 = 1;
 
 fn print_refusal(name: &[u8], code: u64, place: u64) {
     io::write_all(STDOUT_FILENO, name);

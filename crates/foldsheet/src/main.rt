@@ -1,7 +1,12 @@
 // foldsheet: folds the sheet of form 1 on standard input and prints the seven numbers under their names, then the result in upper-case hex, or `-`
 // on a refusal. A sheet has at most 65,536 bytes, else `too long` is printed.
+#![tactic(auto)]
+
 use answers::Folded;
-use libc::{STDIN_FILENO, STDOUT_FILENO};
+
+// The standard streams' numbers.
+const STDIN_FILENO: i32 = 0;
+const STDOUT_FILENO: i32 = 1;
 
 fn print_number(name: &[u8], number: u64) {
     io::write_all(STDOUT_FILENO, name);

@@ -1,17 +1,19 @@
 // The two forms of the packed sheet: which one a caller's number names, what a sheet of it starts with, how wide the fields are whose width it
 // sets, how much its counts can carry, and whether it has room for a comment. The widths of all other fields are constants of crate `field`.
+#![tactic(auto)]
+
 ghost use Rattle.std.specs.Prelude.{◌≡◌, ◌^◌, ◌≤◌, leb};
 ghost use Rattle.definition.specs.Sheet.{opening_width, title_width, head_width, most_rules, most_items};
 ghost use Rattle.definition.specs.Forms.{form_named, other};
 ghost use Rattle.forms.specs.Form.{as_form, as_named};
 
-#[derive(Drop)]
+#[derive(Clone, Copy)]
 pub enum Form {
     One,
     Two,
 }
 
-#[derive(Drop)]
+#[derive(Clone, Copy)]
 pub enum Named {
     Known(Form),
     Unknown,

@@ -171,13 +171,13 @@ module _ {A W : Type 0} (eq : W → W → Bool) {same : A → A → Bool} (Exact
     where
       go : (b : Bool) → ok (f []) ≡ b → OnNone ((p : List A) → inside same [] p ≡ true → ok (f p) ≡ false) (pop eq ok [] f)
       go true e = rw (e, pop) tt
-      go false e = rw (e, pop) (λ p. elim p [ [] ↦ λ i. e | x ∷ q ↦ λ i. absurd (false≢true i) ])
+      go false e = rw (e, pop) (λ p. elim p as (λ q. inside same [] q ≡ true → ok (f q) ≡ false) [ [] ↦ λ i. e | x ∷ q ↦ λ i. absurd (false≢true i) ])
   pop-none (D ∷ Ds) f = go (first_of (λ x. pop eq ok Ds (at f x)) D) (first_of-none (λ x. pop eq ok Ds (at f x)) D) (λ x. pop-none Ds (at f x))
     where
       go : (o : Option (Group A W)) → OnNone ((x : A) → Mem x D → pop eq ok Ds (at f x) ≡ none) o
           → ((x : A) → OnNone ((p : List A) → inside same Ds p ≡ true → ok (f (x ∷ p)) ≡ false) (pop eq ok Ds (at f x)))
           → OnNone ((p : List A) → inside same (D ∷ Ds) p ≡ true → ok (f p) ≡ false) (grow eq D f o)
-      go none h ih = λ p. elim p [
+      go none h ih = λ p. elim p as (λ q. inside same (D ∷ Ds) q ≡ true → ok (f q) ≡ false) [
         | [] ↦ λ i. absurd (false≢true i)
         | x ∷ q ↦ λ i.
             let k = split-and (any_of (same x) D) (inside same Ds q) i in

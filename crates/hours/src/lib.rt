@@ -1,6 +1,8 @@
 // What users touch: the fold of a sheet, by either engine, the state at a date and minute, writing back, the line of a sheet, and its conversion to the other form. None has
 // a `requires`: every form's number, byte string, date and buffer gets an answer. 02, M-106: a number that names no form is refused by 2 with place 0,
 // before all else. Rests on the entries in a form that is known.
+#![tactic(auto)]
+
 pub mod export;
 mod in_form;
 

@@ -9,14 +9,14 @@ ghost use Rattle.item.specs.Answer.{as_stepped, stepped_refused, as_monthday, mo
 use field::{Taken, width};
 
 // Years or weeks: start, end and step.
-#[derive(Drop)]
+#[derive(Clone, Copy)]
 pub enum Stepped {
     Item(u64, u64, u64, usize),
     Refused(u8, usize),
 }
 
 // Months of any year, months of one year, or a caller's reference for a dated range.
-#[derive(Drop)]
+#[derive(Clone, Copy)]
 pub enum Monthday {
     Months(u64, u64, usize),
     MonthsOf(u64, u64, u64, usize),
@@ -25,7 +25,7 @@ pub enum Monthday {
 }
 
 // Weekdays with offset and the two nth sets, or a holiday with its offset.
-#[derive(Drop)]
+#[derive(Clone, Copy)]
 pub enum WeekDay {
     Fixed(u64, u64, u64, u64, u64, usize),
     Holiday(u64, u64, usize),

@@ -7,20 +7,20 @@ ghost use Rattle.item.specs.Answer.{as_time_read, time_refused, as_repeats, as_s
 use field::{Taken, width};
 
 // Minutes, or an event and an offset.
-#[derive(Drop)]
+#[derive(Clone, Copy)]
 pub enum Time {
     Fixed(u64),
     Variable(u64, u64),
 }
 
 // A span's start and end, `open_end` (0 or 1) and repeats: 0 for none, else one more than its minutes.
-#[derive(Drop)]
+#[derive(Clone, Copy)]
 pub enum SpanRead {
     Span(Time, Time, u64, u64, usize),
     Refused(u8, usize),
 }
 
-#[derive(Drop)]
+#[derive(Clone, Copy)]
 pub enum TimeRead {
     Time(Time, usize),
     Refused(u8, usize),

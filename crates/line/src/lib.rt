@@ -1,4 +1,6 @@
 // The line of a checked sheet: its rules as text, one behind the other, measured before anything is written.
+#![tactic(auto)]
+
 ghost use Rattle.std.specs.Prelude.{◌≡◌, ◌≤◌, length};
 ghost use Rattle.definition.specs.Field.{sheet_bits};
 ghost use Rattle.definition.specs.Sheet.{sheet_limits};
@@ -15,7 +17,7 @@ use limits::lacks_room;
 use rule_text::rule::show_rule;
 
 // The place after the line; or the index of the first rule that has no words.
-#[derive(Drop)]
+#[derive(Clone, Copy)]
 pub enum Lined {
     To(usize),
     Wordless(usize),

@@ -1,5 +1,7 @@
 // Room given back: the lists that no box holds any longer go, the others move down to the first places, and the cells name them anew. A memo
 // with an entry for each number that a cell can have says on the way which lists are held, then where each of them is now.
+#![tactic(auto)]
+
 ghost use Rattle.std.specs.Prelude.{◌≡◌, ℕ, ◌+◌, ◌*◌, ◌≤◌, ◌<◌, length, get_or};
 ghost use Rattle.tables.specs.Sizes.{list_limit, list_places};
 ghost use Rattle.tables.specs.Lists.{Store};

@@ -2,6 +2,8 @@
 // place l. What a rule makes of a list is made once: the memo has, for each number that a cell had before the rule, the number of the list that
 // the rule made of it. A number above `before`, as many lists as there were before the rule, is one that this rule made: so a memo of an
 // earlier rule is told from this one's, and a box that the rule has drawn already from one that it hasn't.
+#![tactic(auto)]
+
 ghost use Rattle.std.specs.Prelude.{◌≡◌, cond, [], ◌∷◌, ◌+◌, ◌*◌, ◌≤◌, ◌<◌, ltb, length};
 ghost use Rattle.tables.specs.Sizes.{list_limit, list_places};
 ghost use Rattle.tables.specs.Lists.{named};
@@ -13,7 +15,7 @@ use tables::LIST_PLACES;
 use tables::copy::copy_words;
 
 // How many lists are in use, and whether a list had no room for a rule.
-#[derive(Drop)]
+#[derive(Clone, Copy)]
 pub struct Drawn {
     pub used: usize,
     pub overflowed: bool,

@@ -1,4 +1,6 @@
 // State lookup in a checked sheet: "kind and comment of the last covering span in that point's list, else Closed and 0". Refusals: 8, 11, 5, 6, 14, 9.
+#![tactic(auto)]
+
 pub mod boxes;
 mod point;
 mod rooms;

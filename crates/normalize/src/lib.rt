@@ -1,6 +1,8 @@
 // The fold of a checked sheet, stage after stage: the rules before the first stopper in tables and the dimensions cut at their ranges (11, 5), a
 // list for each box (6, 14), pages of the folded rules, and these written before the rules that are left (13, 7). From normalize/mod.rs. `plain` chooses
 // between two engines for what is done over boxes; no contract mentions it.
+#![tactic(auto)]
+
 pub mod boxes;
 mod columns_engine;
 mod plain_engine;

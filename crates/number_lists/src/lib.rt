@@ -1,6 +1,8 @@
 // Numbers the days of the lists in the store: each list's day has the number of the first list that has it, and the empty day has 0. A list is
 // folded once when it is numbered, and again only to be compared with a later list whose day has the same hash. `words` is room for its day,
 // `other` for the one that it is compared with.
+#![tactic(auto)]
+
 mod short;
 
 ghost use Rattle.std.specs.Prelude.{◌≡◌, suc, ◌<◌, length};
@@ -16,7 +18,7 @@ use day_memory::find_day;
 use short::all_short;
 
 // A list's day: its hash, its number and its class.
-#[derive(Drop)]
+#[derive(Clone, Copy)]
 struct ListDay {
     hash: u16,
     number: usize,

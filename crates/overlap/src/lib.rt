@@ -1,5 +1,7 @@
 // Days typed twice (02, M-101): whether two ranges of one selector share a value, over the ranges that the tables hold. An item that wraps is
 // two ranges there, which share none; so it is enough to ask any two.
+#![tactic(auto)]
+
 ghost use Rattle.std.specs.Prelude.{◌≡◌, cond, List, ◌+◌, ◌*◌, ◌≤◌, ◌<◌, ltb, length};
 ghost use Rattle.laws.specs.Lists.{from, any_of, any_pair};
 ghost use Rattle.definition.specs.Rule.{Rule};

@@ -1,4 +1,6 @@
 // Counts the pages in the buffer, up to the place where they end: the writer of pages must be told how many there are.
+#![tactic(auto)]
+
 ghost use Rattle.std.specs.Prelude.{◌≡◌, ℕ, ◌≤◌, length};
 ghost use Rattle.tables.specs.Pages.{Counted};
 

@@ -1,6 +1,8 @@
 // Measures and writes pages, one after the other: a page's rules are those of its day over its items. A page is a row of numbers: the day's
 // number, four counts of items by sorts, and the items' ends; pages stand one behind the other. A day's number is one more than the number of a
 // list that has the day; its words come from the book of days, or the list is folded again where the book had no room for them.
+#![tactic(auto)]
+
 pub mod short;
 
 ghost use Rattle.std.specs.Prelude.{◌≡◌, ◌*◌, ◌≤◌, ◌<◌, ◌^◌, length};
@@ -21,7 +23,7 @@ use tables::page::page_size;
 
 // How many rules pages stand for, how many bits they take, whether one of them has more items of a sort than the form can count; and how much of the
 // book is filled.
-#[derive(Drop)]
+#[derive(Clone, Copy)]
 pub struct Measured {
     pub rules: usize,
     pub bits: usize,
@@ -30,7 +32,7 @@ pub struct Measured {
 }
 
 // The place behind what was written, and how much of the book is filled.
-#[derive(Drop)]
+#[derive(Clone, Copy)]
 struct Placed {
     place: usize,
     filled: usize,

@@ -3,12 +3,14 @@
 // box_index * width + j, and a box with no dimension left is a cell; the specs call such a box a node.
 // The sizes stand last dimension first, so that `dims_left` counts down to them; the marks of a dimension, one for each interval, stand
 // from `base` on, those of the later dimensions after them.
+#![tactic(auto)]
+
 pub mod class;
 pub mod place;
 pub mod row;
 
 // The value of a popped group; its set is in the marks.
-#[derive(Drop)]
+#[derive(Clone, Copy)]
 pub enum Popped {
     Value(u16),
     Nothing,

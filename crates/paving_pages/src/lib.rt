@@ -1,5 +1,7 @@
 // The groups of a paving, popped class after class and appended as pages: the value, how many items each sort has (years, months, weeks,
 // weekdays), then the items' first and last values in that order.
+#![tactic(auto)]
+
 ghost use Rattle.std.specs.Prelude.{◌≡◌, ◌+◌, ◌*◌, ◌≤◌, length, get_or};
 ghost use Rattle.paving.specs.Grid.{Room, size_of, width_of, chosen};
 ghost use Rattle.paving.specs.Sweep.{swept, emitted, TakenOut};

@@ -11,6 +11,8 @@
 // Each page then is a day's rules over the marked intervals, touching ones joined; the pages are written as rules by what both engines share (`fold_write`).
 //
 // Nothing is kept but what is named here: no columns, and no store. The cost is that of looking at all boxes for each rule and for each group.
+#![tactic(auto)]
+
 ghost use Rattle.std.specs.Prelude.{List, ◌*◌, ◌≤◌, ◌<◌, length};
 ghost use Rattle.definition.specs.Rule.{Rule};
 ghost use Rattle.definition.specs.Sheet.{Form};

@@ -1,5 +1,7 @@
 // Boxes by their numbers: the last dimension, years, counts fastest, so that boxes stand in the order weekday, week, month, year. In each dimension a box
 // has one interval, whose number is a digit of the box's.
+#![tactic(auto)]
+
 ghost use Rattle.std.specs.Prelude.{◌≡◌, ℕ, ◌≤◌, ◌<◌, ◌^◌, length, get_or};
 ghost use Rattle.paving.specs.Grid.{size_of, width_of};
 ghost use Rattle.plain_boxes.specs.Digits.{digit_of};

@@ -3,6 +3,8 @@
 // weeks; then weekdays. Write the list's entries as rules over these sets' maximal runs .. Empty the box; go on."
 // `cells` has the day number of each box, 0 for none. A set has marks, one for each interval of each dimension: those of the weekdays stand first, those of
 // the years last.
+#![tactic(auto)]
+
 mod group;
 
 ghost use Rattle.std.specs.Prelude.{◌≡◌, ◌+◌, ◌*◌, ◌≤◌, length, get_or};

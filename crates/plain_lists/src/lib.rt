@@ -1,5 +1,7 @@
 // A list for each box, in the order of the boxes: how many rules it has, then their numbers. 01: each rule in turn is put at the end of the list of every
 // point that it covers, and alone where it replaces; 6 where a list passes 32 entries after a rule, 14 where there are more than 512 different lists.
+#![tactic(auto)]
+
 mod count;
 pub mod cover;
 
@@ -21,7 +23,7 @@ use paving::place::size_of;
 use tables::LIST_PLACES;
 
 // A list for each box; or a refusal: its code, and the rule after which it was met.
-#[derive(Drop)]
+#[derive(Clone, Copy)]
 pub enum Listed {
     Held,
     Refused(u64, u64),

@@ -1,5 +1,7 @@
 // The state at one point and minute, straight from the tables of the drained rules: each rule that covers the point is put at the end of the point's list, or
 // alone where it replaces. The state goes along with the list, so that no list is kept; and no box is drawn.
+#![tactic(auto)]
+
 pub mod few;
 
 ghost use Rattle.std.specs.Prelude.{◌≡◌, cond, List, [], eqb, get_or};

@@ -1,5 +1,7 @@
 // What the fold and the lookup have in common: the drained rules of a sheet that was read, in tables, judged by 11 and 5, and the rows of their
 // cuts. From here on the tables are read, and no sheet.
+#![tactic(auto)]
+
 ghost use Rattle.std.specs.Prelude.{◌≡◌, List, ◌*◌, ◌≤◌, length};
 ghost use Rattle.definition.specs.Rule.{Rule};
 ghost use Rattle.forms.specs.Form.{as_form};
@@ -11,7 +13,7 @@ use forms::Form;
 use limits::boxes_over;
 
 // The drained rules can be drawn: how many there are, and why the next rule stopped. Or they are refused: code and place.
-#[derive(Drop)]
+#[derive(Clone, Copy)]
 pub enum Judged {
     Fine(usize, u64),
     Refused(u64, u64),

@@ -1,1 +1,2 @@
 // What the definition promises: statements in specs/, theorems in proofs/; nothing runs here.
+#![tactic(auto)]

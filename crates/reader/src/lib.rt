@@ -1,6 +1,8 @@
 // The reader of 01: "a view that holds the lent sheet and a bit position". The functions over it are thin, since a proof over a held
 // slice is a walk by hand; the work is done by `read_at` on a plain slice and numbers, by crate `field`. The check of a sheet begins here:
 // `rule_count` opens the sheet and takes its mark and its rule count.
+#![tactic(auto)]
+
 ghost use Rattle.std.specs.Prelude.{◌≡◌};
 ghost use Rattle.definition.specs.Field.{Layout, sheet_bits};
 ghost use Rattle.definition.specs.Sheet.{sheet_limits, opening};
@@ -12,7 +14,7 @@ use field::Taken;
 use forms::{Form, mark, mark_width};
 use limits::width_over;
 
-#[derive(Drop)]
+#[derive(Clone, Copy)]
 pub struct Reader<'a> {
     pub sheet: &'a [u8],
     pub at: usize,
@@ -20,7 +22,7 @@ pub struct Reader<'a> {
 
 // The definition's reading of a field. `TooLarge` stands where no such answer can be given: the field is wider than the 32 bits that
 // crate `field` reads, or it lies so far into the sheet that no `usize` holds the bit after it.
-#[derive(Drop)]
+#[derive(Clone, Copy)]
 pub enum Reading {
     Field(Taken),
     TooLarge,

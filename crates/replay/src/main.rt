@@ -1,5 +1,7 @@
 // Replays readings, write-backs, lines, conversions, folds and lookups of sheets of both forms (data/, made by oracle/sheets.py), and what another
 // calendar says of dates and of years (made by oracle/dates.py). Prints how many were compared and how many differ.
+#![tactic(auto)]
+
 mod buffer;
 mod date;
 mod fold;
@@ -13,7 +15,7 @@ use crate::written::Entry;
 use libc::STDOUT_FILENO;
 
 // What the records of a file are.
-#[derive(Drop)]
+#[derive(Clone, Copy)]
 enum Sort {
     Reading,
     WriteBack,
@@ -25,14 +27,14 @@ enum Sort {
     Year,
 }
 
-#[derive(Drop)]
+#[derive(Clone, Copy)]
 enum Compared {
     Same,
     Differing,
     NoRecord,
 }
 
-#[derive(Drop)]
+#[derive(Clone, Copy)]
 struct Tally {
     compared: usize,
     differing: usize,

@@ -5,7 +5,7 @@ use crate::buffer;
 use crate::record::number;
 use answers::Written;
 
-#[derive(Drop)]
+#[derive(Clone, Copy)]
 pub enum Entry {
     WriteBack,
     Line,

@@ -1,4 +1,6 @@
 // How many bits items, rows, spans and a whole rule take, before anything is written: the lengths of what `rule_writer` writes.
+#![tactic(auto)]
+
 ghost use Rattle.std.specs.Prelude.{◌≡◌, ℕ, ◌+◌, ◌*◌, ◌≤◌, ◌<◌, ◌^◌, length, get_or};
 ghost use mathlib.Core.List.{List, flat_map};
 ghost use Rattle.definition.specs.Field.{Layout};

@@ -17,7 +17,7 @@ use item_text::state::{put_before, put_state};
 use sheet::rule::{CountsRead, TitleRead};
 
 // The place after a rule's text; and whether the rule has no words.
-#[derive(Drop)]
+#[derive(Clone, Copy)]
 pub struct Told {
     pub to: usize,
     pub wordless: bool,

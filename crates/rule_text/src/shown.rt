@@ -14,7 +14,7 @@ use item_text::day::put_item;
 use item_text::time::put_span;
 
 // The bit after what was read, the place after its text, and whether some of it has no words.
-#[derive(Drop)]
+#[derive(Clone, Copy)]
 pub struct Shown {
     pub at: usize,
     pub to: usize,

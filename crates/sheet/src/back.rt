@@ -24,7 +24,8 @@ fn copy_back(sheet: &[u8], out: &mut [u8]) -> Written
             place: sheet.len(),
         };
     }
-    let written = bytes::copy(sheet, out);
+    let written = sheet.len();
+    out[..written].copy_from_slice(sheet);
     Written {
         code: 0,
         bytes: written,

@@ -11,7 +11,7 @@ use field::Taken;
 use forms::Form;
 
 // How many rules and the bit after them, or a refusal's code and place.
-#[derive(Drop)]
+#[derive(Clone, Copy)]
 pub enum Checked {
     Rules(usize, usize),
     Refused(u8, usize),

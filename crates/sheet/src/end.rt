@@ -9,7 +9,7 @@ use item::day::{Monthday, Stepped, WeekDay};
 use item::time::SpanRead;
 
 // The bit after what was read, or a refusal's code and place.
-#[derive(Drop)]
+#[derive(Clone, Copy)]
 pub enum Step {
     At(usize),
     Refused(u8, usize),

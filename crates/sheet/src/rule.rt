@@ -14,14 +14,14 @@ use forms::{Form, item_count_width, title_width};
 use limits::items_allowed;
 
 // Operator, kind and comment.
-#[derive(Drop)]
+#[derive(Clone, Copy)]
 pub enum TitleRead {
     Title(u64, u64, u64, usize),
     Refused(u8, usize),
 }
 
 // How many years, monthdays, weeks, weekdays and spans.
-#[derive(Drop)]
+#[derive(Clone, Copy)]
 pub enum CountsRead {
     Counts(u64, u64, u64, u64, u64, usize),
     Refused(u8, usize),

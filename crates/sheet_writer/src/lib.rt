@@ -1,4 +1,6 @@
 // A whole sheet's frame: the mark and the rule count in front of the rules, and behind them rules that are copied and zero bits to the byte's end.
+#![tactic(auto)]
+
 ghost use Rattle.std.specs.Prelude.{◌≡◌, ◌++◌, ◌+◌, ◌*◌, ◌-◌, ◌≤◌, ◌<◌, ◌^◌, length};
 ghost use Rattle.std.proofs.lemmas.List.Edits.{sets};
 ghost use Rattle.definition.specs.Field.{Layout, bytes_for, sheet_bits};

@@ -1,4 +1,6 @@
 // The state at a point and minute: the box that holds the point, and the last span of the box's list that covers the minute.
+#![tactic(auto)]
+
 pub mod answer;
 pub mod boxes;
 pub mod list;
@@ -17,14 +19,14 @@ use casts::u16_to_usize;
 use list::{CLOSED, list_state};
 
 // A state by its number, or that a span which is not simple leaves it unsettled.
-#[derive(Drop)]
+#[derive(Clone, Copy)]
 pub enum StateFound {
     State(u32),
     Unsettled,
 }
 
 // A point in numbers, and a minute of its days.
-#[derive(Drop)]
+#[derive(Clone, Copy)]
 pub struct Moment {
     pub weekday: u8,
     pub week: u8,

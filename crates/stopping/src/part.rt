@@ -9,7 +9,7 @@ use item::day::{Monthday, Stepped, WeekDay};
 use item::time::{SpanRead, Time};
 
 // The number of what stops, 0 for nothing, and the bit after what was read.
-#[derive(Drop)]
+#[derive(Clone, Copy)]
 pub struct Reasoned {
     pub reason: u64,
     pub at: usize,

@@ -1,6 +1,8 @@
 // The tables that one stage of a fold leaves for the next: how many numbers a row of each has, the
 // search among rising numbers, and the size of a page. What each table holds is
 // said in specs/: the drained rules, the cuts, the boxes' lists, the days and the pages.
+#![tactic(auto)]
+
 pub mod cells;
 pub mod copy;
 pub mod page;

@@ -1,5 +1,7 @@
 // Pieces of text put into a buffer one behind the other: bytes, words, numbers. Each answers the place behind it. What has no room is not
 // stored and the place goes on all the same, so a text is measured by putting it into a buffer that is too short for it.
+#![tactic(auto)]
+
 ghost use Rattle.std.specs.Prelude.{◌≡◌, [], ◌∷◌, ◌+◌, ◌*◌, ◌≤◌, ◌<◌, ◌^◌, length, take, drop};
 ghost use Rattle.definition.specs.Text.{digits, decimal};
 ghost use Rattle.text.specs.Put.{Put, Within};

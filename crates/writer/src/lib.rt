@@ -1,5 +1,7 @@
 // Bits written into a lent buffer: a field, bits copied from a sheet to any offset. What a buffer then holds is said of its
 // bits: `sets` stores a row of them from a place on, and every other bit stays.
+#![tactic(auto)]
+
 ghost use Rattle.std.specs.Prelude.{◌≡◌, ◌+◌, ◌*◌, ◌-◌, ◌%◌, ◌≤◌, ◌<◌, ◌^◌, length, take, drop};
 ghost use Rattle.std.proofs.lemmas.List.Edits.{sets};
 ghost use Rattle.definition.specs.Field.{bits, sheet_bits};
