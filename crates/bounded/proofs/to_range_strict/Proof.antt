@@ -4,5 +4,5 @@ use borrow.Author.Rules.{rules}
 use Rattle.bounded.proofs.to_range_strict.Statement.{statement}
 use Rattle.bounded.proofs.to_range_strict.Tie as tie
 
-pub to-range-strict-spec : {M : Type 1} → statement M
-to-range-strict-spec = tie.close (tie.spec (λ c. search rules) (λ c. simp add-one))
+pub to_range_strict_spec : {M : Type 1} → statement M
+to_range_strict_spec = tie.close (tie.spec (λ c. search rules) (λ c. simp add-one))

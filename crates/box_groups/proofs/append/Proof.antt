@@ -10,61 +10,61 @@ use Rattle.box_groups.proofs.Listed.{up-length, up_first, up-low, up-now, list-m
 use Rattle.box_groups.proofs.append.Statement.{statement}
 use Rattle.box_groups.proofs.append.Tie as tie
 
-abbrev invariant-loop : tie.invariant-loop
+abbrev invariant-loop : tie.invariant-loop-place
 invariant-loop boxes₀ count at shift place₀ boxes place =
     (place ≤ count) × (length boxes ≡ length boxes₀) × (take count boxes ≡ take count boxes₀)
     × (sets boxes (at + place) (drop place (up shift (take count boxes₀))) ≡ sets boxes₀ at (up shift (take count boxes₀)))
 
-abbrev decreases-loop : tie.decreases-loop
+abbrev decreases-loop : tie.decreases-loop-place
 decreases-loop boxes₀ count at shift place₀ boxes place = count - place
 
-loop-holds : tie.Need-loop-init invariant-loop decreases-loop
+loop-holds : tie.Need-loop-place-init invariant-loop decreases-loop
 loop-holds c =
     let a = c.before.args in
     let z : a.at + 0 ≡ a.at = omega arith in
     (omega arith, refl, refl, ap (λ j. sets a.boxes.now j (up a.shift (take a.count a.boxes.now))) z)
 
-add-number : tie.Need-overflow-add-number invariant-loop decreases-loop
+add-number : tie.Need-overflow_add-number invariant-loop decreases-loop
 add-number c =
     let loop = c.before.before.before in
     let entry = loop.before.before in
     let a = entry.args in
-    let k = loop.loop.place in
+    let k = loop.loop-place.place in
     let h : a.count ≤ length a.boxes.now = omega (arith, entry.requires.0, entry.requires.1) in
     omega (
       arith,
       up-low a.boxes.now a.count a.shift h 65536 k entry.requires.2 (omega arith),
-      up-now a.boxes.now a.count a.shift h loop.loop.boxes k _ loop.loop.invariant.2 (omega arith) c.u16-to-usize.ensures.0,
+      up-now a.boxes.now a.count a.shift h loop.loop-place.boxes k _ loop.loop-place.invariant.2 (omega arith) c.u16_to_usize.ensures.0,
       up_first a.boxes.now a.count a.shift h k (omega arith),
     )
 
-cast-boxes : tie.Need-overflow-cast-boxes invariant-loop decreases-loop
+cast-boxes : tie.Need-overflow_cast-boxes invariant-loop decreases-loop
 cast-boxes c =
     let loop = c.before.before.before in
     let entry = loop.before.before in
     let a = entry.args in
-    let k = loop.loop.place in
+    let k = loop.loop-place.place in
     let h : a.count ≤ length a.boxes.now = omega (arith, entry.requires.0, entry.requires.1) in
     omega (
       arith,
       up-low a.boxes.now a.count a.shift h 65536 k entry.requires.2 (omega arith),
-      up-now a.boxes.now a.count a.shift h loop.loop.boxes k _ loop.loop.invariant.2 (omega arith) c.u16-to-usize.ensures.0,
+      up-now a.boxes.now a.count a.shift h loop.loop-place.boxes k _ loop.loop-place.invariant.2 (omega arith) c.u16_to_usize.ensures.0,
       up_first a.boxes.now a.count a.shift h k (omega arith),
     )
 
-loop-again : tie.Need-loop-preserved invariant-loop decreases-loop
+loop-again : tie.Need-loop-place-preserved invariant-loop decreases-loop
 loop-again c =
     let loop = c.before.before.before in
     let entry = loop.before.before in
     let a = entry.args in
-    let i = loop.loop.invariant in
-    let k = loop.loop.place in
+    let i = loop.loop-place.invariant in
+    let k = loop.loop-place.place in
     let h : a.count ≤ length a.boxes.now = omega (arith, entry.requires.0, entry.requires.1) in
-    let next = up-now a.boxes.now a.count a.shift h loop.loop.boxes k _ i.2 (omega arith) c.u16-to-usize.ensures.0 in (
+    let next = up-now a.boxes.now a.count a.shift h loop.loop-place.boxes k _ i.2 (omega arith) c.u16_to_usize.ensures.0 in (
       omega arith,
       simp length-set i.1,
-      take-set-le a.count loop.loop.boxes (a.at + k) _ (omega (arith, entry.requires.0)) ∙ i.2,
-      list-more loop.loop.boxes (up a.shift (take a.count a.boxes.now)) a.at k _ (omega (arith, up-length a.boxes.now a.count a.shift h))
+      take-set-le a.count loop.loop-place.boxes (a.at + k) _ (omega (arith, entry.requires.0)) ∙ i.2,
+      list-more loop.loop-place.boxes (up a.shift (take a.count a.boxes.now)) a.at k _ (omega (arith, up-length a.boxes.now a.count a.shift h))
           next ∙ i.3,
     )
 
@@ -74,11 +74,11 @@ returns c =
     let entry = loop.before.before in
     let a = entry.args in
     let h : a.count ≤ length a.boxes.now = omega (arith, entry.requires.0, entry.requires.1) in
-    list-end loop.loop.boxes (up a.shift (take a.count a.boxes.now)) a.at loop.loop.place
-    (omega (arith, up-length a.boxes.now a.count a.shift h)) ∙ loop.loop.invariant.3
+    list-end loop.loop-place.boxes (up a.shift (take a.count a.boxes.now)) a.at loop.loop-place.place
+    (omega (arith, up-length a.boxes.now a.count a.shift h)) ∙ loop.loop-place.invariant.3
 
-pub append-spec : {M : Type 1} → statement M
-append-spec =
+pub append_spec : {M : Type 1} → statement M
+append_spec =
     tie.close
     (tie.spec invariant-loop decreases-loop loop-holds (λ c. search rules)
     (λ c. omega (arith, c.before.before.loop.invariant.1, c.before.before.before.before.requires.0, c.before.before.before.before.requires.1))

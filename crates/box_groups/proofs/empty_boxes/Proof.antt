@@ -9,42 +9,42 @@ use Rattle.box_groups.proofs.Listed.{first-low, emptied-none, emptied-more}
 use Rattle.box_groups.proofs.empty_boxes.Statement.{statement}
 use Rattle.box_groups.proofs.empty_boxes.Tie as tie
 
-abbrev invariant-loop : tie.invariant-loop
+abbrev invariant-loop : tie.invariant-loop-place
 invariant-loop cells₀ boxes count place₀ cells place =
     (place ≤ count) × (length cells ≡ length cells₀) × ((q : ℕ) → get_or cells q 0 ≡ emptied_at cells₀ (take place boxes) q)
 
-abbrev decreases-loop : tie.decreases-loop
+abbrev decreases-loop : tie.decreases-loop-place
 decreases-loop cells₀ boxes count place₀ cells place = count - place
 
-slice-write-cells : tie.Need-slice-write-cells invariant-loop decreases-loop
+slice-write-cells : tie.Need-bounds-cells-u16_to_usize invariant-loop decreases-loop
 slice-write-cells c =
     let loop = c.before.before.before in
     let entry = loop.before.before.before in
     let a = entry.args in
-    omega (arith, first-low a.boxes.now a.count entry.requires.0 _ loop.loop.place entry.requires.1 (omega arith), c.u16-to-usize.ensures.0, loop.loop.invariant.1)
+    omega (arith, first-low a.boxes.now a.count entry.requires.0 _ loop.loop-place.place entry.requires.1 (omega arith), c.u16_to_usize.ensures.0, loop.loop-place.invariant.1)
 
-loop-again : tie.Need-loop-preserved invariant-loop decreases-loop
+loop-again : tie.Need-loop-place-preserved invariant-loop decreases-loop
 loop-again c =
     let loop = c.before.before.before in
     let entry = loop.before.before.before in
     let a = entry.args in
-    let low = first-low a.boxes.now a.count entry.requires.0 _ loop.loop.place entry.requires.1 (omega arith) in (
+    let low = first-low a.boxes.now a.count entry.requires.0 _ loop.loop-place.place entry.requires.1 (omega arith) in (
       omega arith,
-      simp length-set loop.loop.invariant.1,
-      rw c.u16-to-usize.ensures.0
-          (emptied-more a.cells.now loop.loop.cells a.boxes.now loop.loop.place (omega (arith, entry.requires.0)) (omega (arith, low, loop.loop.invariant.1))
-          loop.loop.invariant.2),
+      simp length-set loop.loop-place.invariant.1,
+      rw c.u16_to_usize.ensures.0
+          (emptied-more a.cells.now loop.loop-place.cells a.boxes.now loop.loop-place.place (omega (arith, entry.requires.0)) (omega (arith, low, loop.loop-place.invariant.1))
+          loop.loop-place.invariant.2),
     )
 
 returns : tie.Need-returns invariant-loop decreases-loop
 returns c =
     let loop = c.before in
     let a = loop.before.before.before.args in
-    let all : loop.loop.place ≡ a.count = omega arith in
-    λ q. loop.loop.invariant.2 q ∙ ap (λ n. emptied_at a.cells.now (take n a.boxes.now) q) all
+    let all : loop.loop-place.place ≡ a.count = omega arith in
+    λ q. loop.loop-place.invariant.2 q ∙ ap (λ n. emptied_at a.cells.now (take n a.boxes.now) q) all
 
-pub empty-boxes-spec : {M : Type 1} → statement M
-empty-boxes-spec =
+pub empty_boxes_spec : {M : Type 1} → statement M
+empty_boxes_spec =
     tie.close
     (tie.spec invariant-loop decreases-loop (λ c. (omega arith, refl, emptied-none _ c.before.before.args.boxes.now)) (λ c. search rules) (λ c. omega (arith, c.before.before.before.before.before.requires.0)) (λ c κs. search rules) (λ c. search rules)
     slice-write-cells (λ c. omega arith) (λ c. omega arith) loop-again (λ c. c.before.loop.invariant.1) returns)

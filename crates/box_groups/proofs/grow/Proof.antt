@@ -7,21 +7,21 @@ use Rattle.box_groups.proofs.Growing.{GrownTo, grown-begin, grown-next, grown-en
 use Rattle.box_groups.proofs.grow.Statement.{statement}
 use Rattle.box_groups.proofs.grow.Tie as tie
 
-abbrev invariant-loop : tie.invariant-loop
+abbrev invariant-loop : tie.invariant-loop-column
 invariant-loop cells marks₁ boxes₀ count value base width own step listed₀ shift₀ column₀ marks boxes listed shift column =
     GrownTo cells marks₁ boxes₀ count value base width own step marks boxes listed shift column
 
-abbrev decreases-loop : tie.decreases-loop
+abbrev decreases-loop : tie.decreases-loop-column
 decreases-loop cells marks₁ boxes₀ count value base width own step listed₀ shift₀ column₀ marks boxes listed shift column = width - column
 
-grow-column-requires : tie.Need-grow-column-requires invariant-loop decreases-loop
+grow-column-requires : tie.Need-grow_column-listed-requires invariant-loop decreases-loop
 grow-column-requires c κs =
     let turn = c.before.before in
     let loop = turn.before in
     let entry = loop.before.before.before.before.before.before.before.before in
     let pre = entry.requires in
-    let to = loop.loop.invariant in
-    let lt = turn.loop-test.true in (
+    let to = loop.loop-column.invariant in
+    let lt = turn.loop-column-test.true in (
       to.more,
       column-room _ _ _ _ _ _ _ _ _ pre.0 pre.1 _ _ _ _ _ _ to lt,
       omega (arith, pre.1.marked, lt, simp length-set at to.places, loop.before.before.before.unmark.auto.0),
@@ -29,21 +29,21 @@ grow-column-requires c κs =
       column-there _ _ _ _ _ _ _ _ _ pre.0 pre.1 _ _ _ _ _ _ to lt,
     )
 
-loop-again : tie.Need-loop-preserved invariant-loop decreases-loop
+loop-again : tie.Need-loop-column-preserved invariant-loop decreases-loop
 loop-again c =
     let call = c.before.before.before.before in
     let turn = call.before.before.before in
     let loop = turn.before in
     let entry = loop.before.before.before.before.before.before.before.before in
     let pre = entry.requires in
-    let one = call.grow-column in
-    grown-next _ _ _ _ _ _ _ _ _ pre.0 pre.1 _ _ _ _ _ _ loop.loop.invariant turn.loop-test.true _ _ _ one.auto.1.0 one.auto.1.1.0 one.ensures
+    let one = call.grow_column-listed in
+    grown-next _ _ _ _ _ _ _ _ _ pre.0 pre.1 _ _ _ _ _ _ loop.loop-column.invariant turn.loop-column-test.true _ _ _ one.auto.1.0 one.auto.1.1.0 one.ensures
 
 returns : tie.Need-returns invariant-loop decreases-loop
 returns c =
     let loop = c.before in
     let entry = loop.before.before.before.before.before.before.before.before in
-    grown-end _ _ _ _ _ _ _ _ _ entry.requires.0 entry.requires.1 _ _ _ _ _ _ loop.loop.invariant _ _ loop.before.before.before.unmark.ensures refl c.loop-test.false
+    grown-end _ _ _ _ _ _ _ _ _ entry.requires.0 entry.requires.1 _ _ _ _ _ _ loop.loop-column.invariant _ _ loop.before.before.before.unmark.ensures refl c.loop-column-test.false
 
 pub grow_spec : {M : Type 1} → statement M
 grow_spec =

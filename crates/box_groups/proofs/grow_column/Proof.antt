@@ -18,22 +18,22 @@ append-requires c κs =
     let low : (b : ℕ) → b < length a.cells.now → b < 65536 = λ b h. omega (arith, h, pre.3) in
     (pre.0, pre.1, All-map low (up a.shift (take a.count a.boxes.now)) pre.4)
 
-returns : tie.Need-returns
+returns : tie.Need-returns-then-all_are
 returns c =
     let append = c.before.before in
     let if1 = append.before.before in
     let entry = if1.before.before.before.before.before.before in
     let a = entry.args in
     looked-good a.marks.now a.boxes.now a.count a.listed a.place a.shift _ _ entry.requires.0 entry.requires.1
-    (sym if1.before.all_are.ensures ∙ if1.if1.true) append.append.ensures
+    (sym if1.before.all_are.ensures ∙ if1.if-all_are.true) append.append.ensures
 
-returns-2 : tie.Need-returns-2
+returns-2 : tie.Need-returns
 returns-2 c =
     let a = c.before.before.before.before.before.before.args in
-    looked-bad a.marks.now a.boxes.now a.count a.listed a.place a.shift _ (sym c.before.all_are.ensures ∙ c.if1.false)
+    looked-bad a.marks.now a.boxes.now a.count a.listed a.place a.shift _ (sym c.before.all_are.ensures ∙ c.if-all_are.false)
 
-pub grow-column-spec : {M : Type 1} → statement M
-grow-column-spec =
+pub grow_column_spec : {M : Type 1} → statement M
+grow_column_spec =
     tie.close
     (tie.spec (λ c κs. search rules) (λ c. search rules) append-requires (λ c. search rules) (λ c. search rules) (λ c. search rules) returns
     (λ c. search rules) (λ c. search rules) (λ c. search rules) returns-2)

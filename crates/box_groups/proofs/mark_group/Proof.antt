@@ -10,21 +10,21 @@ use Rattle.box_groups.proofs.Groups.{GroupTo, group-start, group-next, group-who
 use Rattle.box_groups.proofs.mark_group.Statement.{statement}
 use Rattle.box_groups.proofs.mark_group.Tie as tie
 
-abbrev invariant-loop : tie.invariant-loop
+abbrev invariant-loop : tie.invariant-loop-dimension
 invariant-loop cells sizes marks₀ boxes₀ first columns value count₀ step₀ block₀ base₀ dimension₀ marks boxes count step block base dimension =
     GroupTo cells sizes marks₀ (length boxes₀) first marks boxes count step block base dimension
 
-abbrev decreases-loop : tie.decreases-loop
+abbrev decreases-loop : tie.decreases-loop-dimension
 decreases-loop cells sizes marks₀ boxes₀ first columns value count₀ step₀ block₀ base₀ dimension₀ marks boxes count step block base dimension = 4 - dimension
 
-loop-holds : tie.Need-loop-init invariant-loop decreases-loop
+loop-holds : tie.Need-loop-dimension-init invariant-loop decreases-loop
 loop-holds c =
     let entry = c.before.before.before.before.before in
     let a = entry.args in
     group-start a.cells.now a.sizes.now a.marks.now a.boxes.now a.first a.columns
     (omega (arith, entry.requires.1.0, entry.requires.1.2)) entry.requires.1.1
 
-grow-requires : tie.Need-grow-requires invariant-loop decreases-loop
+grow-requires : tie.Need-grow-count-requires invariant-loop decreases-loop
 grow-requires c κs =
     let number = c.before.before in
     let turn = number.before.before in
@@ -32,13 +32,13 @@ grow-requires c κs =
     let entry = loop.before.before.before.before.before.before in
     let a = entry.args in
     let pre = entry.requires in
-    let to = loop.loop.invariant in
+    let to = loop.loop-dimension.invariant in
     let enough : size_of a.sizes.now 4 ≤ length (set a.boxes.now 0 a.first) = omega (arith, pre.1.2, length-set a.boxes.now 0 a.first) in (
-      count_fits _ _ _ _ _ _ _ _ _ _ _ _ _ to turn.loop-test.true number.u16-to-usize.ensures.0 pre.0 pre.1.0 enough,
-      growing _ _ _ _ _ _ _ _ _ _ _ _ _ to turn.loop-test.true number.u16-to-usize.ensures.0 pre.0 pre.1.0 enough pre.1.3 pre.1.4,
+      count_fits _ _ _ _ _ _ _ _ _ _ _ _ _ to turn.loop-dimension-test.true number.u16_to_usize-width.ensures.0 pre.0 pre.1.0 enough,
+      growing _ _ _ _ _ _ _ _ _ _ _ _ _ to turn.loop-dimension-test.true number.u16_to_usize-width.ensures.0 pre.0 pre.1.0 enough pre.1.3 pre.1.4,
     )
 
-loop-again : tie.Need-loop-preserved invariant-loop decreases-loop
+loop-again : tie.Need-loop-dimension-preserved invariant-loop decreases-loop
 loop-again c =
     let call = c.before.before.before.before in
     let number = call.before.before.before in
@@ -47,8 +47,8 @@ loop-again c =
     let entry = loop.before.before.before.before.before.before in
     let a = entry.args in
     let pre = entry.requires in
-    let one = call.grow in
-    group-next _ _ _ _ _ _ _ _ _ _ _ _ _ loop.loop.invariant turn.loop-test.true number.u16-to-usize.ensures.0 pre.0 pre.1.0
+    let one = call.grow-count in
+    group-next _ _ _ _ _ _ _ _ _ _ _ _ _ loop.loop-dimension.invariant turn.loop-dimension-test.true number.u16_to_usize-width.ensures.0 pre.0 pre.1.0
     (omega (arith, pre.1.2, length-set a.boxes.now 0 a.first)) _ _ _ one.auto.1.0 one.auto.1.1.0 one.ensures.0 one.ensures.1
 
 returns : tie.Need-returns invariant-loop decreases-loop
@@ -56,11 +56,11 @@ returns c =
     let loop = c.before in
     let entry = loop.before.before.before.before.before.before in
     let a = entry.args in
-    group-whole _ _ _ _ _ _ _ _ _ _ _ _ loop.loop.invariant (omega arith) entry.requires.1.0
+    group-whole _ _ _ _ _ _ _ _ _ _ _ _ loop.loop-dimension.invariant (omega arith) entry.requires.1.0
     (omega (arith, entry.requires.1.2, length-set a.boxes.now 0 a.first))
 
-pub mark-group-spec : {M : Type 1} → statement M
-mark-group-spec =
+pub mark_group_spec : {M : Type 1} → statement M
+mark_group_spec =
     tie.close
     (tie.spec invariant-loop decreases-loop
     (λ c. search rules)

@@ -9,7 +9,7 @@ use Rattle.box_groups.proofs.Boxes.{chosen-low, boxes-low, listed-cleared}
 use Rattle.box_groups.proofs.pop_group.Statement.{statement}
 use Rattle.box_groups.proofs.pop_group.Tie as tie
 
-empty-boxes-requires : tie.Need-empty-boxes-requires
+empty-boxes-requires : tie.Need-empty_boxes-requires
 empty-boxes-requires c κs =
     let mark = c.before.before.before.before.before.before in
     let entry = mark.before.before.before.before.before.before.before.before in
@@ -29,10 +29,10 @@ returns c =
     let group = mark.mark-group.ensures in (
       group.0,
       listed-cleared a.sizes.now a.cells.now _ 4 _ entry.requires.0.column.filled (chosen-low _ _ 4 0)
-          (λ q. empty.empty-boxes.ensures q ∙ ap (λ L. emptied_at a.cells.now L q) group.2),
+          (λ q. empty.empty_boxes.ensures q ∙ ap (λ L. emptied_at a.cells.now L q) group.2),
     )
 
-pub pop-group-spec : {M : Type 1} → statement M
-pop-group-spec =
+pub pop_group_spec : {M : Type 1} → statement M
+pop_group_spec =
     tie.close
     (tie.spec (λ c κs. search rules) empty-boxes-requires (λ c. search rules) (λ c. search rules) (λ c. search rules) returns)

@@ -9,20 +9,20 @@ use Rattle.paving.proofs.Marks.{paint-all, paint-in, paint-end}
 use Rattle.box_groups.proofs.unmark.Statement.{statement}
 use Rattle.box_groups.proofs.unmark.Tie as tie
 
-abbrev invariant-loop : tie.invariant-loop
+abbrev invariant-loop : tie.invariant-loop-column
 invariant-loop marks₀ base width column₀ marks column =
     (length marks ≡ length marks₀) × (paint (λ _. false) base column (width - column) marks ≡ paint (λ _. false) base 0 width marks₀)
 
-abbrev decreases-loop : tie.decreases-loop
+abbrev decreases-loop : tie.decreases-loop-column
 decreases-loop marks₀ base width column₀ marks column = width - column
 
-loop-again : tie.Need-loop-preserved invariant-loop decreases-loop
+loop-again : tie.Need-loop-column-preserved invariant-loop decreases-loop
 loop-again c =
-    let i = c.before.loop.invariant in
+    let i = c.before.loop-column.invariant in
     (simp length-set i.0, paint-in _ _ _ _ _ _ (omega arith) refl ∙ i.1)
 
-pub unmark-spec : {M : Type 1} → statement M
-unmark-spec =
+pub unmark_spec : {M : Type 1} → statement M
+unmark_spec =
     tie.close
     (tie.spec invariant-loop decreases-loop (λ c. (refl, paint-all _ _ _ _)) (λ c. omega (arith, c.before.before.well-formed)) (λ c. omega (arith, c.before.loop.invariant.0))
     (λ c. omega arith) (λ c. omega arith) loop-again (λ c. c.before.loop.invariant.0) (λ c. paint-end _ _ _ _ _ (omega arith) ∙ c.before.loop.invariant.1))

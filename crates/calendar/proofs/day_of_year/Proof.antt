@@ -9,27 +9,27 @@ use Rattle.calendar.proofs.Date.{date-month, day-within, days-none, days-next, d
 use Rattle.calendar.proofs.day_of_year.Statement.{statement}
 use Rattle.calendar.proofs.day_of_year.Tie as tie
 
-abbrev invariant-loop : tie.invariant-loop
+abbrev invariant-loop : tie.invariant-loop-index
 invariant-loop year month day leap passed days₀ index₀ days index =
     (index ≤ passed) × (days ≤ 366 + 255 * index) × (days ≡ sum (λ n. n) (take index (month_lengths leap)) + day)
 
-abbrev decreases-loop : tie.decreases-loop
+abbrev decreases-loop : tie.decreases-loop-index
 decreases-loop year month day leap passed days₀ index₀ days index = passed - index
 
-loop-again : tie.Need-loop-preserved invariant-loop decreases-loop
+loop-again : tie.Need-loop-index-preserved invariant-loop decreases-loop
 loop-again c =
     let loop = c.before.before in
     let is-leap = loop.before in
     let entry = is-leap.before in
-    let at = loop.loop in
+    let at = loop.loop-index in
     let index_in = date-month _ _ _ entry.requires in (
       omega arith,
       omega arith,
-      days-next (month_lengths is-leap.is-leap.result) at.index _ _ _ (omega arith) at.invariant.2 c.month-length.ensures,
+      days-next (month_lengths is-leap.is_leap-leap.result) at.index _ _ _ (omega arith) at.invariant.2 c.month_length.ensures,
     )
 
-pub day-of-year-spec : {M : Type 1} → statement M
-day-of-year-spec =
+pub day_of_year_spec : {M : Type 1} → statement M
+day_of_year_spec =
     tie.close
     (tie.spec
     invariant-loop decreases-loop

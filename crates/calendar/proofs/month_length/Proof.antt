@@ -19,8 +19,8 @@ rows : (leap : Bool) (k : ℕ) → get_or (get_or (month_lengths false ∷ month
 rows true k = refl
 rows false k = refl
 
-pub month-length-spec : {M : Type 1} → statement M
-month-length-spec =
+pub month_length_spec : {M : Type 1} → statement M
+month_length_spec =
     tie.close
     (tie.spec
     (λ c. search rules)

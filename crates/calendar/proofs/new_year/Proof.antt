@@ -10,5 +10,5 @@ returns : tie.Need-returns
 unfolding cycle stepped is_leap
 returns c = cycle-new-year c.args.year c.requires
 
-pub new-year-spec : {M : Type 1} → statement M
-new-year-spec = tie.close (tie.spec (λ c. search rules) returns)
+pub new_year_spec : {M : Type 1} → statement M
+new_year_spec = tie.close (tie.spec (λ c. search rules) returns)

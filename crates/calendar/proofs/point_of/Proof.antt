@@ -6,8 +6,8 @@ use Rattle.calendar.proofs.Date.{date-year, date-month, day-in-year, point-some,
 use Rattle.calendar.proofs.point_of.Statement.{statement}
 use Rattle.calendar.proofs.point_of.Tie as tie
 
-pub point-of-spec : {M : Type 1} → statement M
-point-of-spec =
+pub point_of_spec : {M : Type 1} → statement M
+point_of_spec =
     tie.close
     (tie.spec
     (λ c κs. search rules)

@@ -9,26 +9,26 @@ use Rattle.calendar.proofs.Thursday.{thursday-same, thursday-before, thursday-ne
 use Rattle.calendar.proofs.thursday_of.Statement.{statement}
 use Rattle.calendar.proofs.thursday_of.Tie as tie
 
-returns : tie.Need-returns
+returns : tie.Need-returns-then-days-passed
 returns c =
     let start = c.before.before in
     let e = ap (λ t. t.1) (thursday-before start.args.year start.args.day start.requires.1 (omega arith)) in
     omega (arith, e)
 
-returns-2 : tie.Need-returns-2
+returns-2 : tie.Need-returns-then-thursday-length
 returns-2 c =
     let start = c.before.before.before in
     let e = ap (λ t. t.1) (thursday-same start.args.year start.args.day start.requires.1 (omega arith) (omega arith)) in
     omega (arith, e)
 
-returns-3 : tie.Need-returns-3
+returns-3 : tie.Need-returns-else-thursday-length
 returns-3 c =
     let start = c.before.before.before in
     let e = ap (λ t. t.1) (thursday-next start.args.year start.args.day start.requires.1 (omega arith)) in
     omega (arith, e)
 
-pub thursday-of-spec : {M : Type 1} → statement M
-thursday-of-spec =
+pub thursday_of_spec : {M : Type 1} → statement M
+thursday_of_spec =
     tie.close
     (tie.spec
     (λ c. omega (arith, year-long c.args.year))

@@ -6,8 +6,8 @@ use Rattle.calendar.proofs.Week.{week-number, week-bounds}
 use Rattle.calendar.proofs.week_of.Statement.{statement}
 use Rattle.calendar.proofs.week_of.Tie as tie
 
-pub week-of-spec : {M : Type 1} → statement M
-week-of-spec =
+pub week_of_spec : {M : Type 1} → statement M
+week_of_spec =
     tie.close
     (tie.spec
     (λ c κs. search rules)

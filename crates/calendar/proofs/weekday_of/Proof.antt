@@ -8,10 +8,10 @@ use Rattle.calendar.proofs.weekday_of.Tie as tie
 
 returns : tie.Need-returns
 unfolding weekday_at weekday_from
-returns c = rw c.new-year.ensures
+returns c = rw c.new_year.ensures
 
-pub weekday-of-spec : {M : Type 1} → statement M
-weekday-of-spec =
+pub weekday_of_spec : {M : Type 1} → statement M
+weekday_of_spec =
     tie.close
     (tie.spec
     (λ c κs. search rules) (λ c. search rules) (λ c. search rules)

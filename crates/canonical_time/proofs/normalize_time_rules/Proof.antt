@@ -5,13 +5,13 @@ use Rattle.canonical_time.proofs.FoldReturns.{few-strokes, cuts-bounded, painted
 use Rattle.canonical_time.proofs.normalize_time_rules.Statement.{statement}
 use Rattle.canonical_time.proofs.normalize_time_rules.Tie as tie
 
-flatten-requires : tie.Need-flatten-requires
+flatten-requires : tie.Need-flatten-n-requires
 flatten-requires c κs = search rules
 
-write-strokes-requires : tie.Need-write-strokes-requires
+write-strokes-requires : tie.Need-write_strokes-k-requires
 write-strokes-requires c κs = search rules
 
-write-day-requires : tie.Need-write-day-requires
+write-day-requires : tie.Need-write_day-m-requires
 write-day-requires c κs =
     let stroked = c.before.before.before.before.before in
     let flat = stroked.before.before.before.before.before.before.before.before in
@@ -25,7 +25,7 @@ write-day-requires c κs =
       omega (arith, few, room, spans),
     )
 
-sweep-classes-requires : tie.Need-sweep-classes-requires
+sweep-classes-requires : tie.Need-sweep_classes-at-requires
 sweep-classes-requires c κs =
     let pieced = c.before.before.before.before.before.before.before.before in
     let stroked = pieced.before.before.before.before.before.before in
@@ -44,25 +44,25 @@ sweep-classes-requires c κs =
       cuts-bounded _ _ _ _ pieced.write-day.ensures.0,
     )
 
-same_length : tie.Need-same-length
+same_length : tie.Need-shape_of-out-then-k-n
 same_length c = search rules
 
-same-length-2 : tie.Need-same-length-2
+same-length-2 : tie.Need-shape_of-span_states-then-k-n
 same-length-2 c = search rules
 
-same-length-3 : tie.Need-same-length-3
+same-length-3 : tie.Need-shape_of-span_codes-then-k-n
 same-length-3 c = search rules
 
-same-length-4 : tie.Need-same-length-4
+same-length-4 : tie.Need-shape_of-strokes-then-k-n
 same-length-4 c = search rules
 
-same-length-5 : tie.Need-same-length-5
+same-length-5 : tie.Need-shape_of-minute_cuts-then-k-n
 same-length-5 c = search rules
 
-same-length-6 : tie.Need-same-length-6
+same-length-6 : tie.Need-shape_of-interval_states-then-k-n
 same-length-6 c = search rules
 
-returns : tie.Need-returns
+returns : tie.Need-returns-then-k-n
 returns c =
     let swept = c.before.before.before.before.before.before.before in
     let pieced = swept.before.before.before.before.before.before.before.before.before in
@@ -71,7 +71,7 @@ returns c =
     let entry = flat.before.before.before.before.before.before.before.before.before.before.before.before.before in
     let room = entry.requires.1 in
     painted-laid _ _ _ _ _ _ _ _ _ _ _ _ _ _ _ _ _ _ _ flat.flatten.ensures stroked.write-strokes.ensures pieced.write-day.ensures
-    (swept.sweep-classes.ensures.0, swept.sweep-classes.ensures.1) (room.1, room.2, room.3, omega (arith, room.5, pieced.write-day.auto.1.0)) (omega arith)
+    (swept.sweep_classes-at.ensures.0, swept.sweep_classes-at.ensures.1) (room.1, room.2, room.3, omega (arith, room.5, pieced.write-day.auto.1.0)) (omega arith)
 
 groups-requires : tie.Need-groups-requires
 groups-requires c κs =
@@ -87,33 +87,33 @@ groups-requires c κs =
       omega (arith, room, spans, swept.sweep-classes.ensures.2),
     )
 
-same-length-7 : tie.Need-same-length-7
+same-length-7 : tie.Need-shape_of-out
 same-length-7 c = search rules
 
-same-length-8 : tie.Need-same-length-8
+same-length-8 : tie.Need-shape_of-span_states
 same-length-8 c =
     let swept = c.before.before.before.before.before.before.before.before.before.before.before.before.before.before.before.before in
     let stroked = swept.before.before.before.before.before.before.before.before.before.before.before.before.before.before.before in
     let flat = stroked.before.before.before.before.before.before.before.before in
     flat.flatten.auto.0
 
-same-length-9 : tie.Need-same-length-9
+same-length-9 : tie.Need-shape_of-span_codes
 same-length-9 c =
     let swept = c.before.before.before.before.before.before.before.before.before.before.before.before.before.before.before.before in
     let stroked = swept.before.before.before.before.before.before.before.before.before.before.before.before.before.before.before in
     let flat = stroked.before.before.before.before.before.before.before.before in
     flat.flatten.auto.1.0
 
-same-length-10 : tie.Need-same-length-10
+same-length-10 : tie.Need-shape_of-strokes
 same-length-10 c = search rules
 
-same-length-11 : tie.Need-same-length-11
+same-length-11 : tie.Need-shape_of-minute_cuts
 same-length-11 c = search rules
 
-same-length-12 : tie.Need-same-length-12
+same-length-12 : tie.Need-shape_of-interval_states
 same-length-12 c = search rules
 
-returns-2 : tie.Need-returns-2
+returns-2 : tie.Need-returns
 returns-2 c =
     let grouped = c.before.before.before.before in
     let swept = grouped.before.before.before.before.before.before.before.before.before.before.before.before in
@@ -125,8 +125,8 @@ returns-2 c =
     grouped-laid _ _ _ _ _ _ _ _ _ _ _ _ _ _ _ _ _ _ _ flat.flatten.ensures stroked.write-strokes.ensures pieced.write-day.ensures
     (swept.sweep-classes.ensures.0, swept.sweep-classes.ensures.1) (room.1, room.2, room.3, omega (arith, room.5, pieced.write-day.auto.1.0)) _ _ grouped.groups.ensures
 
-pub normalize-time-rules-spec : {M : Type 1} → statement M
-normalize-time-rules-spec =
+pub normalize_time_rules_spec : {M : Type 1} → statement M
+normalize_time_rules_spec =
     tie.close
     (tie.spec
     flatten-requires write-strokes-requires write-day-requires sweep-classes-requires same_length same-length-2 same-length-3 same-length-4

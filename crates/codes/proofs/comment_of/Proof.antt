@@ -8,5 +8,5 @@ returns : tie.Need-returns
 unfolding state_coded
 returns c = refl
 
-pub comment-of-spec : {M : Type 1} → statement M
-comment-of-spec = tie.close (tie.spec returns)
+pub comment_of_spec : {M : Type 1} → statement M
+comment_of_spec = tie.close (tie.spec returns)

@@ -8,5 +8,5 @@ returns : tie.Need-returns
 unfolding time_number
 returns c = search rules
 
-pub fixed-time-spec : {M : Type 1} → statement M
-fixed-time-spec = tie.close (tie.spec (λ c κs. search rules) returns)
+pub fixed_time_spec : {M : Type 1} → statement M
+fixed_time_spec = tie.close (tie.spec (λ c κs. search rules) returns)

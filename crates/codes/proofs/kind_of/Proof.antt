@@ -5,5 +5,5 @@ use Rattle.codes.proofs.Numbers.{kind-number}
 use Rattle.codes.proofs.kind_of.Statement.{statement}
 use Rattle.codes.proofs.kind_of.Tie as tie
 
-pub kind-of-spec : {M : Type 1} → statement M
-kind-of-spec = tie.close (tie.spec (λ c. search rules) (λ c. sym (kind-number _)))
+pub kind_of_spec : {M : Type 1} → statement M
+kind_of_spec = tie.close (tie.spec (λ c. search rules) (λ c. sym (kind-number _)))

@@ -5,8 +5,8 @@ use Rattle.codes.proofs.Laws.{today-fixed, today-late, today-variable}
 use Rattle.codes.proofs.no_overlap_with_next_day.Statement.{statement}
 use Rattle.codes.proofs.no_overlap_with_next_day.Tie as tie
 
-pub no-overlap-with-next-day-spec : {M : Type 1} → statement M
-no-overlap-with-next-day-spec =
+pub no_overlap_with_next_day_spec : {M : Type 1} → statement M
+no_overlap_with_next_day_spec =
     tie.close
     (tie.spec (λ c κs. search rules) (λ c κs. search rules)
     (λ c. today-fixed _ _ _ c.before.before.before.start_of_lem.ensures c.before.before.end_of_lem.ensures (omega arith) (omega arith))

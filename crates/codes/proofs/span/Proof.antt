@@ -9,7 +9,7 @@ returns : tie.Need-returns
 unfolding parts_number
 returns c = refl
 
-pub span-spec : {M : Type 1} → statement M
-span-spec =
+pub span_spec : {M : Type 1} → statement M
+span_spec =
     tie.close
     (tie.spec (λ c. search rules) (λ c. search rules) (λ c. search rules) (λ c. search rules) (λ c. search rules) (λ c. search rules) returns)

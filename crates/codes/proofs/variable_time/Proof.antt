@@ -8,7 +8,7 @@ returns : tie.Need-returns
 unfolding time_number
 returns c = search rules
 
-pub variable-time-spec : {M : Type 1} → statement M
-variable-time-spec =
+pub variable_time_spec : {M : Type 1} → statement M
+variable_time_spec =
     tie.close
     (tie.spec (λ c κs. search rules) (λ c. search rules) (λ c. search rules) (λ c κs. search rules) (λ c. search rules) (λ c. search rules) returns)

@@ -6,7 +6,7 @@ use Rattle.cutting.proofs.Cutting.{cut-there}
 use Rattle.cutting.proofs.cut_all.Statement.{statement}
 use Rattle.cutting.proofs.cut_all.Tie as tie
 
-cut-rules-requires : tie.Need-cut-rules-requires
+cut-rules-requires : tie.Need-cut_rules-requires
 cut-rules-requires c κs =
     let start-rows = c.before.before.before.before.before.before.before.before.before in
     let entry = start-rows.before.before.before.before.before.before.before.before.before in
@@ -38,10 +38,10 @@ returns c =
       four-sizes = cut.auto.1.0 ∙ start.auto.1.0 ∙ pre.1.1;
       all-cuts = omega (arith, cut.auto.0, start.auto.0, pre.1.2);
       placed = start.ensures.0;
-    }) _ c.box-count.ensures.0 (cut.ensures rs days)
+    }) _ c.box_count.ensures.0 (cut.ensures rs days)
 
-pub cut-all-spec : {M : Type 1} → statement M
-cut-all-spec =
+pub cut_all_spec : {M : Type 1} → statement M
+cut_all_spec =
     tie.close
     (tie.spec (λ c.
     let entry = c.before.before.before.before.before.before.before.before in

@@ -13,39 +13,39 @@ use Rattle.cutting.proofs.Cutting.{rows-kept, next-space, next-cut, all-cut}
 use Rattle.cutting.proofs.cut_rules.Statement.{statement}
 use Rattle.cutting.proofs.cut_rules.Tie as tie
 
-abbrev invariant-loop : tie.invariant-loop
+abbrev invariant-loop : tie.invariant-loop-rule
 invariant-loop cuts₀ sizes₀ rows counts ranges rules rule₀ cuts sizes rule =
     (rule ≤ rules) × ((rs : List Rule) → RuleDays counts ranges rules rs → CutBy rows sizes cuts (take rule rs) dimensions)
     × (length cuts ≡ length cuts₀) × (length sizes ≡ length sizes₀)
 
-abbrev decreases-loop : tie.decreases-loop
+abbrev decreases-loop : tie.decreases-loop-rule
 decreases-loop cuts₀ sizes₀ rows counts ranges rules rule₀ cuts sizes rule = rules - rule
 
-cut-rule-requires : tie.Need-cut-rule-requires invariant-loop decreases-loop
+cut-rule-requires : tie.Need-cut_rule-requires invariant-loop decreases-loop
 cut-rule-requires c κs =
     let loop = c.before.before.before.before.before in
     let entry = loop.before.before.before.before.before.before in
     let days = entry.requires.0 in
-    let inv = loop.loop.invariant in
+    let inv = loop.loop-rule.invariant in
     next-space _ _ _ _ days.1 _ _ _ (rows-kept _ _ _ _ _ _ inv.3 inv.2 entry.requires.1.0) _
-    c.before.before.before.before.loop-test.true (inv.1 days.0 days.1)
+    c.before.before.before.before.loop-rule-test.true (inv.1 days.0 days.1)
 
-loop-again : tie.Need-loop-preserved invariant-loop decreases-loop
+loop-again : tie.Need-loop-rule-preserved invariant-loop decreases-loop
 loop-again c =
     let loop-test = c.before.before.before.before.before.before.before.before.before in
     let loop = loop-test.before in
     let entry = loop.before.before.before.before.before.before in
-    let inv = loop.loop.invariant in
-    let cut = c.before.before.before.before.cut-rule in (
-      omega (arith, loop-test.loop-test.true),
-      λ rs days. next-cut _ _ _ _ days _ _ _ (rows-kept _ _ _ _ _ _ inv.3 inv.2 entry.requires.1.0) _ loop-test.loop-test.true (inv.1 rs days) _
+    let inv = loop.loop-rule.invariant in
+    let cut = c.before.before.before.before.cut_rule in (
+      omega (arith, loop-test.loop-rule-test.true),
+      λ rs days. next-cut _ _ _ _ days _ _ _ (rows-kept _ _ _ _ _ _ inv.3 inv.2 entry.requires.1.0) _ loop-test.loop-rule-test.true (inv.1 rs days) _
           cut.ensures,
       cut.auto.0 ∙ inv.2,
       cut.auto.1.0 ∙ inv.3,
     )
 
-pub cut-rules-spec : {M : Type 1} → statement M
-cut-rules-spec =
+pub cut_rules_spec : {M : Type 1} → statement M
+cut_rules_spec =
     tie.close
     (tie.spec invariant-loop decreases-loop (λ c. (omega arith, λ rs days. c.before.before.before.before.before.requires.1.1, refl, refl))
     (λ c.

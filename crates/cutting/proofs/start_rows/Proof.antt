@@ -5,7 +5,7 @@ use Rattle.cutting.proofs.Cutting.{bounds-cut}
 use Rattle.cutting.proofs.start_rows.Statement.{statement}
 use Rattle.cutting.proofs.start_rows.Tie as tie
 
-start-row-requires : tie.Need-start-row-requires
+start-row-requires : tie.Need-start_row-requires
 start-row-requires c κs =
     let place-rows = c.before.before.before.before.before.before.before in
     let entry = place-rows.before.before.before.before.before in
@@ -13,7 +13,7 @@ start-row-requires c κs =
     let placed = place-rows.place-rows.ensures 3 (omega arith) in
     (omega (arith, place-rows.place-rows.auto.0, pre.0), omega (arith, pre.0), omega (arith, placed, pre.1))
 
-start-row-requires-2 : tie.Need-start-row-requires-2
+start-row-requires-2 : tie.Need-start_row-requires-2
 start-row-requires-2 c κs =
     let start-row = c.before.before.before.before.before.before.before.before.before in
     let place-rows = start-row.before.before.before.before.before.before.before.before in
@@ -23,7 +23,7 @@ start-row-requires-2 c κs =
     let first = start-row.start-row.auto in
     (omega (arith, place-rows.place-rows.auto.0, pre.0), omega (arith, first.1.0, pre.0), omega (arith, first.0, placed, pre.1))
 
-start-row-requires-3 : tie.Need-start-row-requires-3
+start-row-requires-3 : tie.Need-start_row-requires-3
 start-row-requires-3 c κs =
     let start-row2 = c.before.before.before.before.before.before.before.before.before in
     let start-row = start-row2.before.before.before.before.before.before.before.before.before.before in
@@ -38,7 +38,7 @@ start-row-requires-3 c κs =
       omega (arith, first.0, second.0, placed, pre.1),
     )
 
-start-row-requires-4 : tie.Need-start-row-requires-4
+start-row-requires-4 : tie.Need-start_row-requires-4
 start-row-requires-4 c κs =
     let start-row3 = c.before.before.before.before.before.before.before in
     let start-row2 = start-row3.before.before.before.before.before.before.before.before.before.before in
@@ -55,7 +55,7 @@ start-row-requires-4 c κs =
       omega (arith, first.0, second.0, third.0, placed, pre.1),
     )
 
-rows-same-length : tie.Need-same-length-3
+rows-same-length : tie.Need-shape_of-row_starts
 rows-same-length c =
     let start-row3 = c.before.before.before.before.before.before.before.before.before.before.before.before in
     let start-row = start-row3.before.before.before.before.before.before.before.before.before.before.before.before.before.before.before.before.before.before.before.before in
@@ -73,11 +73,11 @@ returns c =
     let placed = place-rows.place-rows.ensures in (
       placed,
       bounds-cut _ _ placed pre.1.0 _ _ pre.0.1 pre.1.2 _ _ _ _ start-row.start-row.ensures start-row2.start-row2.ensures
-          start-row3.start-row3.ensures c.before.before.before.before.start-row4.ensures,
+          start-row3.start-row3.ensures c.before.before.before.before.start_row-4.ensures,
     )
 
-pub start-rows-spec : {M : Type 1} → statement M
-start-rows-spec =
+pub start_rows_spec : {M : Type 1} → statement M
+start_rows_spec =
     tie.close
     (tie.spec (λ c κs. search rules) (λ c. search rules) (λ c. search rules) start-row-requires (λ c. search rules) (λ c. search rules) start-row-requires-2
     (λ c. search rules) (λ c. search rules) start-row-requires-3 start-row-requires-4 (λ c. search rules) (λ c. search rules) rows-same-length returns)

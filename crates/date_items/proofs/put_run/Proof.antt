@@ -6,14 +6,14 @@ use Rattle.date_items.specs.Runs.{cut_of}
 use Rattle.date_items.proofs.put_run.Statement.{statement}
 use Rattle.date_items.proofs.put_run.Tie as tie
 
-slice-write-ends-2 : tie.Need-slice-write-ends-2
+slice-write-ends-2 : tie.Need-bounds-ends-at-2
 slice-write-ends-2 c =
     let entry = c.before.before in
     let a = entry.args in
     omega (arith, entry.requires.1.1, length-set a.ends.now a.at (cut_of a.cuts.now a.row a.start))
 
-pub put-run-spec : {M : Type 1} → statement M
-put-run-spec =
+pub put_run_spec : {M : Type 1} → statement M
+put_run_spec =
     tie.close
     (tie.spec (λ c. search rules) (λ c. search rules) (λ c. search rules) (λ c. search rules) (λ c. search rules) (λ c. search rules) (λ c. search rules)
     (λ c. search rules) (λ c. search rules) (λ c. search rules) (λ c. search rules) slice-write-ends-2 (λ c. search rules) (λ c. search rules))

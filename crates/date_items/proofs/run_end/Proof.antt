@@ -7,33 +7,33 @@ use Rattle.date_items.proofs.Returns.{end-last, end-here, end-next}
 use Rattle.date_items.proofs.run_end.Statement.{statement}
 use Rattle.date_items.proofs.run_end.Tie as tie
 
-abbrev invariant-loop : tie.invariant-loop
+abbrev invariant-loop : tie.invariant-loop-end
 invariant-loop marks base width column end₀ end =
     (end ≤ width) × (run_end (mark_at marks base) end (width - end) ≡ run_end (mark_at marks base) column (width - column))
 
-abbrev decreases-loop : tie.decreases-loop
+abbrev decreases-loop : tie.decreases-loop-end
 decreases-loop marks base width column end₀ end = width - end
 
-returns : tie.Need-returns invariant-loop decreases-loop
+returns : tie.Need-returns-then-marks-base-ne1 invariant-loop decreases-loop
 returns c =
     let at-loop = c.before.before.before in
     let a = at-loop.before.args in
-    end-here a.marks.now a.base a.width at-loop.loop.end (omega arith) c.if1.true ∙ at-loop.loop.invariant.1
+    end-here a.marks.now a.base a.width at-loop.loop-end.end (omega arith) c.if-marks-base-ne1.true ∙ at-loop.loop-end.invariant.1
 
-loop-again : tie.Need-loop-preserved invariant-loop decreases-loop
+loop-again : tie.Need-loop-end-preserved invariant-loop decreases-loop
 loop-again c =
     let at-loop = c.before.before.before in
     let a = at-loop.before.args in
-    (omega arith, sym (end-next a.marks.now a.base a.width at-loop.loop.end (omega arith) c.if1.false) ∙ at-loop.loop.invariant.1)
+    (omega arith, sym (end-next a.marks.now a.base a.width at-loop.loop-end.end (omega arith) c.if-marks-base-ne1.false) ∙ at-loop.loop-end.invariant.1)
 
-returns-2 : tie.Need-returns-2 invariant-loop decreases-loop
+returns-2 : tie.Need-returns invariant-loop decreases-loop
 returns-2 c =
     let at-loop = c.before in
     let a = at-loop.before.args in
-    end-last a.marks.now a.base a.width at-loop.loop.end (omega arith) ∙ at-loop.loop.invariant.1
+    end-last a.marks.now a.base a.width at-loop.loop-end.end (omega arith) ∙ at-loop.loop-end.invariant.1
 
-pub run-end-spec : {M : Type 1} → statement M
-run-end-spec =
+pub run_end_spec : {M : Type 1} → statement M
+run_end_spec =
     tie.close
     (tie.spec invariant-loop decreases-loop (λ c. (omega arith, refl)) (λ c. omega (arith, c.before.before.well-formed)) (λ c. omega arith) returns (λ c. omega arith)
     (λ c. omega arith) loop-again returns-2)

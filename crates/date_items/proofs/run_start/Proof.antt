@@ -7,32 +7,32 @@ use Rattle.paving.proofs.Room.{marks-out}
 use Rattle.date_items.proofs.run_start.Statement.{statement}
 use Rattle.date_items.proofs.run_start.Tie as tie
 
-abbrev invariant-loop : tie.invariant-loop
+abbrev invariant-loop : tie.invariant-loop-start
 invariant-loop marks base width column start₀ start =
     (column ≤ start) × (start ≤ width) × (marks_from marks base width column ≡ marks_from marks base width start)
 
-abbrev decreases-loop : tie.decreases-loop
+abbrev decreases-loop : tie.decreases-loop-start
 decreases-loop marks base width column start₀ start = width - start
 
-returns : tie.Need-returns invariant-loop decreases-loop
+returns : tie.Need-returns-then-marks-base-eq1 invariant-loop decreases-loop
 returns c =
-    let i = c.before.before.before.loop.invariant in
-    (i.0, i.1, (λ h. c.if1.true), i.2)
+    let i = c.before.before.before.loop-start.invariant in
+    (i.0, i.1, (λ h. c.if-marks-base-eq1.true), i.2)
 
-loop-again : tie.Need-loop-preserved invariant-loop decreases-loop
+loop-again : tie.Need-loop-start-preserved invariant-loop decreases-loop
 loop-again c =
     let at-loop = c.before.before.before in
     let a = at-loop.before.args in
-    let i = at-loop.loop.invariant in
-    (omega (arith, i.0), omega arith, i.2 ∙ marks-out a.marks.now a.base a.width at-loop.loop.start (omega arith) c.if1.false)
+    let i = at-loop.loop-start.invariant in
+    (omega (arith, i.0), omega arith, i.2 ∙ marks-out a.marks.now a.base a.width at-loop.loop-start.start (omega arith) c.if-marks-base-eq1.false)
 
-returns-2 : tie.Need-returns-2 invariant-loop decreases-loop
+returns-2 : tie.Need-returns invariant-loop decreases-loop
 returns-2 c =
-    let i = c.before.loop.invariant in
+    let i = c.before.loop-start.invariant in
     (i.0, i.1, (λ h. absurd (omega arith)), i.2)
 
-pub run-start-spec : {M : Type 1} → statement M
-run-start-spec =
+pub run_start_spec : {M : Type 1} → statement M
+run_start_spec =
     tie.close
     (tie.spec invariant-loop decreases-loop (λ c. (omega arith, omega arith, refl)) (λ c. omega (arith, c.before.before.well-formed)) (λ c. omega arith) returns
     (λ c. omega arith) (λ c. omega arith) loop-again returns-2)

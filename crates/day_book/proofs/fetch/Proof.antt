@@ -62,22 +62,22 @@ module _ (c : tie.After-fold-box) where
       (c.fold-box.ensures.0 ∙ own-words _ (start c).args.number (start c).requires.0.0)
 
 -- ## What is needed
-returns : tie.Need-returns
+returns : tie.Need-returns-then-kept-gt0
 returns c =
     let kept = c.before.before.before in
     let entry = kept.before.before.before.before.before.before.before.before.before in
     let a = entry.args in
-    let held = entry.requires.1.held a.number (omega (arith, kept.u16-to-usize.ensures.0, c.before.before.if2.true)) in
+    let held = entry.requires.1.held a.number (omega (arith, kept.u16_to_usize-kept.ensures.0, c.before.before.if-kept-gt0.true)) in
     let place : 2 * a.number + 1 - 1 ≡ 2 * a.number = omega arith in
-    let from = c.u16-to-usize2.ensures.0 ∙ ap (λ j. get_or a.notes.now j 0) place in
-    let many = kept.u16-to-usize.ensures.0 in
+    let from = c.u16_to_usize.ensures.0 ∙ ap (λ j. get_or a.notes.now j 0) place in
+    let many = kept.u16_to_usize-kept.ensures.0 in
     record {
       inside = omega (arith, held.inside, entry.requires.1.roomy, from, many);
       words = ap₂ (part a.book.now) from many ∙ held.words;
       opened = entry.requires.1;
     }
 
-returns-2 : tie.Need-returns-2
+returns-2 : tie.Need-returns-then-noted-notes-2
 returns-2 c =
     let folded = c.before.before.before.before in
     let entry = start folded in
@@ -85,14 +85,14 @@ returns-2 c =
       inside = omega (arith, same_size folded, fits folded);
       words = there folded;
       opened = record {
-        held = one-more-held (book folded) (filled folded) (omega (arith, entry.pre.1.roomy)) folded.fold-box.new.0 (rest folded) (days folded) _ entry.pre.1.held
-            entry.args.number folded.fold-box.result c.if4.true (there folded);
-        roomy = omega (arith, same_size folded, c.before.if3.true);
+        held = one-more-held (book folded) (filled folded) (omega (arith, entry.pre.1.roomy)) folded.fold_box-count.new.0 (rest folded) (days folded) _ entry.pre.1.held
+            entry.args.number folded.fold_box-count.result c.if-noted-notes-2.true (there folded);
+        roomy = omega (arith, same_size folded, c.before.if-next-room.true);
         few = omega (arith, same_size folded, entry.pre.1.few);
       };
     }
 
-returns-3 : tie.Need-returns-3
+returns-3 : tie.Need-returns-else-noted-notes-2
 returns-3 c =
     let folded = c.before.before.before.before in
     let entry = start folded in
@@ -100,13 +100,13 @@ returns-3 c =
       inside = omega (arith, same_size folded, fits folded);
       words = there folded;
       opened = record {
-        held = still-held (book folded) (filled folded) (omega (arith, entry.pre.1.roomy)) folded.fold-box.new.0 (rest folded) (days folded) _ entry.pre.1.held;
+        held = still-held (book folded) (filled folded) (omega (arith, entry.pre.1.roomy)) folded.fold_box-count.new.0 (rest folded) (days folded) _ entry.pre.1.held;
         roomy = omega (arith, same_size folded, entry.pre.1.roomy);
         few = omega (arith, same_size folded, entry.pre.1.few);
       };
     }
 
-returns-4 : tie.Need-returns-4
+returns-4 : tie.Need-returns-else-next-room
 returns-4 c =
     let folded = c.before.before.before in
     let entry = start folded in
@@ -114,7 +114,7 @@ returns-4 c =
       inside = omega (arith, same_size folded, fits folded);
       words = there folded;
       opened = record {
-        held = still-held (book folded) (filled folded) (omega (arith, entry.pre.1.roomy)) folded.fold-box.new.0 (rest folded) (days folded) _ entry.pre.1.held;
+        held = still-held (book folded) (filled folded) (omega (arith, entry.pre.1.roomy)) folded.fold_box-count.new.0 (rest folded) (days folded) _ entry.pre.1.held;
         roomy = omega (arith, same_size folded, entry.pre.1.roomy);
         few = omega (arith, same_size folded, entry.pre.1.few);
       };

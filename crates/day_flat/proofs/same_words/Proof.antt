@@ -10,14 +10,14 @@ use Rattle.day_flat.proofs.DayReturns.{same_start, same-on, same_not, same_end}
 use Rattle.day_flat.proofs.same_words.Statement.{statement}
 use Rattle.day_flat.proofs.same_words.Tie as tie
 
-abbrev invariant-loop : tie.invariant-loop
+abbrev invariant-loop : tie.invariant-loop-i
 invariant-loop a b n i₀ i = same_list eqb (part a i (n - i)) (part b i (n - i)) ≡ same_list eqb (part a 0 n) (part b 0 n)
 
-abbrev decreases-loop : tie.decreases-loop
+abbrev decreases-loop : tie.decreases-loop-i
 decreases-loop a b n i₀ i = n - i
 
-pub same-words-spec : {M : Type 1} → statement M
-same-words-spec =
+pub same_words_spec : {M : Type 1} → statement M
+same_words_spec =
     tie.close
     (tie.spec
     invariant-loop decreases-loop

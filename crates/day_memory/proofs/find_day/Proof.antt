@@ -11,11 +11,11 @@ use Rattle.day_memory.proofs.Searching.{Passed, no_words, day-found, day-new, fi
 use Rattle.day_memory.proofs.find_day.Statement.{statement}
 use Rattle.day_memory.proofs.find_day.Tie as tie
 
-abbrev invariant-loop : tie.invariant-loop
+abbrev invariant-loop : tie.invariant-loop-before
 invariant-loop words other₀ states counts spans lists hashes count hash place before₀ other before =
     Passed (box_words states counts spans lists) place before × (length other ≡ length other₀)
 
-abbrev decreases-loop : tie.decreases-loop
+abbrev decreases-loop : tie.decreases-loop-before
 decreases-loop words other₀ states counts spans lists hashes count hash place before₀ other before = place - before
 
 -- ## Places of the code
@@ -52,37 +52,37 @@ some : (c : Loop) → (start c).args.word_count ≡ 0 → ⊥
 some c = c.before.before.if1.false
 
 -- ## What is needed there
-returns : tie.Need-returns invariant-loop decreases-loop
+returns : tie.Need-returns-then-word_count-eq0 invariant-loop decreases-loop
 returns c =
     let entry : Start = c.before.before.before.before.before.before.before.before in
-    no_words (days entry) _ _ _ entry.requires.1.1.0 c.if1.true
+    no_words (days entry) _ _ _ entry.requires.1.1.0 c.if-word_count-eq0.true
 
-loop-holds : tie.Need-loop-init invariant-loop decreases-loop
+loop-holds : tie.Need-loop-before-init invariant-loop decreases-loop
 loop-holds c =
     let entry : Start = c.before.before.before.before.before.before.before.before.before in
     let a = entry.args in
     let known = entry.requires.1.1 in
-    let passed = first-passed (days entry) a.words.now a.word_count a.place known.0 a.hashes.now _ known.1 known.2 _ c.next_place.ensures in
+    let passed = first-passed (days entry) a.words.now a.word_count a.place known.0 a.hashes.now _ known.1 known.2 _ c.next_place-before.ensures in
     (passed, refl)
 
-same-day-requires : tie.Need-same-day-requires invariant-loop decreases-loop
+same-day-requires : tie.Need-same_day-requires invariant-loop decreases-loop
 same-day-requires c κs =
     let inside = c.before in
     let entry = start inside.before in
     let a = entry.args in
     let pre = entry.pre in
-    let inv = inside.before.loop.invariant in (
-      ready-kept a.states.now a.span_counts.now a.spans.now a.lists.now _ _ _ inv.1 pre.0 _ inside.loop-test.true,
+    let inv = inside.before.loop-before.invariant in (
+      ready-kept a.states.now a.span_counts.now a.spans.now a.lists.now _ _ _ inv.1 pre.0 _ inside.loop-before-test.true,
       pre.1.0.0,
     )
 
-returns-2 : tie.Need-returns-2 invariant-loop decreases-loop
+returns-2 : tie.Need-returns-then-same_day invariant-loop decreases-loop
 returns-2 c =
     let same = equal c in
     let entry = start (loop same) in
-    day-found (days entry) _ _ _ entry.pre.1.1.0 (some (loop same)) _ (loop same).loop.inv.0 (sym c.if2.true ∙ same.same-day.ensures)
+    day-found (days entry) _ _ _ entry.pre.1.1.0 (some (loop same)) _ (loop same).loop.inv.0 (sym c.if-same_day.true ∙ same.same-day.ensures)
 
-loop-again : tie.Need-loop-preserved invariant-loop decreases-loop
+loop-again : tie.Need-loop-before-preserved invariant-loop decreases-loop
 loop-again c =
     let other = different c.before in
     let entry = start (loop other) in
@@ -91,12 +91,12 @@ loop-again c =
     let inv = (loop other).loop.inv in
     let kept = other.same-day.kept.1 in (
       more-passed (days entry) a.words.now a.word_count a.place known.0 a.hashes.now _ known.1 known.2 _ inv.0
-          (sym c.before.if2.false ∙ other.same-day.ensures) _ c.next-place2.ensures,
+          (sym c.before.if-same_day.false ∙ other.same-day.ensures) _ c.next_place-before-in-loop-before.ensures,
       kept.0 ∙ inv.1,
     )
 
-pub find-day-spec : {M : Type 1} → statement M
-find-day-spec =
+pub find_day_spec : {M : Type 1} → statement M
+find_day_spec =
     tie.close
     (tie.spec
     invariant-loop decreases-loop returns

@@ -8,14 +8,14 @@ use borrow.Author.Rules.{rules}
 use Rattle.day_memory.proofs.next_place.Statement.{statement}
 use Rattle.day_memory.proofs.next_place.Tie as tie
 
-abbrev invariant-loop : tie.invariant-loop
+abbrev invariant-loop : tie.invariant-loop-place
 invariant-loop hashes hash next end place₀ place = (next ≤ place) × (place ≤ end) × ((k : ℕ) → k < place → next ≤ k → get_or hashes k 0 ≡ hash → ⊥)
 
-abbrev decreases-loop : tie.decreases-loop
+abbrev decreases-loop : tie.decreases-loop-place
 decreases-loop hashes hash next end place₀ place = end - place
 
-pub next-place-spec : {M : Type 1} → statement M
-next-place-spec =
+pub next_place_spec : {M : Type 1} → statement M
+next_place_spec =
     tie.close
     (tie.spec
     invariant-loop decreases-loop

@@ -5,49 +5,49 @@ use borrow.Author.Rules.{rules}
 use Rattle.day_paint.proofs.write_day.Statement.{statement}
 use Rattle.day_paint.proofs.write_day.Tie as tie
 
-write-rising-requires : tie.Need-write-rising-requires
+write-rising-requires : tie.Need-write_rising-m-requires
 write-rising-requires c κs = search rules
 
-same_length : tie.Need-same-length
+same_length : tie.Need-shape_of-starts-then-m-gt0
 same_length c = search rules
 
-same-length-2 : tie.Need-same-length-2
+same-length-2 : tie.Need-shape_of-states-then-m-gt0
 same-length-2 c = search rules
 
-returns : tie.Need-returns
-returns c = c.before.before.before.before.before.write-rising.ensures c.if2.true
+returns : tie.Need-returns-then-m-gt0
+returns c = c.before.before.before.before.before.write_rising-m.ensures c.if-m-gt0.true
 
-write-pieces-requires : tie.Need-write-pieces-requires
+write-pieces-requires : tie.Need-write_pieces-requires
 write-pieces-requires c κs = search rules
 
-same-length-3 : tie.Need-same-length-3
+same-length-3 : tie.Need-shape_of-starts-then-k-lt-MANY
 same-length-3 c = search rules
 
-same-length-4 : tie.Need-same-length-4
+same-length-4 : tie.Need-shape_of-states-then-k-lt-MANY
 same-length-4 c = search rules
 
-returns-2 : tie.Need-returns-2
+returns-2 : tie.Need-returns-then-k-lt-MANY
 returns-2 c =
     let pieces = c.before.before.before.before in
     let rising = pieces.before.before.before.before.before.before.before.before in
     let pre = rising.before.before.before.before.before.before.before.requires in
-    let kept = rising.write-rising.auto in
-    day-pieces _ _ _ _ _ _ _ pieces.write-pieces.ensures (omega (arith, kept.0, pre.2)) (omega (arith, kept.1.0, pre.3))
+    let kept = rising.write_rising-m.auto in
+    day-pieces _ _ _ _ _ _ _ pieces.write_pieces.ensures (omega (arith, kept.0, pre.2)) (omega (arith, kept.1.0, pre.3))
 
-write-painted-requires : tie.Need-write-painted-requires
+write-painted-requires : tie.Need-write_painted-requires
 write-painted-requires c κs = search rules
 
-same-length-5 : tie.Need-same-length-5
+same-length-5 : tie.Need-shape_of-starts
 same-length-5 c = search rules
 
-same-length-6 : tie.Need-same-length-6
+same-length-6 : tie.Need-shape_of-states
 same-length-6 c = search rules
 
-returns-3 : tie.Need-returns-3
+returns-3 : tie.Need-returns
 returns-3 c = search rules
 
-pub write-day-spec : {M : Type 1} → statement M
-write-day-spec =
+pub write_day_spec : {M : Type 1} → statement M
+write_day_spec =
     tie.close
     (tie.spec
     write-rising-requires same_length same-length-2 returns write-pieces-requires same-length-3 same-length-4 returns-2 write-painted-requires

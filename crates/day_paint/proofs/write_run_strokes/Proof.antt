@@ -10,56 +10,56 @@ use Rattle.day_paint.proofs.StrokeReturns.{Finishes, run-paints, run-skips, run-
 use Rattle.day_paint.proofs.write_run_strokes.Statement.{statement}
 use Rattle.day_paint.proofs.write_run_strokes.Tie as tie
 
-abbrev invariant-loop : tie.invariant-loop
+abbrev invariant-loop : tie.invariant-loop-next
 invariant-loop strokes₀ k states spans s i n next₀ place₀ strokes next place = (place + (n - next) ≤ length strokes) × (length strokes ≡ length strokes₀) ×
     Finishes strokes place (strokes_of_run states spans s next (n - next)) strokes₀ k (strokes_of_run states spans s i (n - i))
 
-abbrev decreases-loop : tie.decreases-loop
+abbrev decreases-loop : tie.decreases-loop-next
 decreases-loop strokes₀ k states spans s i n next₀ place₀ strokes next place = n - next
 
-loop-holds : tie.Need-loop-init invariant-loop decreases-loop
+loop-holds : tie.Need-loop-next-init invariant-loop decreases-loop
 loop-holds c = (omega arith, refl, λ t r l. l)
 
-mul-x : tie.Need-overflow-mul-x invariant-loop decreases-loop
+mul-x : tie.Need-offset_bounds-states-next invariant-loop decreases-loop
 mul-x c = search rules
 
-shared-slice-read-x : tie.Need-shared-slice-read-x invariant-loop decreases-loop
+shared-slice-read-x : tie.Need-bounds-states-next invariant-loop decreases-loop
 shared-slice-read-x c = search rules
 
-same_length : tie.Need-same-length invariant-loop decreases-loop
-same_length c = c.before.before.before.loop.invariant.1
+same_length : tie.Need-shape_of-strokes-then-x-s invariant-loop decreases-loop
+same_length c = c.before.before.before.loop-next.invariant.1
 
-returns : tie.Need-returns invariant-loop decreases-loop
-returns c = c.before.before.before.loop.invariant.2 _ _ (run-over _ _ _ [] _ 0 _ _ _ (omega arith) c.if1.true)
+returns : tie.Need-returns-then-x-s invariant-loop decreases-loop
+returns c = c.before.before.before.loop-next.invariant.2 _ _ (run-over _ _ _ [] _ 0 _ _ _ (omega arith) c.if-x-s.true)
 
-mul-p : tie.Need-overflow-mul-p invariant-loop decreases-loop
+mul-p : tie.Need-offset_bounds-spans-next invariant-loop decreases-loop
 mul-p c = search rules
 
-shared-slice-read-p : tie.Need-shared-slice-read-p invariant-loop decreases-loop
+shared-slice-read-p : tie.Need-bounds-spans-next invariant-loop decreases-loop
 shared-slice-read-p c = search rules
 
-add-next : tie.Need-overflow-add-next invariant-loop decreases-loop
+add-next : tie.Need-overflow_add-next invariant-loop decreases-loop
 add-next c = search rules
 
-is-simple-requires : tie.Need-is-simple-requires invariant-loop decreases-loop
+is-simple-requires : tie.Need-is_simple-requires invariant-loop decreases-loop
 is-simple-requires c κs = search rules
 
 stroke-requires : tie.Need-stroke-requires invariant-loop decreases-loop
-stroke-requires c κs = sym c.before.is-simple.ensures ∙ c.if2.true
+stroke-requires c κs = sym c.before.is_simple.ensures ∙ c.if-is_simple.true
 
-mul-strokes : tie.Need-overflow-mul-strokes invariant-loop decreases-loop
+mul-strokes : tie.Need-offset_bounds-strokes-place invariant-loop decreases-loop
 mul-strokes c = search rules
 
-slice-write-strokes : tie.Need-slice-write-strokes invariant-loop decreases-loop
+slice-write-strokes : tie.Need-bounds-strokes-place invariant-loop decreases-loop
 slice-write-strokes c = search rules
 
-add-place : tie.Need-overflow-add-place invariant-loop decreases-loop
+add-place : tie.Need-overflow_add-place invariant-loop decreases-loop
 add-place c = search rules
 
-loop-less : tie.Need-loop-smaller invariant-loop decreases-loop
+loop-less : tie.Need-loop-next-smaller-then-is_simple invariant-loop decreases-loop
 loop-less c = search rules
 
-loop-again : tie.Need-loop-preserved invariant-loop decreases-loop
+loop-again : tie.Need-loop-next-preserved-then-is_simple invariant-loop decreases-loop
 loop-again c =
     let is-simple = c.before.before in
     let if1 = is-simple.before.before in
@@ -67,38 +67,38 @@ loop-again c =
     let entry = loop.before.before.before.before in
     let args = entry.args in (
       simp length-set (omega arith),
-      simp length-set loop.loop.invariant.1,
+      simp length-set loop.loop-next.invariant.1,
       λ t r l.
-          loop.loop.invariant.2 t r
-          (run-paints args.states.now args.spans.now loop.loop.strokes t loop.loop.place r loop.loop.next args.n args.s
-          (omega arith) if1.if1.false (sym is-simple.is-simple.ensures ∙ c.before.if2.true) _ c.stroke.ensures l),
+          loop.loop-next.invariant.2 t r
+          (run-paints args.states.now args.spans.now loop.loop-next.strokes t loop.loop-next.place r loop.loop-next.next args.n args.s
+          (omega arith) if1.if-x-s.false (sym is-simple.is_simple.ensures ∙ c.before.if-is_simple.true) _ c.stroke.ensures l),
     )
 
-loop-less-2 : tie.Need-loop-smaller-2 invariant-loop decreases-loop
+loop-less-2 : tie.Need-loop-next-smaller invariant-loop decreases-loop
 loop-less-2 c = search rules
 
-loop-again-2 : tie.Need-loop-preserved-2 invariant-loop decreases-loop
+loop-again-2 : tie.Need-loop-next-preserved invariant-loop decreases-loop
 loop-again-2 c =
     let if1 = c.before.before.before in
     let loop = if1.before.before.before in
     let entry = loop.before.before.before.before in
     let args = entry.args in (
       omega arith,
-      loop.loop.invariant.1,
+      loop.loop-next.invariant.1,
       λ t r l.
-          loop.loop.invariant.2 t r
-          (run-skips args.states.now args.spans.now loop.loop.strokes t loop.loop.place r loop.loop.next args.n args.s
-          (omega arith) if1.if1.false (sym c.before.is-simple.ensures ∙ c.if2.false) l),
+          loop.loop-next.invariant.2 t r
+          (run-skips args.states.now args.spans.now loop.loop-next.strokes t loop.loop-next.place r loop.loop-next.next args.n args.s
+          (omega arith) if1.if-x-s.false (sym c.before.is_simple.ensures ∙ c.if-is_simple.false) l),
     )
 
-same-length-2 : tie.Need-same-length-2 invariant-loop decreases-loop
-same-length-2 c = c.before.loop.invariant.1
+same-length-2 : tie.Need-shape_of-strokes invariant-loop decreases-loop
+same-length-2 c = c.before.loop-next.invariant.1
 
-returns-2 : tie.Need-returns-2 invariant-loop decreases-loop
-returns-2 c = c.before.loop.invariant.2 _ _ (run_ends _ _ _ [] _ 0 _ _ _ (omega arith))
+returns-2 : tie.Need-returns invariant-loop decreases-loop
+returns-2 c = c.before.loop-next.invariant.2 _ _ (run_ends _ _ _ [] _ 0 _ _ _ (omega arith))
 
-pub write-run-strokes-spec : {M : Type 1} → statement M
-write-run-strokes-spec =
+pub write_run_strokes_spec : {M : Type 1} → statement M
+write_run_strokes_spec =
     tie.close
     (tie.spec
     invariant-loop decreases-loop loop-holds mul-x shared-slice-read-x same_length returns mul-p shared-slice-read-p add-next is-simple-requires stroke-requires

@@ -10,92 +10,92 @@ use Rattle.day_paint.proofs.StrokeReturns.{Finishes, list-starts, list-paints, l
 use Rattle.day_paint.proofs.write_strokes.Statement.{statement}
 use Rattle.day_paint.proofs.write_strokes.Tie as tie
 
-abbrev invariant-loop : tie.invariant-loop
+abbrev invariant-loop : tie.invariant-loop-next
 invariant-loop strokes₀ states spans n next₀ place₀ strokes next place =
     (place + (n - next) ≤ length strokes) × (length strokes ≡ length strokes₀)
     × Finishes strokes place (strokes_from states spans next (n - next)) strokes₀ 0 (strokes_from states spans 0 n)
 
-abbrev decreases-loop : tie.decreases-loop
+abbrev decreases-loop : tie.decreases-loop-next
 decreases-loop strokes₀ states spans n next₀ place₀ strokes next place = n - next
 
-loop-holds : tie.Need-loop-init invariant-loop decreases-loop
+loop-holds : tie.Need-loop-next-init invariant-loop decreases-loop
 loop-holds c = (omega arith, refl, list-starts _ _ _ _)
 
-mul-p : tie.Need-overflow-mul-p invariant-loop decreases-loop
+mul-p : tie.Need-offset_bounds-spans-next invariant-loop decreases-loop
 mul-p c = search rules
 
-shared-slice-read-p : tie.Need-shared-slice-read-p invariant-loop decreases-loop
+shared-slice-read-p : tie.Need-bounds-spans-next invariant-loop decreases-loop
 shared-slice-read-p c = search rules
 
-mul-x : tie.Need-overflow-mul-x invariant-loop decreases-loop
+mul-x : tie.Need-offset_bounds-states-next invariant-loop decreases-loop
 mul-x c = search rules
 
-shared-slice-read-x : tie.Need-shared-slice-read-x invariant-loop decreases-loop
+shared-slice-read-x : tie.Need-bounds-states-next invariant-loop decreases-loop
 shared-slice-read-x c = search rules
 
-add-next : tie.Need-overflow-add-next invariant-loop decreases-loop
+add-next : tie.Need-overflow_add-next invariant-loop decreases-loop
 add-next c = search rules
 
-is-simple-requires : tie.Need-is-simple-requires invariant-loop decreases-loop
+is-simple-requires : tie.Need-is_simple-requires invariant-loop decreases-loop
 is-simple-requires c κs = search rules
 
 stroke-requires : tie.Need-stroke-requires invariant-loop decreases-loop
-stroke-requires c κs = sym c.before.is-simple.ensures ∙ c.if1.true
+stroke-requires c κs = sym c.before.is_simple.ensures ∙ c.if-is_simple.true
 
-mul-strokes : tie.Need-overflow-mul-strokes invariant-loop decreases-loop
+mul-strokes : tie.Need-offset_bounds-strokes-place invariant-loop decreases-loop
 mul-strokes c = search rules
 
-slice-write-strokes : tie.Need-slice-write-strokes invariant-loop decreases-loop
+slice-write-strokes : tie.Need-bounds-strokes-place invariant-loop decreases-loop
 slice-write-strokes c = search rules
 
-add-place : tie.Need-overflow-add-place invariant-loop decreases-loop
+add-place : tie.Need-overflow_add-place invariant-loop decreases-loop
 add-place c = search rules
 
-loop-less : tie.Need-loop-smaller invariant-loop decreases-loop
+loop-less : tie.Need-loop-next-smaller invariant-loop decreases-loop
 loop-less c = search rules
 
-loop-again : tie.Need-loop-preserved invariant-loop decreases-loop
+loop-again : tie.Need-loop-next-preserved invariant-loop decreases-loop
 loop-again c =
     let is-simple = c.before.before in
     let loop = is-simple.before.before.before.before in
     let start = loop.before.before.before.before in
     let args = start.args in
-    let on = loop.loop in (
+    let on = loop.loop-next in (
       simp length-set (omega arith),
       simp length-set on.invariant.1,
       λ t r l.
           on.invariant.2 t r
           (list-paints args.states.now args.spans.now on.strokes t on.place r on.next args.n (omega arith)
-          (sym is-simple.is-simple.ensures ∙ c.before.if1.true) _ c.stroke.ensures l),
+          (sym is-simple.is_simple.ensures ∙ c.before.if-is_simple.true) _ c.stroke.ensures l),
     )
 
-write-run-strokes-requires : tie.Need-write-run-strokes-requires invariant-loop decreases-loop
+write-run-strokes-requires : tie.Need-write_run_strokes-requires invariant-loop decreases-loop
 write-run-strokes-requires c κs = search rules
 
-same_length : tie.Need-same-length invariant-loop decreases-loop
+same_length : tie.Need-shape_of-strokes-in-loop-next invariant-loop decreases-loop
 same_length c =
     let write-run-strokes = c.before.before in
     let loop = write-run-strokes.before.before.before.before.before.before.before in
-    write-run-strokes.write-run-strokes.auto.0 ∙ loop.loop.invariant.1
+    write-run-strokes.write_run_strokes.auto.0 ∙ loop.loop-next.invariant.1
 
-returns : tie.Need-returns invariant-loop decreases-loop
+returns : tie.Need-returns-in-loop-next invariant-loop decreases-loop
 returns c =
     let written = c.before.before in
     let other = written.before.before in
     let is-simple = other.before in
     let loop = is-simple.before.before.before.before in
-    let found = sym is-simple.is-simple.ensures ∙ other.if1.false in
-    let laid = loop.loop.invariant.2 _ _ (list-runs _ _ _ _ _ _ _ _ (omega arith) found written.write-run-strokes.ensures) in
+    let found = sym is-simple.is_simple.ensures ∙ other.if-is_simple.false in
+    let laid = loop.loop-next.invariant.2 _ _ (list-runs _ _ _ _ _ _ _ _ (omega arith) found written.write_run_strokes.ensures) in
     (laid.0, omega (arith, laid.1))
 
-same-length-2 : tie.Need-same-length-2 invariant-loop decreases-loop
-same-length-2 c = c.before.loop.invariant.1
+same-length-2 : tie.Need-shape_of-strokes invariant-loop decreases-loop
+same-length-2 c = c.before.loop-next.invariant.1
 
-returns-2 : tie.Need-returns-2 invariant-loop decreases-loop
-returns-2 c = let laid = c.before.loop.invariant.2 _ _ (list-ends _ _ _ [] _ 0 _ _ (omega arith)) in (laid.0, omega (arith, laid.1))
+returns-2 : tie.Need-returns invariant-loop decreases-loop
+returns-2 c = let laid = c.before.loop-next.invariant.2 _ _ (list-ends _ _ _ [] _ 0 _ _ (omega arith)) in (laid.0, omega (arith, laid.1))
 
-pub write-strokes-spec : {M : Type 1} → statement M
-write-strokes-spec =
+pub write_strokes_spec : {M : Type 1} → statement M
+write_strokes_spec =
     tie.close
     (tie.spec
     invariant-loop decreases-loop loop-holds mul-p shared-slice-read-p mul-x shared-slice-read-x add-next is-simple-requires stroke-requires mul-strokes

@@ -10,20 +10,20 @@ span-requires c κs = search rules
 put-requires : tie.Need-put-requires
 put-requires c κs = search rules
 
-add-result : tie.Need-overflow-add-result
+add-result : tie.Need-overflow_add-result
 add-result c = search rules
 
-same_length : tie.Need-same-length
+same_length : tie.Need-shape_of-out-then-a-c
 same_length c = search rules
 
-returns : tie.Need-returns
+returns : tie.Need-returns-then-a-c
 returns c =
     let put = c.before.before in
-    run-there _ _ _ _ _ _ put.before.before.before.if1.true put.before.span.ensures put.put.ensures
+    run-there _ _ _ _ _ _ put.before.before.before.if-a-c.true put.before.span.ensures put.put.ensures
 
-returns-2 : tie.Need-returns-2
-returns-2 c = run_none _ _ _ _ c.if1.false
+returns-2 : tie.Need-returns
+returns-2 c = run_none _ _ _ _ c.if-a-c.false
 
-pub put-run-spec : {M : Type 1} → statement M
-put-run-spec =
+pub put_run_spec : {M : Type 1} → statement M
+put_run_spec =
     tie.close (tie.spec span-requires put-requires add-result same_length returns returns-2)

@@ -8,35 +8,35 @@ use Rattle.day_sweep.proofs.RowReturns.{ClassesOn, classes-on, classes-closed, c
 use Rattle.day_sweep.proofs.sweep_chained.Statement.{statement}
 use Rattle.day_sweep.proofs.sweep_chained.Tie as tie
 
-abbrev invariant-loop : tie.invariant-loop
+abbrev invariant-loop : tie.invariant-loop-class
 invariant-loop out₀ chain minute-cuts interval-states₀ n class₀ place₀ out interval-states class place =
     ClassesOn minute-cuts interval-states₀ n out₀ class place out interval-states × Chained chain interval-states n
 
-abbrev decreases-loop : tie.decreases-loop
+abbrev decreases-loop : tie.decreases-loop-class
 decreases-loop out₀ chain minute-cuts interval-states₀ n class₀ place₀ out interval-states class place = 6 - class
 
-loop-holds : tie.Need-loop-init invariant-loop decreases-loop
+loop-holds : tie.Need-loop-class-init invariant-loop decreases-loop
 loop-holds c =
     let entry = c.before.before.before.before in
     (record { between = (omega arith, omega arith); room = omega arith; lengths = (refl, refl); finishes = λ t r h. h }, entry.requires.1.1)
 
-all-closed-requires : tie.Need-all-closed-requires invariant-loop decreases-loop
+all-closed-requires : tie.Need-all_closed-requires invariant-loop decreases-loop
 all-closed-requires c κs =
     let loop = c.before.before in
     let entry = loop.before.before.before.before.before in
     omega (arith, loop.loop.invariant.0.lengths.1, entry.requires.0)
 
-same_length : tie.Need-same-length invariant-loop decreases-loop
+same_length : tie.Need-shape_of-out-then-all_closed invariant-loop decreases-loop
 same_length c = c.before.before.before.before.loop.invariant.0.lengths.0
 
-same-length-2 : tie.Need-same-length-2 invariant-loop decreases-loop
+same-length-2 : tie.Need-shape_of-interval_states-then-all_closed invariant-loop decreases-loop
 same-length-2 c = c.before.before.before.before.loop.invariant.0.lengths.1
 
-returns : tie.Need-returns invariant-loop decreases-loop
+returns : tie.Need-returns-then-all_closed invariant-loop decreases-loop
 returns c =
-    classes-closed _ _ _ _ _ _ _ _ c.before.before.before.before.loop.invariant.0 (sym c.before.all_closed.ensures ∙ c.if1.true)
+    classes-closed _ _ _ _ _ _ _ _ c.before.before.before.before.loop.invariant.0 (sym c.before.all_closed.ensures ∙ c.if-all_closed.true)
 
-sweep-class-requires : tie.Need-sweep-class-requires invariant-loop decreases-loop
+sweep-class-requires : tie.Need-sweep_class-place-requires invariant-loop decreases-loop
 sweep-class-requires c κs =
     let turn = c.before.before.before.before.before in
     let loop = turn.before in
@@ -47,36 +47,36 @@ sweep-class-requires c κs =
       ((omega (arith, pre.0), omega (arith, pre.0), omega (arith, pre.0, on.lengths)), (pre.1.0, loop.loop.invariant.1)),
     )
 
-add-class : tie.Need-overflow-add-class invariant-loop decreases-loop
+add-class : tie.Need-overflow_add-class invariant-loop decreases-loop
 add-class c = search rules
 
-loop-less : tie.Need-loop-smaller invariant-loop decreases-loop
+loop-less : tie.Need-loop-class-smaller invariant-loop decreases-loop
 loop-less c = search rules
 
-loop-again : tie.Need-loop-preserved invariant-loop decreases-loop
+loop-again : tie.Need-loop-class-preserved invariant-loop decreases-loop
 loop-again c =
     let sweep-class = c.before.before.before.before in
     let turn = sweep-class.before.before.before.before.before.before in
     let loop = turn.before in
     let few = loop.before.before.before.before.before.requires.0.0 in
-    let swept = sweep-class.sweep-class.ensures in
-    let kept = sweep-class.sweep-class.auto in (
+    let swept = sweep-class.sweep_class-place.ensures in
+    let kept = sweep-class.sweep_class-place.auto in (
       classes-on _ _ _ _ _ _ _ _ loop.loop.invariant.0 turn.loop-test.true (omega (arith, few)) _ _ _ (swept.0, swept.1, swept.2) swept.3
           (kept.0, kept.1.1.1.1.0),
       swept.4,
     )
 
-same-length-3 : tie.Need-same-length-3 invariant-loop decreases-loop
-same-length-3 c = c.before.loop.invariant.0.lengths.0
+same-length-3 : tie.Need-shape_of-out invariant-loop decreases-loop
+same-length-3 c = c.before.loop-class.invariant.0.lengths.0
 
-same-length-4 : tie.Need-same-length-4 invariant-loop decreases-loop
-same-length-4 c = c.before.loop.invariant.0.lengths.1
+same-length-4 : tie.Need-shape_of-interval_states invariant-loop decreases-loop
+same-length-4 c = c.before.loop-class.invariant.0.lengths.1
 
-returns-2 : tie.Need-returns-2 invariant-loop decreases-loop
-returns-2 c = classes-done _ _ _ _ _ _ _ _ c.before.loop.invariant.0 (omega arith)
+returns-2 : tie.Need-returns invariant-loop decreases-loop
+returns-2 c = classes-done _ _ _ _ _ _ _ _ c.before.loop-class.invariant.0 (omega arith)
 
-pub sweep-chained-spec : {M : Type 1} → statement M
-sweep-chained-spec =
+pub sweep_chained_spec : {M : Type 1} → statement M
+sweep_chained_spec =
     tie.close
     (tie.spec
     invariant-loop decreases-loop loop-holds all-closed-requires same_length same-length-2 returns sweep-class-requires add-class loop-less loop-again

@@ -4,35 +4,35 @@ use borrow.Author.Rules.{rules}
 use Rattle.day_sweep.proofs.sweep_classes.Statement.{statement}
 use Rattle.day_sweep.proofs.sweep_classes.Tie as tie
 
-bare-heads-requires : tie.Need-bare-heads-requires
+bare-heads-requires : tie.Need-bare_heads-heads-requires
 bare-heads-requires c κs = search rules
 
-slice-aggregate-link : tie.Need-slice-aggregate-link
+slice-aggregate-link : tie.Need-slice_bounds-link-end
 slice-aggregate-link c = search rules
 
 link-requires : tie.Need-link-requires
 link-requires c κs = search rules
 
-sweep-chained-requires : tie.Need-sweep-chained-requires
+sweep-chained-requires : tie.Need-sweep_chained-requires
 sweep-chained-requires c κs =
     let link = c.before.before.before.before.before.before in
     let pre = link.before.before.before.before.before.before.before.before.before.requires in
     ((pre.0.0, omega (arith, link.link.auto.0, pre.0.1), pre.0.2, pre.0.3), (pre.1, link.link.ensures))
 
-same_length : tie.Need-same-length
+same_length : tie.Need-shape_of-out
 same_length c = search rules
 
-same-length-2 : tie.Need-same-length-2
+same-length-2 : tie.Need-shape_of-buf
 same-length-2 c = search rules
 
-same-length-3 : tie.Need-same-length-3
+same-length-3 : tie.Need-shape_of-interval_states
 same-length-3 c = search rules
 
 returns : tie.Need-returns
 returns c = search rules
 
-pub sweep-classes-spec : {M : Type 1} → statement M
-sweep-classes-spec =
+pub sweep_classes_spec : {M : Type 1} → statement M
+sweep_classes_spec =
     tie.close
     (tie.spec
     bare-heads-requires slice-aggregate-link link-requires sweep-chained-requires same_length same-length-2 same-length-3 returns)

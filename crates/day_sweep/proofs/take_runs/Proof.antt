@@ -10,60 +10,60 @@ use Rattle.day_sweep.proofs.Chains.{chained-clear, cleared-on}
 use Rattle.day_sweep.proofs.take_runs.Statement.{statement}
 use Rattle.day_sweep.proofs.take_runs.Tie as tie
 
-abbrev invariant-loop : tie.invariant-loop
+abbrev invariant-loop : tie.invariant-loop-i
 invariant-loop out₀ at chain minute-cuts interval-states₀ s j n i₀ place₀ out interval-states i place =
     (length out ≡ length out₀) × (length interval-states ≡ length interval-states₀) × Chained chain interval-states n ×
     Taking minute-cuts interval-states₀ s n out₀ at j out place interval-states i
 
-abbrev decreases-loop : tie.decreases-loop
+abbrev decreases-loop : tie.decreases-loop-i
 decreases-loop out₀ at chain minute-cuts interval-states₀ s j n i₀ place₀ out interval-states i place = n - i
 
-loop-holds : tie.Need-loop-init invariant-loop decreases-loop
+loop-holds : tie.Need-loop-i-init invariant-loop decreases-loop
 loop-holds c =
     let pre = c.before.before.before.before.requires in
     (refl, refl, pre.1.1.2, taking-start _ _ _ _ _ _ _ pre.0.0 pre.1.1.0)
 
-clear-run-requires : tie.Need-clear-run-requires invariant-loop decreases-loop
+clear-run-requires : tie.Need-clear_run-end-requires invariant-loop decreases-loop
 clear-run-requires c κs =
     let loop = c.before.before in
     let entry = loop.before.before.before.before.before in
-    (loop.loop.invariant.3.up_to, omega (arith, loop.loop.invariant.1, entry.requires.0.4))
+    (loop.loop-i.invariant.3.up_to, omega (arith, loop.loop-i.invariant.1, entry.requires.0.4))
 
-mul-put-run : tie.Need-overflow-mul-put-run invariant-loop decreases-loop
+mul-put-run : tie.Need-offset_bounds-minute_cuts-i invariant-loop decreases-loop
 mul-put-run c = search rules
 
-shared-slice-read-put-run : tie.Need-shared-slice-read-put-run invariant-loop decreases-loop
+shared-slice-read-put-run : tie.Need-bounds-minute_cuts-i invariant-loop decreases-loop
 shared-slice-read-put-run c =
     let loop = c.before.before.before.before.before.before.before in
     let entry = loop.before.before.before.before.before in
-    omega (arith, loop.loop.invariant.3.up_to, entry.requires.0.3)
+    omega (arith, loop.loop-i.invariant.3.up_to, entry.requires.0.3)
 
-mul-put-run-2 : tie.Need-overflow-mul-put-run-2 invariant-loop decreases-loop
+mul-put-run-2 : tie.Need-offset_bounds-minute_cuts-end invariant-loop decreases-loop
 mul-put-run-2 c = search rules
 
-shared-slice-read-put-run-2 : tie.Need-shared-slice-read-put-run-2 invariant-loop decreases-loop
+shared-slice-read-put-run-2 : tie.Need-bounds-minute_cuts-end invariant-loop decreases-loop
 shared-slice-read-put-run-2 c =
     let clear-run = c.before.before.before.before.before in
     let entry = clear-run.before.before.before.before.before.before.before.before in
-    omega (arith, clear-run.clear-run.ensures.1, entry.requires.0.3)
+    omega (arith, clear-run.clear_run-end.ensures.1, entry.requires.0.3)
 
-put-run-requires : tie.Need-put-run-requires invariant-loop decreases-loop
+put-run-requires : tie.Need-put_run-place-requires invariant-loop decreases-loop
 put-run-requires c κs =
     let clear-run = c.before.before.before.before.before in
     let loop = clear-run.before.before.before in
     let entry = loop.before.before.before.before.before in
-    let taking = loop.loop.invariant.3 in
+    let taking = loop.loop-i.invariant.3 in
     let small = entry.requires.1.0 in
-    (omega (arith, taking.room, entry.requires.0.1), small loop.loop.i taking.up_to, small clear-run.clear-run.result clear-run.clear-run.ensures.1)
+    (omega (arith, taking.room, entry.requires.0.1), small loop.loop-i.i taking.up_to, small clear-run.clear_run-end.result clear-run.clear_run-end.ensures.1)
 
-sub-next-of : tie.Need-overflow-sub-next-of invariant-loop decreases-loop
+sub-next-of : tie.Need-overflow_sub-end invariant-loop decreases-loop
 sub-next-of c =
     let clear-run = c.before.before.before.before.before.before.before.before.before in
     let turn = clear-run.before.before in
     let loop = turn.before in
     omega (arith, run_on _ _ _ _ _ _ _ _ _ _ _ loop.loop.invariant.3 turn.loop-test.true _ _ clear-run.clear-run.ensures)
 
-next-of-requires : tie.Need-next-of-requires invariant-loop decreases-loop
+next-of-requires : tie.Need-next_of-i-requires invariant-loop decreases-loop
 next-of-requires c κs =
     let clear-run = c.before.before.before.before.before.before.before.before.before in
     let turn = clear-run.before.before in
@@ -80,15 +80,15 @@ next-of-requires c κs =
       ),
     )
 
-loop-less : tie.Need-loop-smaller invariant-loop decreases-loop
+loop-less : tie.Need-loop-i-smaller invariant-loop decreases-loop
 loop-less c =
     let clear-run = c.before.before.before.before.before.before.before.before.before.before in
     let turn = clear-run.before.before in
     let loop = turn.before in
     let up = run_on _ _ _ _ _ _ _ _ _ _ _ loop.loop.invariant.3 turn.loop-test.true _ _ clear-run.clear-run.ensures in
-    omega (arith, up, turn.loop-test.true, c.next_of.ensures.0)
+    omega (arith, up, turn.loop-test.true, c.next_of-i.ensures.0)
 
-loop-again : tie.Need-loop-preserved invariant-loop decreases-loop
+loop-again : tie.Need-loop-i-preserved invariant-loop decreases-loop
 loop-again c =
     let put-run = c.before.before.before.before in
     let clear-run = put-run.before.before.before.before.before.before in
@@ -100,20 +100,20 @@ loop-again c =
       put-run.put-run.auto.0 ∙ inv.0,
       clear-run.clear-run.auto.0 ∙ inv.1,
       chained-clear _ _ _ _ _ _ (omega (arith, run.0, run.1, inv.1, entry.requires.0.4)) _ run.2 inv.2,
-      taking-on _ _ _ _ _ _ _ _ _ _ _ inv.3 turn.loop-test.true _ _ run _ _ put-run.put-run.ensures _ c.next_of.ensures,
+      taking-on _ _ _ _ _ _ _ _ _ _ _ inv.3 turn.loop-test.true _ _ run _ _ put-run.put-run.ensures _ c.next_of-i.ensures,
     )
 
-same_length : tie.Need-same-length invariant-loop decreases-loop
-same_length c = c.before.loop.invariant.0
+same_length : tie.Need-shape_of-out invariant-loop decreases-loop
+same_length c = c.before.loop-i.invariant.0
 
-same-length-2 : tie.Need-same-length-2 invariant-loop decreases-loop
-same-length-2 c = c.before.loop.invariant.1
+same-length-2 : tie.Need-shape_of-interval_states invariant-loop decreases-loop
+same-length-2 c = c.before.loop-i.invariant.1
 
 returns : tie.Need-returns invariant-loop decreases-loop
-returns c = taking-ends _ _ _ _ _ _ _ _ _ _ _ c.before.loop.invariant.3 (omega (arith, c.loop-test.false))
+returns c = taking-ends _ _ _ _ _ _ _ _ _ _ _ c.before.loop-i.invariant.3 (omega (arith, c.loop-i-test.false))
 
-pub take-runs-spec : {M : Type 1} → statement M
-take-runs-spec =
+pub take_runs_spec : {M : Type 1} → statement M
+take_runs_spec =
     tie.close
     (tie.spec
     invariant-loop decreases-loop loop-holds clear-run-requires mul-put-run shared-slice-read-put-run mul-put-run-2 shared-slice-read-put-run-2 put-run-requires

@@ -24,8 +24,8 @@ measure-entries-at t = and 2 measure-entries-kinds.ps (is 2 measure-entries-kind
 abbrev measure-entries-below : ℕ → In 2 measure-entries-kinds.ps
 measure-entries-below t = and 2 measure-entries-kinds.ps (falls 2 measure-entries-kinds.ps ◌<◌ μ-measure-entries t) measure-entries.Pre
 
-pub +measure-entries-spec : {M : Type 1} → statement M
-+measure-entries-spec = close μ-measure-entries λ t. measure-entries-lts.spec
+pub +measure_entries_spec : {M : Type 1} → statement M
++measure_entries_spec = close μ-measure-entries λ t. measure-entries-lts.spec
     (u64-to-usize-reads.Asked, u64-to-usize-reads.Learnt, rule-bits-reads.Asked, rule-bits-reads.Learnt, measure-entries-below t, measure-entries.Post)
     (measure-entries-at t)
     measure-entries.Post

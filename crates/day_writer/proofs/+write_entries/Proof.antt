@@ -26,8 +26,8 @@ write-entries-at t = and 4 write-entries-kinds.ps (is 4 write-entries-kinds.ps �
 abbrev write-entries-below : ℕ → In 4 write-entries-kinds.ps
 write-entries-below t = and 4 write-entries-kinds.ps (falls 4 write-entries-kinds.ps ◌<◌ μ-write-entries t) write-entries.Pre
 
-pub +write-entries-spec : {M : Type 1} → statement M
-+write-entries-spec = close μ-write-entries λ t. write-entries-lts.spec
+pub +write_entries_spec : {M : Type 1} → statement M
++write_entries_spec = close μ-write-entries λ t. write-entries-lts.spec
     (u64-to-usize-reads.Asked, u64-to-usize-reads.Learnt, put-rule-reads.Asked, put-rule-reads.Learnt, write-entries-below t, write-entries.Post)
     (write-entries-at t)
     write-entries.Post

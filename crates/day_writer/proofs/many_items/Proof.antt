@@ -8,35 +8,35 @@ use Rattle.day_writer.proofs.Counted.{many_from, many-here, many-later, many-end
 use Rattle.day_writer.proofs.many_items.Statement.{statement}
 use Rattle.day_writer.proofs.many_items.Tie as tie
 
-abbrev invariant-loop : tie.invariant-loop
+abbrev invariant-loop : tie.invariant-loop-sort
 invariant-loop item-counts most sort₀ sort = (sort ≤ 4) × (many_from most item-counts sort ≡ many_from most item-counts 0)
 
-abbrev decreases-loop : tie.decreases-loop
+abbrev decreases-loop : tie.decreases-loop-sort
 decreases-loop item-counts most sort₀ sort = 4 - sort
 
-returns : tie.Need-returns invariant-loop decreases-loop
+returns : tie.Need-returns-then-item_counts-sort invariant-loop decreases-loop
 returns c =
     let loop = c.before.before.before in
     let args = loop.before.before.before.args in
     let counts = args.item-counts.now in
-    sym (many-here _ counts loop.loop.sort (omega arith) c.if1.true) ∙ loop.loop.invariant.1 ∙ many-asked (as_form args.form) _ counts loop.before.most-items.ensures
+    sym (many-here _ counts loop.loop-sort.sort (omega arith) c.if-item_counts-sort.true) ∙ loop.loop-sort.invariant.1 ∙ many-asked (as_form args.form) _ counts loop.before.most_items-most.ensures
 
-loop-again : tie.Need-loop-preserved invariant-loop decreases-loop
+loop-again : tie.Need-loop-sort-preserved invariant-loop decreases-loop
 loop-again c =
     let loop = c.before.before.before in
     let args = loop.before.before.before.args in
     let counts = args.item-counts.now in
-    (omega arith, sym (many-later _ counts loop.loop.sort (omega arith) c.if1.false) ∙ loop.loop.invariant.1)
+    (omega arith, sym (many-later _ counts loop.loop-sort.sort (omega arith) c.if-item_counts-sort.false) ∙ loop.loop-sort.invariant.1)
 
-returns-2 : tie.Need-returns-2 invariant-loop decreases-loop
+returns-2 : tie.Need-returns invariant-loop decreases-loop
 returns-2 c =
     let loop = c.before in
     let args = loop.before.before.before.args in
     let counts = args.item-counts.now in
-    sym (many-ends _ counts loop.loop.sort (omega arith)) ∙ loop.loop.invariant.1 ∙ many-asked (as_form args.form) _ counts loop.before.most-items.ensures
+    sym (many-ends _ counts loop.loop-sort.sort (omega arith)) ∙ loop.loop-sort.invariant.1 ∙ many-asked (as_form args.form) _ counts loop.before.most_items-most.ensures
 
-pub many-items-spec : {M : Type 1} → statement M
-many-items-spec =
+pub many_items_spec : {M : Type 1} → statement M
+many_items_spec =
     tie.close
     (tie.spec invariant-loop decreases-loop (λ c κs. search rules) (λ c. (omega arith, refl)) (λ c. omega arith) (λ c. omega (arith, c.before.before.before.before.before.requires))
     returns (λ c. omega arith) (λ c. omega arith) loop-again returns-2)

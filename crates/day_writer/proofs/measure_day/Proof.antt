@@ -28,7 +28,7 @@ sized c ends h =
     let measured = c.measure-entries.ensures.0 0 ends h in
     (ap length same ∙ measured.0, ap (λ rs. length (rules_bits (as_form a.form) rs)) same ∙ measured.1)
 
-returns : tie.Need-returns
+returns : tie.Need-returns-then-size-gt0
 returns c =
     let measured = c.before.before in
     let entry = measured.before.before.before in
@@ -37,13 +37,13 @@ returns c =
           let size = sized measured ends h in (
             size.0,
             size.1,
-            some-counted (as_form a.form) ends a.item-counts.now h (items-wide a.form) _ entry.requires.1.0.carried _ size.0 c.before.if1.true ∙ sym c.many-items.ensures,
+            some-counted (as_form a.form) ends a.item-counts.now h (items-wide a.form) _ entry.requires.1.0.carried _ size.0 c.before.if-size-gt0.true ∙ sym c.many_items.ensures,
           ),
-      measured.measure-entries.ensures.1,
-      measured.measure-entries.ensures.2,
+      measured.measure_entries-size.ensures.1,
+      measured.measure_entries-size.ensures.2,
     )
 
-returns-2 : tie.Need-returns-2
+returns-2 : tie.Need-returns-else-size-gt0
 returns-2 c =
     let measured = c.before in
     let entry = measured.before.before.before in
@@ -52,12 +52,12 @@ returns-2 c =
           let size = sized measured ends h in (
             size.0,
             size.1,
-            none-counted (as_form a.form) ends a.item-counts.now h (items-wide a.form) _ entry.requires.1.0.carried _ size.0 (omega (arith, c.if1.false))
-                ∙ sym (le-ltb 0 measured.measure-entries.result.rules (omega (arith, c.if1.false))),
+            none-counted (as_form a.form) ends a.item-counts.now h (items-wide a.form) _ entry.requires.1.0.carried _ size.0 (omega (arith, c.if-size-gt0.false))
+                ∙ sym (le-ltb 0 measured.measure_entries-size.result.rules (omega (arith, c.if-size-gt0.false))),
           ),
-      measured.measure-entries.ensures.1,
-      measured.measure-entries.ensures.2,
+      measured.measure_entries-size.ensures.1,
+      measured.measure_entries-size.ensures.2,
     )
 
-pub measure-day-spec : {M : Type 1} → statement M
-measure-day-spec = tie.close (tie.spec (λ c κs. search rules) (λ c κs. search rules) returns returns-2)
+pub measure_day_spec : {M : Type 1} → statement M
+measure_day_spec = tie.close (tie.spec (λ c κs. search rules) (λ c κs. search rules) returns returns-2)

@@ -12,7 +12,7 @@ use Rattle.day_writer.proofs.Laid.{entries-day}
 use Rattle.day_writer.proofs.write_day.Statement.{statement}
 use Rattle.day_writer.proofs.write_day.Tie as tie
 
-write-entries-requires : tie.Need-write-entries-requires
+write-entries-requires : tie.Need-write_entries-requires
 write-entries-requires c κs =
     let entry = c.before.before.before.before.before in
     let a = entry.args in
@@ -38,5 +38,5 @@ returns c =
     wrote_as (ap (rules_bits (as_form a.form)) (sym (entries-day (rows_below a.ends.now a.item-counts.now 4) (day_in a.words.now 0 a.count))))
     write_entries.write_entries.ensures
 
-pub write-day-spec : {M : Type 1} → statement M
-write-day-spec = tie.close (tie.spec write-entries-requires (λ c. search rules) returns)
+pub write_day_spec : {M : Type 1} → statement M
+write_day_spec = tie.close (tie.spec write-entries-requires (λ c. search rules) returns)

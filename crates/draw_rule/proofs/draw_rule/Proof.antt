@@ -8,8 +8,8 @@ use Rattle.draw_rule.proofs.Meaning.{rule-drawn}
 use Rattle.draw_rule.proofs.draw_rule.Statement.{statement}
 use Rattle.draw_rule.proofs.draw_rule.Tie as tie
 
-pub draw-rule-spec : {M : Type 1} → statement M
-draw-rule-spec =
+pub draw_rule_spec : {M : Type 1} → statement M
+draw_rule_spec =
     tie.close
     (tie.spec
     (λ c κs. search rules) (λ c. search rules) (λ c κs. search rules) (λ c. search rules)

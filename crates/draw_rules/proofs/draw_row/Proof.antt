@@ -4,7 +4,7 @@ use Rattle.draw_rules.proofs.Tables.{lent-lawful, lent-drew}
 use Rattle.draw_rules.proofs.draw_row.Statement.{statement}
 use Rattle.draw_rules.proofs.draw_row.Tie as tie
 
-draw-rule-requires : tie.Need-draw-rule-requires
+draw-rule-requires : tie.Need-draw_rule-requires
 draw-rule-requires c κs =
     let entry = c.before.before.before.before.before.before.before.before.before.before.before.before.before in
     let a = entry.args in
@@ -15,10 +15,10 @@ returns : tie.Need-returns
 returns c =
     let drawing = c.before.before.before.before.before.before in
     let a = drawing.before.before.before.before.before.before.before.before.before.before.before.before.before.before.args in
-    lent-drew a.sizes.now a.range-counts.now a.row-starts.now a.cuts.now a.ranges.now a.rule _ _ _ _ _ _ _ _ _ drawing.draw-rule.ensures
+    lent-drew a.sizes.now a.range-counts.now a.row-starts.now a.cuts.now a.ranges.now a.rule _ _ _ _ _ _ _ _ _ drawing.draw_rule.ensures
 
-pub draw-row-spec : {M : Type 1} → statement M
-draw-row-spec =
+pub draw_row_spec : {M : Type 1} → statement M
+draw_row_spec =
     tie.close
     (tie.spec
     (λ c. search rules) (λ c. search rules) (λ c. search rules) (λ c. search rules)

@@ -12,12 +12,12 @@ use Rattle.draw_rules.proofs.Going.{Going, places-kept, going_start, going-ready
 use Rattle.draw_rules.proofs.draw_rules.Statement.{statement}
 use Rattle.draw_rules.proofs.draw_rules.Tie as tie
 
-abbrev invariant-loop : tie.invariant-loop
+abbrev invariant-loop : tie.invariant-loop-rule
 invariant-loop cells₀ lists₀ memo₀ rows sizes cuts replacing counts ranges rules most used₀ rule₀ cells lists memo used rule =
     (rule ≤ rules) × (length cells ≡ length cells₀) × (length lists ≡ length lists₀) × (length memo ≡ length memo₀) × (used ≤ most) × ((k : ℕ) → get_or memo k 0 ≤ used)
     × Going replacing counts ranges rows sizes cuts rules cells lists used rule
 
-abbrev decreases-loop : tie.decreases-loop
+abbrev decreases-loop : tie.decreases-loop-rule
 decreases-loop cells₀ lists₀ memo₀ rows sizes cuts replacing counts ranges rules most used₀ rule₀ cells lists memo used rule = rules - rule
 
 -- from where the rule's lists are judged back to where they were settled, to where the rule was drawn, to the loop's turn, and to where the function
@@ -37,24 +37,24 @@ drawn c = drawing c.before.before.before.before.before
 abbrev settling : tie.After-lists-over invariant-loop decreases-loop → tie.After-settle invariant-loop decreases-loop
 settling c = c.before.before.before.before.before.before.before
 
-draw-row-requires : tie.Need-draw-row-requires invariant-loop decreases-loop
+draw-row-requires : tie.Need-draw_row-drawn-requires invariant-loop decreases-loop
 draw-row-requires c κs =
     let loop-test = c.before.before.before.before in
     let loop = loop-test.before in
     let pre = (start loop).requires in
-    let inv = loop.loop.invariant in
+    let inv = loop.loop-rule.invariant in
     let t = pre.0.1 in
-    let here = loop-test.loop-test.true in
+    let here = loop-test.loop-rule-test.true in
     let places = places-kept _ _ inv.1 inv.2 inv.3 pre.1.places in (
       rule-there _ _ _ _ _ _ _ _ t _ here,
       (
         tables-lawful _ _ _ _ _ _ _ _ t _ here,
-        (going-ready _ _ _ _ _ _ _ _ _ _ _ _ _ places inv.4 inv.5 inv.6 _ t, going-node _ _ _ _ _ _ _ _ _ loop.loop.memo _ _ _ places inv.4 inv.5 inv.6 _ t),
+        (going-ready _ _ _ _ _ _ _ _ _ _ _ _ _ places inv.4 inv.5 inv.6 _ t, going-node _ _ _ _ _ _ _ _ _ loop.loop-rule.memo _ _ _ places inv.4 inv.5 inv.6 _ t),
       ),
     )
 
 -- 6
-returns : tie.Need-returns invariant-loop decreases-loop
+returns : tie.Need-returns-then-drawn invariant-loop decreases-loop
 returns c =
     let draws = drawing c.before in
     let loop-test = turn draws in
@@ -63,9 +63,9 @@ returns c =
     let inv = loop.loop.inv in
     let places = places-kept _ _ inv.1 inv.2 inv.3 pre.1.places in
     λ rs t. going-long _ _ _ _ _ _ _ _ _ loop.loop.memo _ _ _ places inv.4 inv.5 inv.6 loop-test.loop-test.taken
-    _ _ _ _ _ draws.draw-row.ensures c.if1.true _ _ rs t
+    _ _ _ _ _ draws.draw-row.ensures c.if-drawn.true _ _ rs t
 
-settle-requires : tie.Need-settle-requires invariant-loop decreases-loop
+settle-requires : tie.Need-settle-used-requires invariant-loop decreases-loop
 settle-requires c κs =
     let draws = drawing c.before.before.before.before in
     let loop-test = turn draws in
@@ -80,7 +80,7 @@ settle-requires c κs =
     )
 
 -- 14
-returns-2 : tie.Need-returns-2 invariant-loop decreases-loop
+returns-2 : tie.Need-returns-then-lists_over invariant-loop decreases-loop
 returns-2 c =
     let settles = settling c.before in
     let draws = drawn settles in
@@ -91,9 +91,9 @@ returns-2 c =
     let places = places-kept _ _ inv.1 inv.2 inv.3 pre.1.places in
     λ rs t. going-many _ _ _ _ _ _ _ _ _ loop.loop.memo _ _ _ places inv.4 inv.5 inv.6 loop-test.loop-test.taken
     _ _ _ _ _ draws.draw-row.ensures draws.draw-row.kept.0
-    settles.before.before.before.before.if1.left _ _ _ _ settles.settle.ensures (sym c.before.lists-over.ensures ∙ c.if2.true) rs t
+    settles.before.before.before.before.if1.left _ _ _ _ settles.settle.ensures (sym c.before.lists_over.ensures ∙ c.if-lists_over.true) rs t
 
-loop-again : tie.Need-loop-preserved invariant-loop decreases-loop
+loop-again : tie.Need-loop-rule-preserved invariant-loop decreases-loop
 loop-again c =
     let settles = settling c.before in
     let draws = drawn settles in
@@ -102,7 +102,7 @@ loop-again c =
     let pre = (start loop).pre in
     let inv = loop.loop.inv in
     let places = places-kept _ _ inv.1 inv.2 inv.3 pre.1.places in
-    let few = sym c.before.lists-over.ensures ∙ c.if2.false in (
+    let few = sym c.before.lists_over.ensures ∙ c.if-lists_over.false in (
       omega (arith, loop-test.loop-test.taken),
       settles.settle.kept.0 ∙ draws.draw-row.kept.0 ∙ inv.1,
       settles.settle.kept.1.0 ∙ draws.draw-row.kept.1.0 ∙ inv.2,
@@ -118,24 +118,24 @@ reclaim-requires : tie.Need-reclaim-requires invariant-loop decreases-loop
 reclaim-requires c κs =
     let loop = c.before.before.before.before in
     let pre = (start loop).requires in
-    let inv = loop.loop.invariant in
+    let inv = loop.loop-rule.invariant in
     let places = places-kept _ _ inv.1 inv.2 inv.3 pre.1.places in
-    let ready = going-ready _ _ _ _ _ _ _ _ _ loop.loop.memo _ _ _ places inv.4 inv.5 inv.6 _ pre.0.1 in
+    let ready = going-ready _ _ _ _ _ _ _ _ _ loop.loop-rule.memo _ _ _ places inv.4 inv.5 inv.6 _ pre.0.1 in
     (ready.store, ready.many, omega (arith, ready.few))
 
-returns-3 : tie.Need-returns-3 invariant-loop decreases-loop
+returns-3 : tie.Need-returns invariant-loop decreases-loop
 returns-3 c =
     let reclaiming = c.before.before.before.before.before.before in
     let loop-test = reclaiming.before.before.before.before in
     let loop = loop-test.before in
     let pre = (start loop).requires in
-    let inv = loop.loop.invariant in
+    let inv = loop.loop-rule.invariant in
     let places = places-kept _ _ inv.1 inv.2 inv.3 pre.1.places in
-    λ rs t. going_end _ _ _ _ _ _ _ _ _ loop.loop.memo _ _ _ places inv.6 loop-test.loop-test.false inv.0
+    λ rs t. going_end _ _ _ _ _ _ _ _ _ loop.loop-rule.memo _ _ _ places inv.6 loop-test.loop-rule-test.false inv.0
     _ _ _ _ reclaiming.reclaim.auto.0 reclaiming.reclaim.ensures rs t
 
-pub draw-rules-spec : {M : Type 1} → statement M
-draw-rules-spec =
+pub draw_rules_spec : {M : Type 1} → statement M
+draw_rules_spec =
     tie.close
     (tie.spec
     invariant-loop decreases-loop

@@ -6,8 +6,8 @@ use Rattle.field.proofs.Taking.{test-passed, test-failed, still-refused}
 use Rattle.field.proofs.choice_at.Statement.{statement}
 use Rattle.field.proofs.choice_at.Tie as tie
 
-pub choice-at-spec : {M : Type 1} → statement M
-choice-at-spec =
+pub choice_at_spec : {M : Type 1} → statement M
+choice_at_spec =
     tie.close
     (tie.spec (λ c κs. search rules) (λ c. search rules) (λ c. search rules)
     (λ c. still-refused _ _ _ _ _ _ c.before.before.take_at.ensures _ _ c.enum_told.given.1)

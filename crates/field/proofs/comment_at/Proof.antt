@@ -4,6 +4,6 @@ use borrow.Author.Rules.{rules}
 use Rattle.field.proofs.comment_at.Statement.{statement}
 use Rattle.field.proofs.comment_at.Tie as tie
 
-pub comment-at-spec : {M : Type 1} → statement M
-comment-at-spec =
+pub comment_at_spec : {M : Type 1} → statement M
+comment_at_spec =
     tie.close (tie.spec (λ c κs. search rules) (λ c κs. search rules) (λ c. rw (sym c.before.comment-width.ensures.0) c.take_at.ensures))

@@ -11,8 +11,8 @@ use Rattle.field.proofs.low_bits.Tie as tie
 one_shifted : (count : ℕ) → count < 64 → 1 * 2 ^ count % 2 ^ 64 ≡ 2 ^ count
 one_shifted count l = shl_exact {a = 1} 1 count 64 (omega arith) (omega arith) ∙ omega arith
 
-pub low-bits-spec : {M : Type 1} → statement M
-low-bits-spec =
+pub low_bits_spec : {M : Type 1} → statement M
+low_bits_spec =
     tie.close
     (tie.spec (λ c. search rules) (λ c. omega (arith, one_shifted c.args.count c.requires, pow_pos c.args.count))
     (λ c. ap (λ power. bit_and c.args.number (power - 1)) (one_shifted c.args.count c.requires) ∙ and_mask c.args.number c.args.count))

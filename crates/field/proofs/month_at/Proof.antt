@@ -3,5 +3,5 @@ use borrow.Author.Rules.{rules}
 use Rattle.field.proofs.month_at.Statement.{statement}
 use Rattle.field.proofs.month_at.Tie as tie
 
-pub month-at-spec : {M : Type 1} → statement M
-month-at-spec = tie.close (tie.spec (λ c κs. search rules) (λ c. c.within-at.ensures))
+pub month_at_spec : {M : Type 1} → statement M
+month_at_spec = tie.close (tie.spec (λ c κs. search rules) (λ c. c.within-at.ensures))

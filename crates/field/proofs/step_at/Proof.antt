@@ -6,8 +6,8 @@ use Rattle.field.proofs.Taking.{test-passed, test-failed, still-refused}
 use Rattle.field.proofs.step_at.Statement.{statement}
 use Rattle.field.proofs.step_at.Tie as tie
 
-pub step-at-spec : {M : Type 1} → statement M
-step-at-spec =
+pub step_at_spec : {M : Type 1} → statement M
+step_at_spec =
     tie.close
     (tie.spec (λ c κs. search rules) (λ c. search rules) (λ c. search rules)
     (λ c. still-refused _ _ _ _ _ _ c.before.before.take_at.ensures _ _ c.enum_told.given.1)

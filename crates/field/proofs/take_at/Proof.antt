@@ -5,8 +5,8 @@ use Rattle.field.proofs.Taking.{take-value, take_short}
 use Rattle.field.proofs.take_at.Statement.{statement}
 use Rattle.field.proofs.take_at.Tie as tie
 
-pub take-at-spec : {M : Type 1} → statement M
-take-at-spec =
+pub take_at_spec : {M : Type 1} → statement M
+take_at_spec =
     tie.close
     (tie.spec (λ c. search rules) (λ c. search rules) (λ c κs. search rules) (λ c. search rules)
     (λ c. take-value _ _ _ _ c.field_at.ensures (omega arith)) (λ c. take_short _ _ _ (omega arith)))

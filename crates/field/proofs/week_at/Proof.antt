@@ -3,5 +3,5 @@ use borrow.Author.Rules.{rules}
 use Rattle.field.proofs.week_at.Statement.{statement}
 use Rattle.field.proofs.week_at.Tie as tie
 
-pub week-at-spec : {M : Type 1} → statement M
-week-at-spec = tie.close (tie.spec (λ c κs. search rules) (λ c. c.within-at.ensures))
+pub week_at_spec : {M : Type 1} → statement M
+week_at_spec = tie.close (tie.spec (λ c κs. search rules) (λ c. c.within-at.ensures))

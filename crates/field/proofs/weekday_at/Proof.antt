@@ -3,5 +3,5 @@ use borrow.Author.Rules.{rules}
 use Rattle.field.proofs.weekday_at.Statement.{statement}
 use Rattle.field.proofs.weekday_at.Tie as tie
 
-pub weekday-at-spec : {M : Type 1} → statement M
-weekday-at-spec = tie.close (tie.spec (λ c κs. search rules) (λ c. c.within-at.ensures))
+pub weekday_at_spec : {M : Type 1} → statement M
+weekday_at_spec = tie.close (tie.spec (λ c κs. search rules) (λ c. c.within-at.ensures))

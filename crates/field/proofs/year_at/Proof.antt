@@ -3,5 +3,5 @@ use borrow.Author.Rules.{rules}
 use Rattle.field.proofs.year_at.Statement.{statement}
 use Rattle.field.proofs.year_at.Tie as tie
 
-pub year-at-spec : {M : Type 1} → statement M
-year-at-spec = tie.close (tie.spec (λ c κs. search rules) (λ c. c.within-at.ensures))
+pub year_at_spec : {M : Type 1} → statement M
+year_at_spec = tie.close (tie.spec (λ c κs. search rules) (λ c. c.within-at.ensures))

@@ -21,7 +21,7 @@ abbrev name : tie.After-pop-groups → tie.After-rename
 name c = c.before.before.before.before.before.before
 
 -- ## What is needed there
-number-lists-requires : tie.Need-number-lists-requires
+number-lists-requires : tie.Need-number_lists-requires
 number-lists-requires c κs =
     let entry = c.before.before.before.before.before.before.before.before.before.before.before.before.before.before in
     let a = entry.args in
@@ -38,7 +38,7 @@ rename-requires c κs =
     let entry = start step in
     λ box. omega (arith, entry.pre.0.2.stored.store.names box, entry.pre.1.0, step.number-lists.auto.1.1.1.1.1.1.0)
 
-pop-groups-requires : tie.Need-pop-groups-requires
+pop-groups-requires : tie.Need-pop_groups-stop-requires
 pop-groups-requires c κs =
     let renamed = c.before.before.before.before.before in
     let numbered = (number renamed).number-lists in
@@ -59,7 +59,7 @@ pop-groups-requires c κs =
       ),
     )
 
-count-pages-requires : tie.Need-count-pages-requires
+count-pages-requires : tie.Need-count_pages-requires
 count-pages-requires c κs =
     let pop = c.before.before.before.before.before in
     let popped = pop.pop-groups in
@@ -83,10 +83,10 @@ returns c =
     let a = entry.args in
     λ rs form tables boxed commented. pages-folded a.states.now a.span_counts.now a.spans.now a.row-starts.now a.sizes.now a.cuts.now
     a.lists.now a.cells.now _ _ _ a.used rs tables (store-names _ _ _ _ _ _ _ boxed) numbered.ensures renamed.rename.ensures numbered.last.1.1.1.1.1.0 _
-    (omega (arith, entry.pre.1.3, numbered.kept.1.1.1.1.1.0)) popped.ensures.1 _ popped.ensures.0 form commented _ c.count-pages.ensures
+    (omega (arith, entry.pre.1.3, numbered.kept.1.1.1.1.1.0)) popped.ensures.1 _ popped.ensures.0 form commented _ c.count_pages.ensures
 
-pub fold-classed-spec : {M : Type 1} → statement M
-fold-classed-spec =
+pub fold_classed_spec : {M : Type 1} → statement M
+fold_classed_spec =
     tie.close
     (tie.spec number-lists-requires rename-requires pop-groups-requires count-pages-requires (λ c. search rules) (λ c. search rules) (λ c. search rules)
     (λ c. search rules) returns)

@@ -4,8 +4,8 @@ use borrow.Author.Rules.{rules}
 use Rattle.fold_pages.proofs.fold_pages.Statement.{statement}
 use Rattle.fold_pages.proofs.fold_pages.Tie as tie
 
-pub fold-pages-spec : {M : Type 1} → statement M
-fold-pages-spec =
+pub fold_pages_spec : {M : Type 1} → statement M
+fold_pages_spec =
     tie.close
     (tie.spec
     (λ c κs. search rules) (λ c. search rules)

@@ -18,8 +18,8 @@ above n v = go (ltb n v) refl
     go true e = sym (le-leb (suc n) v (omega (arith, ltb-true n v e)))
     go false e = sym (lt-leb (suc n) v (omega (arith, ltb-false n v e)))
 
-pub comment-over-spec : {M : Type 1} → statement M
-comment-over-spec =
+pub comment_over_spec : {M : Type 1} → statement M
+comment_over_spec =
     tie.close
     (tie.spec (λ c. search rules) (λ c. search rules)
     (λ c. above 65535 c.before.before.args.comment ∙ sym (ap (λ f. leb (2 ^ (as_form f).comment) c.before.before.args.comment) c.enum_told.given.1))

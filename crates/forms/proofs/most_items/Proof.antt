@@ -6,8 +6,8 @@ use Rattle.forms.specs.Form.{as_form}
 use Rattle.forms.proofs.most_items.Statement.{statement}
 use Rattle.forms.proofs.most_items.Tie as tie
 
-pub most-items-spec : {M : Type 1} → statement M
-most-items-spec =
+pub most_items_spec : {M : Type 1} → statement M
+most_items_spec =
     tie.close
     (tie.spec (λ c. search rules) (λ c. search rules)
     (λ c. sym (ap (λ f. most_items (as_form f)) c.enum_told.given.1))

@@ -6,8 +6,8 @@ use Rattle.forms.specs.Form.{as_form}
 use Rattle.forms.proofs.most_rules.Statement.{statement}
 use Rattle.forms.proofs.most_rules.Tie as tie
 
-pub most-rules-spec : {M : Type 1} → statement M
-most-rules-spec =
+pub most_rules_spec : {M : Type 1} → statement M
+most_rules_spec =
     tie.close
     (tie.spec (λ c. search rules) (λ c. search rules)
     (λ c. sym (ap (λ f. most_rules (as_form f)) c.enum_told.given.1))

@@ -6,8 +6,8 @@ use Rattle.forms.specs.Form.{as_form}
 use Rattle.forms.proofs.other_form.Statement.{statement}
 use Rattle.forms.proofs.other_form.Tie as tie
 
-pub other-form-spec : {M : Type 1} → statement M
-other-form-spec =
+pub other_form_spec : {M : Type 1} → statement M
+other_form_spec =
     tie.close
     (tie.spec (λ c. search rules) (λ c. search rules) (λ c. sym (ap (λ f. other (as_form f)) c.enum_told.given.1))
     (λ c. sym (ap (λ f. other (as_form f)) c.enum-told2.given.1)))

@@ -8,10 +8,10 @@ use Rattle.list_reclaim.proofs.Marking.{zeros-more, zeros-all}
 use Rattle.list_reclaim.proofs.clear.Statement.{statement}
 use Rattle.list_reclaim.proofs.clear.Tie as tie
 
-abbrev invariant-loop : tie.invariant-loop
+abbrev invariant-loop : tie.invariant-loop-k
 invariant-loop memo₀ k₀ memo k = (k ≤ length memo₀) × (length memo ≡ length memo₀) × ((j : ℕ) → j < k → get_or memo j 0 ≡ 0)
 
-abbrev decreases-loop : tie.decreases-loop
+abbrev decreases-loop : tie.decreases-loop-k
 decreases-loop memo₀ k₀ memo k = length memo₀ - k
 
 pub clear_spec : {M : Type 1} → statement M

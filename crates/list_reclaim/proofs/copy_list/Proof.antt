@@ -7,8 +7,8 @@ use Rattle.list_reclaim.proofs.Moving.{copied-here}
 use Rattle.list_reclaim.proofs.copy_list.Statement.{statement}
 use Rattle.list_reclaim.proofs.copy_list.Tie as tie
 
-pub copy-list-spec : {M : Type 1} → statement M
-copy-list-spec =
+pub copy_list_spec : {M : Type 1} → statement M
+copy_list_spec =
     tie.close
     (tie.spec
     (λ c. copied-here _ _ _ _ (ap (◌* list_places) c.if1.true))

@@ -9,10 +9,10 @@ use Rattle.list_reclaim.proofs.Marking.{marked-none, marked_more}
 use Rattle.list_reclaim.proofs.mark.Statement.{statement}
 use Rattle.list_reclaim.proofs.mark.Tie as tie
 
-abbrev invariant-loop : tie.invariant-loop
+abbrev invariant-loop : tie.invariant-loop-box_index
 invariant-loop cells memo₀ box₀ memo box = (box ≤ length cells) × (length memo ≡ length memo₀) × Marked cells memo₀ memo box
 
-abbrev decreases-loop : tie.decreases-loop
+abbrev decreases-loop : tie.decreases-loop-box_index
 decreases-loop cells memo₀ box₀ memo box = length cells - box
 
 pub mark_spec : {M : Type 1} → statement M

@@ -9,11 +9,11 @@ use Rattle.list_reclaim.proofs.Moving.{moved_none, moved_more}
 use Rattle.list_reclaim.proofs.move_down.Statement.{statement}
 use Rattle.list_reclaim.proofs.move_down.Tie as tie
 
-abbrev invariant-loop : tie.invariant-loop
+abbrev invariant-loop : tie.invariant-loop-place
 invariant-loop lists₀ memo₀ used next₀ place₀ lists memo next place =
     (place ≤ used) × (length lists ≡ length lists₀) × (length memo ≡ length memo₀) × Moved lists₀ memo₀ lists memo place next
 
-abbrev decreases-loop : tie.decreases-loop
+abbrev decreases-loop : tie.decreases-loop-place
 decreases-loop lists₀ memo₀ used next₀ place₀ lists memo next place = used - place
 
 pub move_down_spec : {M : Type 1} → statement M

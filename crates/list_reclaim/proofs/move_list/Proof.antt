@@ -5,8 +5,8 @@ use Rattle.list_reclaim.proofs.Moving.{moved-not, moved-one}
 use Rattle.list_reclaim.proofs.move_list.Statement.{statement}
 use Rattle.list_reclaim.proofs.move_list.Tie as tie
 
-pub move-list-spec : {M : Type 1} → statement M
-move-list-spec =
+pub move_list_spec : {M : Type 1} → statement M
+move_list_spec =
     tie.close
     (tie.spec
     (λ c. search rules) (λ c. search rules) (λ c. search rules)

@@ -20,8 +20,8 @@ mark move = move.before.before.before.before.before
 abbrev move : tie.After-rename → tie.After-move-down
 move rename = rename.before.before.before.before.before.before.before
 
-pub reclaim-spec : {M : Type 1} → statement M
-reclaim-spec =
+pub reclaim_spec : {M : Type 1} → statement M
+reclaim_spec =
     tie.close
     (tie.spec
     (λ c κs. search rules)

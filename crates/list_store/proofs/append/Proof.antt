@@ -15,8 +15,8 @@ start c = c.before.before.before.before
 few : (c : tie.After-u16-to-usize) → let a = (start c).args in get_or a.lists.now ((a.number - 1) * 33) 0 < 32
 few c = let a = (start c).args in omega (arith, named-length a.lists.now a.number c.before.before.if1.false, (start c).requires.2)
 
-pub append-spec : {M : Type 1} → statement M
-append-spec =
+pub append_spec : {M : Type 1} → statement M
+append_spec =
     tie.close
     (tie.spec
     (λ c. search rules) (λ c. search rules) (λ c. search rules) (λ c. search rules) (λ c. search rules)

@@ -39,8 +39,8 @@ next c =
     let made = (start key).requires.0 in
     omega (arith, number-left made.made _ (key-few key) (old c), made.few)
 
-pub draw-spec : {M : Type 1} → statement M
-draw-spec =
+pub draw_spec : {M : Type 1} → statement M
+draw_spec =
     tie.close
     (tie.spec
     (λ c. search rules) (λ c. search rules) (λ c κs. search rules)

@@ -6,8 +6,8 @@ use Rattle.list_store.proofs.Listing.{named-length, room-none}
 use Rattle.list_store.proofs.has_room.Statement.{statement}
 use Rattle.list_store.proofs.has_room.Tie as tie
 
-pub has-room-spec : {M : Type 1} → statement M
-has-room-spec =
+pub has_room_spec : {M : Type 1} → statement M
+has_room_spec =
     tie.close
     (tie.spec
     (λ c. room-none _ _ c.if1.true)

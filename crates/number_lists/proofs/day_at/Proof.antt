@@ -41,7 +41,7 @@ hashed : (c : tie.After-u64-to-u16) → c.u64-to-u16.result ≡ hash_of (own (st
 hashed c = c.u64-to-u16.ensures ∙ ap (λ n. n % 65536) c.before.fingerprint.ensures ∙ ap (λ w. hash_of w) (fold c).fold-box.ensures.0
 
 -- ## What is needed there
-find-day-requires : tie.Need-find-day-requires
+find-day-requires : tie.Need-find_day-number-requires
 find-day-requires c κs =
     let hash = c.before.before in
     let folded = fold hash in
@@ -58,11 +58,11 @@ returns c =
     record {
       hashed = hashed (hash step);
       first = step.find-day.ensures;
-      classed = c.day-class.ensures ∙ ap (λ w. day_class (unflat w)) (fold (hash step)).fold-box.ensures.0;
+      classed = c.day_class.ensures ∙ ap (λ w. day_class (unflat w)) (fold (hash step)).fold-box.ensures.0;
     }
 
-pub day-at-spec : {M : Type 1} → statement M
-day-at-spec =
+pub day_at_spec : {M : Type 1} → statement M
+day_at_spec =
     tie.close
     (tie.spec
     (λ c κs. let entry = c.before.before.before.before.before.before.before.before in entry.requires.0.0 entry.args.place (omega arith))

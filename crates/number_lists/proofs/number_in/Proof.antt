@@ -12,13 +12,13 @@ use Rattle.number_lists.proofs.OneMore.{numbered-none, SoFar, list-more}
 use Rattle.number_lists.proofs.number_in.Statement.{statement}
 use Rattle.number_lists.proofs.number_in.Tie as tie
 
-abbrev invariant-loop : tie.invariant-loop
+abbrev invariant-loop : tie.invariant-loop-place
 invariant-loop words₀ other₀ states counts spans lists used hashes₀ numbers₀ classes₀ place₀ words other hashes numbers classes place =
     SoFar (box_words states counts spans lists) hashes numbers classes place × (place ≤ used)
     × (length hashes ≡ length hashes₀) × (length numbers ≡ length numbers₀) × (length classes ≡ length classes₀)
     × (length words ≡ length words₀) × (length other ≡ length other₀)
 
-abbrev decreases-loop : tie.decreases-loop
+abbrev decreases-loop : tie.decreases-loop-place
 decreases-loop words₀ other₀ states counts spans lists used hashes₀ numbers₀ classes₀ place₀ words other hashes numbers classes place = used - place
 
 -- ## Places of the code
@@ -62,7 +62,7 @@ low : (c : Found) → (day c).day-at.result.number ≤ suc (loop c).loop.place
 low c = (day c).day-at.ensures.first.low
 
 -- ## What is needed there
-loop-holds : tie.Need-loop-init invariant-loop decreases-loop
+loop-holds : tie.Need-loop-place-init invariant-loop decreases-loop
 loop-holds c =
     let entry = c.before.before.before.before.before.before.before.before.before in
     let a = entry.args in
@@ -80,7 +80,7 @@ loop-holds c =
       refl,
     )
 
-day-at-requires : tie.Need-day-at-requires invariant-loop decreases-loop
+day-at-requires : tie.Need-day_at-day-requires invariant-loop decreases-loop
 day-at-requires c κs =
     let inside = c.before.before.before in
     let entry = start inside.before in
@@ -92,7 +92,7 @@ day-at-requires c κs =
       (omega (arith, (room inside.before).hashed, below), inv.0.0),
     )
 
-loop-again : tie.Need-loop-preserved invariant-loop decreases-loop
+loop-again : tie.Need-loop-place-preserved invariant-loop decreases-loop
 loop-again c =
     let held = (loop c).loop in
     let inv = held.inv in
@@ -111,8 +111,8 @@ loop-again c =
       kept.1.0 ∙ inv.6,
     )
 
-pub number-in-spec : {M : Type 1} → statement M
-number-in-spec =
+pub number_in_spec : {M : Type 1} → statement M
+number_in_spec =
     tie.close
     (tie.spec
     invariant-loop decreases-loop (λ c. search rules) (λ c. search rules) loop-holds day-at-requires

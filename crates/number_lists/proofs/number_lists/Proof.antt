@@ -7,33 +7,33 @@ use Rattle.number_lists.proofs.There.{all_there}
 use Rattle.number_lists.proofs.number_lists.Statement.{statement}
 use Rattle.number_lists.proofs.number_lists.Tie as tie
 
-all-short-requires : tie.Need-all-short-requires
+all-short-requires : tie.Need-all_short-requires
 all-short-requires c κs =
     let entry = c.before.before.before.before.before.before.before in
     let a = entry.args in
     all_there a.states.now a.span_counts.now a.spans.now a.lists.now _ entry.requires.0
 
-number-short-requires : tie.Need-number-short-requires
+number-short-requires : tie.Need-number_short-requires
 number-short-requires c κs =
     let tested = c.before.before.before in
     let entry = tested.before.before.before.before.before.before.before.before.before in
-    ((entry.requires.0, tested.before.all_short.ensures tested.if1.true), entry.requires.1)
+    ((entry.requires.0, tested.before.all_short.ensures tested.if-all_short.true), entry.requires.1)
 
-number-in-requires : tie.Need-number-in-requires
+number-in-requires : tie.Need-number_in-requires
 number-in-requires c κs =
     let second = c.before.before.before.before.before in
     let first = second.before in
     let entry = first.before.before.before.before.before.before.before.before.before.before in
     let a = entry.args in (
       (
-        ready-kept a.states.now a.span_counts.now a.spans.now a.lists.now _ _ _ (sym first.words.ensures) entry.requires.0,
-        omega (arith, first.words.ensures, second.words2.ensures),
+        ready-kept a.states.now a.span_counts.now a.spans.now a.lists.now _ _ _ (sym first.words-words.ensures) entry.requires.0,
+        omega (arith, first.words-words.ensures, second.words-other.ensures),
       ),
       entry.requires.1,
     )
 
-pub number-lists-spec : {M : Type 1} → statement M
-number-lists-spec =
+pub number_lists_spec : {M : Type 1} → statement M
+number_lists_spec =
     tie.close
     (tie.spec all-short-requires number-short-requires (λ c. search rules) (λ c. search rules) (λ c. search rules) (λ c. search rules) (λ c κs. search rules)
     (λ c κs. search rules) (λ c. search rules) (λ c. search rules) number-in-requires (λ c. search rules) (λ c. search rules) (λ c. search rules)

@@ -6,7 +6,7 @@ use Rattle.box_day.proofs.Kept.{ready-kept, short-ready}
 use Rattle.number_lists.proofs.number_short.Statement.{statement}
 use Rattle.number_lists.proofs.number_short.Tie as tie
 
-number-in-requires : tie.Need-number-in-requires
+number-in-requires : tie.Need-number_in-requires
 number-in-requires c κs =
     let second = c.before.before.before.before.before in
     let first = second.before in
@@ -14,15 +14,15 @@ number-in-requires c κs =
     let a = entry.args in
     let all = entry.requires.0 in (
       (
-        ready-kept a.states.now a.span_counts.now a.spans.now a.lists.now _ _ _ (sym first.few_words.ensures)
+        ready-kept a.states.now a.span_counts.now a.spans.now a.lists.now _ _ _ (sym first.few_words-words.ensures)
             (λ i l. short-ready a.states.now a.span_counts.now a.spans.now a.lists.now i (all.0 i l) (all.1 i l)),
-        omega (arith, first.few_words.ensures, second.few-words2.ensures),
+        omega (arith, first.few_words-words.ensures, second.few_words-other.ensures),
       ),
       entry.requires.1,
     )
 
-pub number-short-spec : {M : Type 1} → statement M
-number-short-spec =
+pub number_short_spec : {M : Type 1} → statement M
+number_short_spec =
     tie.close
     (tie.spec (λ c κs. search rules) (λ c κs. search rules) (λ c. search rules) (λ c. search rules) number-in-requires (λ c. search rules) (λ c. search rules)
     (λ c. search rules) (λ c. search rules))

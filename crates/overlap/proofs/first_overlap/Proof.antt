@@ -10,14 +10,14 @@ use Rattle.overlap.proofs.Rules.{few-lent, rule-asked, NoneBefore, none-next, fi
 use Rattle.overlap.proofs.first_overlap.Statement.{statement}
 use Rattle.overlap.proofs.first_overlap.Tie as tie
 
-abbrev invariant-loop : tie.invariant-loop
+abbrev invariant-loop : tie.invariant-loop-rule
 invariant-loop counts ranges rules rule₀ rule = (rule ≤ rules) × ((rs : List Rule) (days : RuleDays counts ranges rules rs) → NoneBefore counts ranges rules rs days rule)
 
-abbrev decreases-loop : tie.decreases-loop
+abbrev decreases-loop : tie.decreases-loop-rule
 decreases-loop counts ranges rules rule₀ rule = rules - rule
 
-pub first-overlap-spec : {M : Type 1} → statement M
-first-overlap-spec =
+pub first_overlap_spec : {M : Type 1} → statement M
+first_overlap_spec =
     tie.close
     (tie.spec
     invariant-loop decreases-loop

@@ -5,8 +5,8 @@ use borrow.Author.Tests.{lt-ltb, le-ltb}
 use Rattle.overlap.proofs.later.Statement.{statement}
 use Rattle.overlap.proofs.later.Tie as tie
 
-pub later-spec : {M : Type 1} → statement M
-later-spec =
+pub later_spec : {M : Type 1} → statement M
+later_spec =
     tie.close
     (tie.spec
     (λ c. sym (ap (λ b. cond b c.before.args.other c.before.args.end) (lt-ltb _ _ c.if1.true)))

@@ -10,14 +10,14 @@ use Rattle.overlap.proofs.Rows.{Passed, passed-next}
 use Rattle.overlap.proofs.meets_before.Statement.{statement}
 use Rattle.overlap.proofs.meets_before.Tie as tie
 
-abbrev invariant-loop : tie.invariant-loop
+abbrev invariant-loop : tie.invariant-loop-earlier
 invariant-loop ranges dimension range earlier₀ earlier = (earlier ≤ range) × Passed ranges dimension range earlier
 
-abbrev decreases-loop : tie.decreases-loop
+abbrev decreases-loop : tie.decreases-loop-earlier
 decreases-loop ranges dimension range earlier₀ earlier = range - earlier
 
-pub meets-before-spec : {M : Type 1} → statement M
-meets-before-spec =
+pub meets_before_spec : {M : Type 1} → statement M
+meets_before_spec =
     tie.close
     (tie.spec
     invariant-loop decreases-loop

@@ -4,8 +4,8 @@ use Rattle.overlap.proofs.Rows.{late-none}
 use Rattle.overlap.proofs.overlaps_before.Statement.{statement}
 use Rattle.overlap.proofs.overlaps_before.Tie as tie
 
-pub overlaps-before-spec : {M : Type 1} → statement M
-overlaps-before-spec =
+pub overlaps_before_spec : {M : Type 1} → statement M
+overlaps_before_spec =
     tie.close
     (tie.spec
     (λ c. search rules) (λ c. search rules) (λ c. search rules) (λ c. search rules) (λ c. search rules) (λ c κs. search rules)

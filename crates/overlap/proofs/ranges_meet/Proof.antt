@@ -4,8 +4,8 @@ use Rattle.overlap.proofs.Rows.{meet-yes, meet-no}
 use Rattle.overlap.proofs.ranges_meet.Statement.{statement}
 use Rattle.overlap.proofs.ranges_meet.Tie as tie
 
-pub ranges-meet-spec : {M : Type 1} → statement M
-ranges-meet-spec =
+pub ranges_meet_spec : {M : Type 1} → statement M
+ranges_meet_spec =
     tie.close
     (tie.spec
     (λ c. search rules) (λ c. search rules) (λ c. search rules) (λ c. search rules) (λ c. search rules) (λ c. search rules) (λ c. search rules)

@@ -8,14 +8,14 @@ use Rattle.overlap.proofs.Rows.{Apart, apart_next, ends_next, row-yes, row-no}
 use Rattle.overlap.proofs.row_overlaps.Statement.{statement}
 use Rattle.overlap.proofs.row_overlaps.Tie as tie
 
-abbrev invariant-loop : tie.invariant-loop
+abbrev invariant-loop : tie.invariant-loop-range
 invariant-loop ranges dimension count end₀ range₀ end range = (range ≤ count) × Apart ranges dimension range × EndBy ranges dimension range end
 
-abbrev decreases-loop : tie.decreases-loop
+abbrev decreases-loop : tie.decreases-loop-range
 decreases-loop ranges dimension count end₀ range₀ end range = count - range
 
-pub row-overlaps-spec : {M : Type 1} → statement M
-row-overlaps-spec =
+pub row_overlaps_spec : {M : Type 1} → statement M
+row_overlaps_spec =
     tie.close
     (tie.spec
     invariant-loop decreases-loop

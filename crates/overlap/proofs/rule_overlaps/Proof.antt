@@ -7,14 +7,14 @@ use Rattle.overlap.proofs.Rules.{meet_in, row-asked, row-there, no_row}
 use Rattle.overlap.proofs.rule_overlaps.Statement.{statement}
 use Rattle.overlap.proofs.rule_overlaps.Tie as tie
 
-abbrev invariant-loop : tie.invariant-loop
+abbrev invariant-loop : tie.invariant-loop-dims_left
 invariant-loop counts ranges left₀ left = (left ≤ 4) × (meet_in counts ranges 4 ≡ meet_in counts ranges left)
 
-abbrev decreases-loop : tie.decreases-loop
+abbrev decreases-loop : tie.decreases-loop-dims_left
 decreases-loop counts ranges left₀ left = left
 
-pub rule-overlaps-spec : {M : Type 1} → statement M
-rule-overlaps-spec =
+pub rule_overlaps_spec : {M : Type 1} → statement M
+rule_overlaps_spec =
     tie.close
     (tie.spec
     invariant-loop decreases-loop

@@ -6,14 +6,14 @@ use Rattle.page_count.proofs.Counting.{Passing, pass-first, pass-inside, pass-ne
 use Rattle.page_count.proofs.count_pages.Statement.{statement}
 use Rattle.page_count.proofs.count_pages.Tie as tie
 
-abbrev invariant-loop : tie.invariant-loop
+abbrev invariant-loop : tie.invariant-loop-at
 invariant-loop pages stop at₀ count₀ at count = Passing pages stop at count
 
-abbrev decreases-loop : tie.decreases-loop
+abbrev decreases-loop : tie.decreases-loop-at
 decreases-loop pages stop at₀ count₀ at count = stop - at
 
-pub count-pages-spec : {M : Type 1} → statement M
-count-pages-spec =
+pub count_pages_spec : {M : Type 1} → statement M
+count_pages_spec =
     tie.close
     (tie.spec
     invariant-loop decreases-loop

@@ -19,22 +19,22 @@ named c = c.before
 abbrev start : tie.After-u16-to-usize → tie.Start
 start c = c.before.before.before.before.before.before.before.before.before.before.before
 
-shared-slice-read-u16-to-usize : tie.Need-shared-slice-read-u16-to-usize
+shared-slice-read-u16-to-usize : tie.Need-bounds-page-0
 shared-slice-read-u16-to-usize c =
     let entry = c.before.before.before.before.before.before.before.before.before.before in
     omega (arith, entry.requires.0.inside, size_low entry.args.page.now 0)
 
-fetch-requires : tie.Need-fetch-requires
+fetch-requires : tie.Need-fetch-day-requires
 fetch-requires c κs =
-    let ready = number-ready (start c).requires.0 _ c.u16-to-usize.ensures.0 in
-    ((ready.0, c.u16-to-usize.ensures.1, ready.1), (start c).requires.1)
+    let ready = number-ready (start c).requires.0 _ c.u16_to_usize.ensures.0 in
+    ((ready.0, c.u16_to_usize.ensures.1, ready.1), (start c).requires.1)
 
-part-measure-day-end-2 : tie.Need-slice-bounds-measure-day-end-2
+part-measure-day-end-2 : tie.Need-slice_bounds-measure_day-end-2
 part-measure-day-end-2 c =
     let entry = start (named c.before.before.before.before.before.before.before) in
     omega (arith, entry.pre.0.inside, size_low entry.args.page.now 0)
 
-measure-day-requires : tie.Need-measure-day-requires
+measure-day-requires : tie.Need-measure_day-measure-requires
 measure-day-requires c κs =
     let fetched = c.before.before.before.before.before.before.before.before in
     let page = (start (named fetched)).requires.0 in
@@ -55,7 +55,7 @@ returns c =
     let ends = page_ends entry.args.page.now 0 in
     let same = book-rules page _ number _ _ _ day.inside day.words ends refl in
     let few = book-short page _ number _ _ _ day.inside day.words in
-    let measured = c.measure-day.ensures in
+    let measured = c.measure_day-measure.ensures in
     let m = measured.0 ends page.rows.inside in (
       ap length (sym same) ∙ m.0,
       ap (λ rs. length (rules_bits form rs)) (sym same) ∙ m.1,
@@ -65,8 +65,8 @@ returns c =
       day.opened,
     )
 
-pub measure-page-spec : {M : Type 1} → statement M
-measure-page-spec =
+pub measure_page_spec : {M : Type 1} → statement M
+measure_page_spec =
     tie.close
     (tie.spec shared-slice-read-u16-to-usize (λ c κs. search rules) fetch-requires (λ c. search rules) (λ c. search rules) (λ c. search rules) (λ c. search rules)
     (λ c. search rules) (λ c. search rules) (λ c. search rules) part-measure-day-end-2 measure-day-requires (λ c. search rules) (λ c. search rules) returns)

@@ -18,32 +18,32 @@ named c = c.before
 abbrev start : tie.After-u16-to-usize → tie.Start
 start c = c.before.before.before.before.before.before.before.before.before.before.before.before
 
-shared-slice-read-u16-to-usize : tie.Need-shared-slice-read-u16-to-usize
+shared-slice-read-u16-to-usize : tie.Need-bounds-page-0
 shared-slice-read-u16-to-usize c =
     let entry = c.before.before.before.before.before.before.before.before.before.before.before in
     omega (arith, entry.requires.0.0.inside, size_low entry.args.page.now 0)
 
-fetch-requires : tie.Need-fetch-requires
+fetch-requires : tie.Need-fetch-day-requires
 fetch-requires c κs =
-    let ready = number-ready (start c).requires.0.0 _ c.u16-to-usize.ensures.0 in
-    ((ready.0, c.u16-to-usize.ensures.1, ready.1), (start c).requires.1.0)
+    let ready = number-ready (start c).requires.0.0 _ c.u16_to_usize.ensures.0 in
+    ((ready.0, c.u16_to_usize.ensures.1, ready.1), (start c).requires.1.0)
 
-sub-write-day-2 : tie.Need-overflow-sub-write-day-2
+sub-write-day-2 : tie.Need-slice_bounds-write_day-count-2
 sub-write-day-2 c =
     let entry = start (named c.before.before.before.before.before.before.before.before) in
     omega (arith, entry.pre.0.0.inside, size_low entry.args.page.now 0)
 
-part-write-day-start-2 : tie.Need-slice-bounds-write-day-start-2
+part-write-day-start-2 : tie.Need-slice_bounds-write_day-start-2
 part-write-day-start-2 c =
     let entry = start (named c.before.before.before.before.before.before.before.before) in
     omega (arith, entry.pre.0.0.inside, size_low entry.args.page.now 0)
 
-part-write-day-end-3 : tie.Need-slice-bounds-write-day-end-3
+part-write-day-end-3 : tie.Need-slice_bounds-write_day-end-3
 part-write-day-end-3 c =
     let entry = start (named c.before.before.before.before.before.before.before.before.before) in
     omega (arith, entry.pre.0.0.inside, size_low entry.args.page.now 0)
 
-write-day-requires : tie.Need-write-day-requires
+write-day-requires : tie.Need-write_day-next-requires
 write-day-requires c κs =
     let fetched = c.before.before.before.before.before.before.before.before.before.before in
     let entry = start (named fetched) in
@@ -66,10 +66,10 @@ returns c =
     let number = (named fetched).u16-to-usize.ensures.0 in
     let day = fetched.fetch.ensures in
     let same = book-rules page _ number _ _ _ day.inside day.words _ (ends-whole page entry.pre.0.1) in
-    (wrote_as (ap (rules_bits (as_form entry.args.form)) (sym same)) write-day.write-day.ensures, day.opened)
+    (wrote_as (ap (rules_bits (as_form entry.args.form)) (sym same)) write-day.write_day-next.ensures, day.opened)
 
-pub write-page-spec : {M : Type 1} → statement M
-write-page-spec =
+pub write_page_spec : {M : Type 1} → statement M
+write_page_spec =
     tie.close
     (tie.spec shared-slice-read-u16-to-usize (λ c κs. search rules) fetch-requires (λ c. search rules) (λ c. search rules) (λ c. search rules) (λ c. search rules)
     (λ c. search rules) sub-write-day-2 part-write-day-start-2 (λ c. search rules) (λ c. search rules) (λ c. search rules) part-write-day-end-3

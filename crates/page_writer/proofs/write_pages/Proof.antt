@@ -12,13 +12,13 @@ use Rattle.page_writer.proofs.Walking.{Writing, writing-none, writing-page, page
 use Rattle.page_writer.proofs.write_pages.Statement.{statement}
 use Rattle.page_writer.proofs.write_pages.Tie as tie
 
-abbrev invariant-loop : tie.invariant-loop
+abbrev invariant-loop : tie.invariant-loop-pages_left
 invariant-loop form out₀ place book₀ notes₀ filled room states counts spans lists pages count here₀ left₀ next₀ full₀ out book notes here left next full =
     Writing (as_form form) states counts spans lists pages room count out₀ place left here out next
     × Open (number_words states counts spans lists) notes book room full
     × (length out ≡ length out₀) × (length book ≡ length book₀) × (length notes ≡ length notes₀)
 
-abbrev decreases-loop : tie.decreases-loop
+abbrev decreases-loop : tie.decreases-loop-pages_left
 decreases-loop form out₀ place book₀ notes₀ filled room states counts spans lists pages count here₀ left₀ next₀ full₀ out book notes here left next full = left
 
 -- ## Places of the code
@@ -35,48 +35,48 @@ abbrev size : tie.After-write-page invariant-loop decreases-loop → tie.After-p
 size c = c.before.before.before.before.before
 
 -- ## What is needed there
-page-size-requires : tie.Need-page-size-requires invariant-loop decreases-loop
+page-size-requires : tie.Need-page_size-size-requires invariant-loop decreases-loop
 page-size-requires c κs =
-    omega (arith, (writing-page c.before.loop.invariant.0 c.loop-test.true).inside, size_low (start c.before).args.pages.now c.before.loop.here)
+    omega (arith, (writing-page c.before.loop-pages_left.invariant.0 c.loop-pages_left-test.true).inside, size_low (start c.before).args.pages.now c.before.loop-pages_left.here)
 
-add-write-page : tie.Need-overflow-add-write-page invariant-loop decreases-loop
+add-write-page : tie.Need-overflow_add-here invariant-loop decreases-loop
 add-write-page c =
     let sized = c.before.before.before in
-    omega (arith, (writing-page (loop sized).loop.invariant.0 (test sized).loop-test.true).inside, sized.page-size.ensures, (start (loop sized)).good)
+    omega (arith, (writing-page (loop sized).loop.invariant.0 (test sized).loop-test.true).inside, sized.page_size-size.ensures, (start (loop sized)).good)
 
-mul-write-page : tie.Need-overflow-mul-write-page invariant-loop decreases-loop
+mul-write-page : tie.Need-offset_bounds-pages-here invariant-loop decreases-loop
 mul-write-page c =
     let sized = c.before.before.before in
-    omega (arith, (writing-page (loop sized).loop.invariant.0 (test sized).loop-test.true).inside, sized.page-size.ensures, (start (loop sized)).good)
+    omega (arith, (writing-page (loop sized).loop.invariant.0 (test sized).loop-test.true).inside, sized.page_size-size.ensures, (start (loop sized)).good)
 
-part-write-page-end : tie.Need-slice-bounds-write-page-end invariant-loop decreases-loop
+part-write-page-end : tie.Need-slice_bounds-write_page-end invariant-loop decreases-loop
 part-write-page-end c =
     let sized = c.before.before.before in
-    omega (arith, (writing-page (loop sized).loop.invariant.0 (test sized).loop-test.true).inside, sized.page-size.ensures)
+    omega (arith, (writing-page (loop sized).loop.invariant.0 (test sized).loop-test.true).inside, sized.page_size-size.ensures)
 
-write-page-requires : tie.Need-write-page-requires invariant-loop decreases-loop
+write-page-requires : tie.Need-write_page-written-requires invariant-loop decreases-loop
 write-page-requires c κs =
     let sized = c.before.before.before.before in
     let inv = (loop sized).loop.invariant in
     let some = (test sized).loop-test.true in
     let ready = writing-page inv.0 some in
-    let long = sized.page-size.ensures in (
+    let long = sized.page_size-size.ensures in (
       (cut-ready _ _ _ long (omega (arith, ready.inside, long)) ready refl, cut-whole _ _ _ long (omega (arith, ready.inside, long))),
       (inv.1, (page-countable inv.0 some long, page-room inv.0 some long)),
     )
 
-add-here : tie.Need-overflow-add-here invariant-loop decreases-loop
+add-here : tie.Need-overflow_add-here invariant-loop decreases-loop
 add-here c =
     let sized = size c.before.before.before.before.before.before in
     omega (arith, (writing-page (loop sized).loop.inv.0 (test sized).loop-test.taken).inside, sized.page-size.ensures, (start (loop sized)).good)
 
-loop-again : tie.Need-loop-preserved invariant-loop decreases-loop
+loop-again : tie.Need-loop-pages_left-preserved invariant-loop decreases-loop
 loop-again c =
     let call = c.before.before.before.before.before.before in
     let sized = size call in
     let inv = (loop sized).loop.inv in
-    let written = call.write-page.ensures in
-    let kept = call.write-page.auto.1 in (
+    let written = call.write_page-written.ensures in
+    let kept = call.write_page-written.auto.1 in (
       writing_more inv.0 (test sized).loop-test.taken sized.page-size.ensures written.0,
       written.1,
       kept.0 ∙ inv.2,
@@ -84,8 +84,8 @@ loop-again c =
       kept.1.1.1.0 ∙ inv.4,
     )
 
-pub write-pages-spec : {M : Type 1} → statement M
-write-pages-spec =
+pub write_pages_spec : {M : Type 1} → statement M
+write_pages_spec =
     tie.close
     (tie.spec invariant-loop decreases-loop
     (λ c. let pre = c.before.before.before.before.before.before.before.before.requires in (writing-none _ _ _ _ _ _ _ _ pre.0 pre.1.1.0 _ _ pre.1.1.1, pre.1.0, refl, refl, refl))

@@ -19,7 +19,7 @@ use Rattle.paving_pages.proofs.pop_class.Statement.{statement}
 use Rattle.paving_pages.proofs.pop_class.Tie as tie
 
 -- what is left to append and to mark gives what the start gives, and so does what is left in the end; no box passed is of the class
-abbrev invariant-loop : tie.invariant-loop
+abbrev invariant-loop : tie.invariant-loop-first
 invariant-loop cells₀ classes sizes marks₀ boxes₀ rows cuts pages₀ class start end columns next₀ first₀ cells marks boxes pages next first =
     (length cells ≡ length cells₀) × (length marks ≡ length marks₀) × (length pages ≡ length pages₀)
     × ((emitted (put_page rows cuts sizes 4) (state pages next) (swept cells classes sizes class 4).0
@@ -30,28 +30,28 @@ invariant-loop cells₀ classes sizes marks₀ boxes₀ rows cuts pages₀ class
     × (first ≤ end) × NoneFrom cells (in_class classes class) 0 first × (first < end → in_class classes class (get_or cells first 0) ≡ true)
     × (length boxes ≡ length boxes₀)
 
-abbrev decreases-loop : tie.decreases-loop
+abbrev decreases-loop : tie.decreases-loop-first
 decreases-loop cells₀ classes sizes marks₀ boxes₀ rows cuts pages₀ class start end columns next₀ first₀ cells marks boxes pages next first = matching cells classes sizes class 4
 
-pop-group-requires : tie.Need-pop-group-requires invariant-loop decreases-loop
+pop-group-requires : tie.Need-pop_group-requires invariant-loop decreases-loop
 pop-group-requires c κs =
     let turn = c.before.before.before.before in
     let loop = turn.before in
     let wide = loop.before.before.before in
     let sized = wide.before in
     let entry = sized.before.before.before.before.before.before.before.before.before in
-    let i = loop.loop.invariant in (
+    let i = loop.loop-first.invariant in (
       room-len₂ _ _ _ _ _ _ _ i.1 (room-len _ _ _ _ _ _ _ i.0 entry.requires.0),
       (
-        omega (arith, turn.loop-test.true, sized.type_size.ensures),
+        omega (arith, turn.loop-first-test.true, sized.type_size.ensures),
         wide.width_of_lem.ensures,
         omega (arith, entry.requires.1.1.1.0.0, i.9),
         omega (arith, entry.requires.1.1.1.0.1, i.0),
-        first-with-value _ _ _ i.7 (i.8 turn.loop-test.true),
+        first-with-value _ _ _ i.7 (i.8 turn.loop-first-test.true),
       ),
     )
 
-put-page-requires : tie.Need-put-page-requires invariant-loop decreases-loop
+put-page-requires : tie.Need-put_page-next-requires invariant-loop decreases-loop
 put-page-requires c κs =
     let call = c.before.before.before.before.before.before.before.before in
     let turn = call.before.before.before.before.before in
@@ -67,7 +67,7 @@ put-page-requires c κs =
       (omega (arith, entry.requires.0.marked, one.auto.1.1.0, i.1), round_room _ _ _ _ _ _ _ _ _ _ _ round.0 i.2 entry.requires.1.1.1.1),
     )
 
-next-box-requires-2 : tie.Need-next-box-requires-2 invariant-loop decreases-loop
+next-box-requires-2 : tie.Need-next_box-first-requires-in-loop-first invariant-loop decreases-loop
 next-box-requires-2 c κs =
     let call = c.before.before.before.before.before.before.before.before.before.before.before.before in
     let loop = call.before.before.before.before.before.before in
@@ -76,7 +76,7 @@ next-box-requires-2 c κs =
     let i = loop.loop.invariant in
     (i.6, omega (arith, room-size _ _ _ _ _ _ entry.requires.0, sized.type_size.ensures, call.pop-group.auto.0, i.0), entry.requires.1.1.0)
 
-loop-less : tie.Need-loop-smaller invariant-loop decreases-loop
+loop-less : tie.Need-loop-first-smaller invariant-loop decreases-loop
 loop-less c =
     let call = c.before.before.before.before.before.before.before.before.before.before.before.before.before in
     let turn = call.before.before.before.before.before in
@@ -87,7 +87,7 @@ loop-less c =
     let group = first_group _ _ _ _ _ _ i.7 _ _ (omega (arith, entry.requires.0.marked, i.1)) one.ensures.0 (i.8 turn.loop-test.true) in
     matching-falls _ _ _ _ _ entry.requires.1.1.0 _ _ _ _ group.0 refl one.ensures.1
 
-loop-again : tie.Need-loop-preserved invariant-loop decreases-loop
+loop-again : tie.Need-loop-first-preserved invariant-loop decreases-loop
 loop-again c =
     let put = c.before.before.before.before.put-page in
     let call = c.before.before.before.before.before.before.before.before.before.before.before.before.before in
@@ -101,7 +101,7 @@ loop-again c =
     let one = call.pop-group in
     let group = first_group _ _ _ _ _ _ i.7 _ _ (omega (arith, entry.requires.0.marked, i.1)) one.ensures.0 (i.8 turn.loop-test.true) in
     let cleared = one.ensures.1 in
-    let box = c.next-box2.ensures in
+    let box = c.next_box-first-in-loop-first.ensures in
     let page = put_page a.row-starts.now a.cuts.now a.sizes.now 4 in
     let marked = marks-round _ _ _ _ _ none _ _ _ _ group.0 refl cleared _ _ group.1 in (
       one.auto.0 ∙ i.0,
@@ -123,16 +123,16 @@ returns c =
     let sized = loop.before.before.before.before in
     let entry = sized.before.before.before.before.before.before.before.before.before in
     let a = entry.args in
-    let i = loop.loop.invariant in
+    let i = loop.loop-first.invariant in
     let none = entry.requires.1.1.0 in
-    let over = no-group _ _ a.sizes.now _ 4 _ i.7 (omega (arith, c.loop-test.false, sized.type_size.ensures)) in
+    let over = no-group _ _ a.sizes.now _ 4 _ i.7 (omega (arith, c.loop-first-test.false, sized.type_size.ensures)) in
     let page = put_page a.row-starts.now a.cuts.now a.sizes.now 4 in
     let written = loop-end _ _ _ _ _ none page _ _ over refl _ _ _ i.3.0 i.3.1 in
     let marked = loop-end _ _ _ _ _ none (mark_group _ _) _ _ over refl _ _ _ i.4 i.3.1 in
     (written.0, record { marked = marked.0; left = written.1; elsewhere = i.5 })
 
-pub pop-class-spec : {M : Type 1} → statement M
-pop-class-spec =
+pub pop_class_spec : {M : Type 1} → statement M
+pop_class_spec =
     tie.close
     (tie.spec invariant-loop decreases-loop
     (λ c κs.

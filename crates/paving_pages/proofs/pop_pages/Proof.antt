@@ -14,7 +14,7 @@ use Rattle.paving_pages.proofs.Enough.{pages-few}
 use Rattle.paving_pages.proofs.pop_pages.Statement.{statement}
 use Rattle.paving_pages.proofs.pop_pages.Tie as tie
 
-abbrev invariant-loop : tie.invariant-loop
+abbrev invariant-loop : tie.invariant-loop-class
 invariant-loop cells₀ classes sizes marks₀ boxes₀ rows cuts pages₀ next₀ class₀ cells marks boxes pages next class =
     (class ≤ 6) × (length cells ≡ length cells₀) × (length marks ≡ length marks₀) × (length boxes ≡ length boxes₀) × (length pages ≡ length pages₀)
     × (next + length (groups_numbers rows cuts sizes 4 (groups_from cells classes sizes 5 class 4)) ≤ length pages)
@@ -23,10 +23,10 @@ invariant-loop cells₀ classes sizes marks₀ boxes₀ rows cuts pages₀ next�
     × ((cells₁ marks₁ : List ℕ) → TakenOut sizes 4 cells marks cells₁ marks₁ (groups_from cells classes sizes 5 class 4) (left_from cells classes sizes 5 class 4)
     → TakenOut sizes 4 cells₀ marks₀ cells₁ marks₁ (groups_from cells₀ classes sizes 5 1 4) (left_from cells₀ classes sizes 5 1 4))
 
-abbrev decreases-loop : tie.decreases-loop
+abbrev decreases-loop : tie.decreases-loop-class
 decreases-loop cells₀ classes sizes marks₀ boxes₀ rows cuts pages₀ next₀ class₀ cells marks boxes pages next class = 6 - class
 
-loop-holds : tie.Need-loop-init invariant-loop decreases-loop
+loop-holds : tie.Need-loop-class-init invariant-loop decreases-loop
 loop-holds c =
     let entry = c.before.before.before.before.before.before.before.before in
     let a = entry.args in
@@ -34,13 +34,13 @@ loop-holds c =
     let few = pages-few a.row-starts.now a.cuts.now a.cells.now a.classes.now a.sizes.now 5 1 p.1.1.0.0 in
     (omega arith, refl, refl, refl, refl, omega (arith, few, p.1.1.0.1), refl, λ cells₁ marks₁ taken. taken)
 
-pop-class-requires : tie.Need-pop-class-requires invariant-loop decreases-loop
+pop-class-requires : tie.Need-pop_class-next-requires invariant-loop decreases-loop
 pop-class-requires c κs =
     let turn = c.before.before.before.before in
     let loop = turn.before in
     let entry = loop.before.before.before.before.before.before.before.before.before in
     let p = entry.requires in
-    let i = loop.loop.invariant in (
+    let i = loop.loop-class.invariant in (
       room-len₂ _ _ _ _ _ _ _ i.2 (room-len _ _ _ _ _ _ _ i.1 p.0),
       (
         p.1.0,
@@ -48,19 +48,19 @@ pop-class-requires c κs =
           p.1.1.0.0,
           (
             (omega (arith, p.1.1.1.0, i.3), omega (arith, p.1.1.1.1, i.1)),
-            class-room _ _ _ _ _ _ _ _ _ loop.loop.pages turn.loop-test.true i.5,
+            class-room _ _ _ _ _ _ _ _ _ loop.loop-class.pages turn.loop-class-test.true i.5,
           ),
         ),
       ),
     )
 
-loop-again : tie.Need-loop-preserved invariant-loop decreases-loop
+loop-again : tie.Need-loop-class-preserved invariant-loop decreases-loop
 loop-again c =
     let call = c.before.before.before.before.before.before.before.before in
     let turn = call.before.before.before.before.before in
-    let i = turn.before.loop.invariant in
-    let one = call.pop-class in
-    let on = turn.loop-test.true in (
+    let i = turn.before.loop-class.invariant in
+    let one = call.pop_class-next in
+    let on = turn.loop-class-test.true in (
       omega (arith, on),
       one.auto.0 ∙ i.1,
       one.auto.1.1.1.0 ∙ i.2,
@@ -73,13 +73,13 @@ loop-again c =
 
 returns : tie.Need-returns invariant-loop decreases-loop
 returns c =
-    let over = c.loop-test.false in
-    let i = c.before.loop.invariant in
+    let over = c.loop-class-test.false in
+    let i = c.before.loop-class.invariant in
     let whole = pages-whole _ _ _ _ _ _ _ _ (groups-end _ _ _ _ _ _ (put_page _ _ _ _) _ over ∙ i.6) in
     (whole.0, whole.1, i.7 _ _ (taken_none _ _ _ _ _ _ _ over))
 
-pub pop-pages-spec : {M : Type 1} → statement M
-pop-pages-spec =
+pub pop_pages_spec : {M : Type 1} → statement M
+pop_pages_spec =
     tie.close
     (tie.spec invariant-loop decreases-loop loop-holds pop-class-requires
     (λ c. omega (arith, c.before.before.before.before.before.before.before.before.before.before.before.before.before.loop-test.true))

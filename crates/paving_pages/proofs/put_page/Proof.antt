@@ -7,29 +7,29 @@ use Rattle.paving_pages.proofs.Writing.{page-room, put-page}
 use Rattle.paving_pages.proofs.put_page.Statement.{statement}
 use Rattle.paving_pages.proofs.put_page.Tie as tie
 
-slice-write-pages : tie.Need-slice-write-pages
+slice-write-pages : tie.Need-bounds-pages-at
 slice-write-pages c =
     let entry = c.before.before.before.before.before in
     let a = entry.args in
     let room = page-room a.row-starts.now a.cuts.now a.sizes.now a.marks.now a.value a.at a.dims-left (length a.pages.now) in
     omega (arith, room entry.requires.1.1)
 
-fits : tie.Need-overflow-add-put-sorts-3
+fits : tie.Need-overflow_add-at-3
 fits c =
     let entry = c.before.before.before.before.before.before in
     let a = entry.args in
     let room = page-room a.row-starts.now a.cuts.now a.sizes.now a.marks.now a.value a.at a.dims-left (length a.pages.now) in
     omega (arith, room entry.requires.1.1, entry.well-formed)
 
-put-sorts-requires : tie.Need-put-sorts-requires
+put-sorts-requires : tie.Need-put_sorts-requires
 put-sorts-requires c κs =
     let entry = c.before.before.before.before.before.before in
     let a = entry.args in
     let room = page-room a.row-starts.now a.cuts.now a.sizes.now a.marks.now a.value a.at a.dims-left (length a.pages.now) in
     (entry.requires.0, ((entry.requires.1.0, omega arith), omega (arith, room entry.requires.1.1, length-set a.pages.now a.at a.value)))
 
-pub put-page-spec : {M : Type 1} → statement M
-put-page-spec =
+pub put_page_spec : {M : Type 1} → statement M
+put_page_spec =
     tie.close
     (tie.spec
     (λ c. search rules) slice-write-pages

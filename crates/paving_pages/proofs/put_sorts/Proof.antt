@@ -9,14 +9,14 @@ use Rattle.paving_pages.proofs.Writing.{row-cuts, LaidTo, laid-begin, base_there
 use Rattle.paving_pages.proofs.put_sorts.Statement.{statement}
 use Rattle.paving_pages.proofs.put_sorts.Tie as tie
 
-abbrev invariant-loop : tie.invariant-loop
+abbrev invariant-loop : tie.invariant-loop-sort
 invariant-loop pages₀ sizes rows cuts marks counts-at start dims-left base₀ next₀ sort₀ pages base next sort =
     LaidTo rows cuts sizes marks dims-left counts-at start pages₀ pages base next sort
 
-abbrev decreases-loop : tie.decreases-loop
+abbrev decreases-loop : tie.decreases-loop-sort
 decreases-loop pages₀ sizes rows cuts marks counts-at start dims-left base₀ next₀ sort₀ pages base next sort = dims-left - sort
 
-put-items-requires : tie.Need-put-items-requires invariant-loop decreases-loop
+put-items-requires : tie.Need-put_items-item_count-requires invariant-loop decreases-loop
 put-items-requires c κs =
     let row = c.before in
     let width = row.before.before in
@@ -24,15 +24,15 @@ put-items-requires c κs =
     let loop = turn.before in
     let entry = loop.before.before.before.before.before.before.before in
     let pre = entry.requires in
-    let to = loop.loop.invariant in
-    let lt = turn.loop-test.true in
-    let en = width.u16-to-usize.ensures.0 in
-    let er = row.u16-to-usize2.ensures.0 in (
+    let to = loop.loop-sort.invariant in
+    let lt = turn.loop-sort-test.true in
+    let en = width.u16_to_usize-width.ensures.0 in
+    let er = row.u16_to_usize.ensures.0 in (
       omega (arith, base_there _ _ _ _ _ _ _ _ _ _ _ _ _ _ to lt en er, to.place, pre.1.0.0),
       (row-cuts lt pre.0 er en, sort-room _ _ _ _ _ _ _ _ _ _ _ _ _ _ to lt en er pre.1.1),
     )
 
-loop-again : tie.Need-loop-preserved invariant-loop decreases-loop
+loop-again : tie.Need-loop-sort-preserved invariant-loop decreases-loop
 loop-again c =
     let items = c.before.before in
     let row = items.before.before in
@@ -40,11 +40,11 @@ loop-again c =
     let turn = width.before.before in
     let loop = turn.before in
     let entry = loop.before.before.before.before.before.before.before in
-    laid_more _ _ _ _ _ _ _ _ _ _ _ _ _ _ loop.loop.invariant turn.loop-test.true width.u16-to-usize.ensures.0 row.u16-to-usize2.ensures.0 _ _
-    entry.requires.1.0.1 items.put-items.auto.1.1.1.1.1.0 items.put-items.ensures
+    laid_more _ _ _ _ _ _ _ _ _ _ _ _ _ _ loop.loop-sort.invariant turn.loop-sort-test.true width.u16_to_usize-width.ensures.0 row.u16_to_usize.ensures.0 _ _
+    entry.requires.1.0.1 items.put_items-item_count.auto.1.1.1.1.1.0 items.put_items-item_count.ensures
 
 -- a sort has fewer items than its columns, and they have room
-few : tie.Need-overflow-cast-pages invariant-loop decreases-loop
+few : tie.Need-overflow_cast-pages invariant-loop decreases-loop
 few c =
     let items = c.before.before in
     let row = items.before.before in
@@ -53,12 +53,12 @@ few c =
     let a = loop.before.before.before.before.before.before.before.args in
     omega (
       arith,
-      items-half a.marks.now (loop.loop.base - width.u16-to-usize.result) width.u16-to-usize.result a.cuts.now row.u16-to-usize2.result,
-      width.u16-to-usize.ensures.1,
-      items.put-items.ensures.0,
+      items-half a.marks.now (loop.loop-sort.base - width.u16_to_usize-width.result) width.u16_to_usize-width.result a.cuts.now row.u16_to_usize.result,
+      width.u16_to_usize-width.ensures.1,
+      items.put_items-item_count.ensures.0,
     )
 
-add-next : tie.Need-overflow-add-next invariant-loop decreases-loop
+add-next : tie.Need-overflow_add-next invariant-loop decreases-loop
 add-next c =
     let items = c.before.before in
     let row = items.before.before in
@@ -66,12 +66,12 @@ add-next c =
     let turn = width.before.before in
     let loop = turn.before in
     let entry = loop.before.before.before.before.before.before.before in
-    let room = sort-room _ _ _ _ _ _ _ _ _ _ _ _ _ _ loop.loop.invariant turn.loop-test.true width.u16-to-usize.ensures.0 row.u16-to-usize2.ensures.0
+    let room = sort-room _ _ _ _ _ _ _ _ _ _ _ _ _ _ loop.loop-sort.invariant turn.loop-sort-test.true width.u16_to_usize-width.ensures.0 row.u16_to_usize.ensures.0
     entry.requires.1.1 in
-    omega (arith, room, items.put-items.ensures.0, loop.loop.invariant.long, entry.well-formed)
+    omega (arith, room, items.put_items-item_count.ensures.0, loop.loop-sort.invariant.long, entry.well-formed)
 
-pub put-sorts-spec : {M : Type 1} → statement M
-put-sorts-spec =
+pub put_sorts_spec : {M : Type 1} → statement M
+put_sorts_spec =
     tie.close
     (tie.spec invariant-loop decreases-loop
     (λ c κs.

@@ -34,21 +34,21 @@ whole : (c : tie.After-size-of) → c.type_size.result + 1 - 1 ≡ c.type_size.r
 whole c = omega arith
 
 -- ## What is needed
-size-of-requires : tie.Need-size-of-requires
+size-of-requires : tie.Need-size_of-boxes-requires
 size-of-requires c κs =
     let given = c.before.before.before.before.before.before.before.before.before.requires.0.2 in
     (omega (arith, given.cut.four), given.cut.filled, omega (arith, given.few-boxes))
 
-number-lists-requires : tie.Need-number-lists-requires
+number-lists-requires : tie.Need-number_lists-requires
 number-lists-requires c κs =
     let size = c.before.before.before.before.before in
     let entry = start size in
     let a = entry.args in
     let given = entry.pre.0 in
     own-numbered a.states.now a.span_counts.now a.spans.now a.row-starts.now a.sizes.now a.cuts.now a.lists.now given.0 given.1 given.2 _ _ _ _
-    size.type_size.ensures entry.pre.1.1 entry.pre.1.0 c.before.before.before.before.box-classes.ensures
+    size.type_size.ensures entry.pre.1.1 entry.pre.1.0 c.before.before.before.before.box_classes-classes.ensures
 
-pop-pages-requires : tie.Need-pop-pages-requires
+pop-pages-requires : tie.Need-pop_pages-stop-requires
 pop-pages-requires c κs =
     let numbered = c.before.before.before.before.before.before.before.before.before in
     let made = numbered.before.before.before.before in
@@ -58,10 +58,10 @@ pop-pages-requires c κs =
     let given = entry.pre.0 in
     own-popped a.states.now a.span_counts.now a.spans.now a.row-starts.now a.sizes.now a.cuts.now a.lists.now given.0 given.1 given.2
     (numbers numbered) (classes numbered) _ _ size.type_size.ensures (whole size)
-    (omega (arith, entry.pre.1.0, numbered.number-lists.auto.1.1.1.1.1.1.0)) numbered.number-lists.ensures _ _
-    (omega (arith, given.2.few-boxes, made.marks.ensures)) (omega (arith, entry.pre.1.1, numbered.number-lists.auto.1.1.1.1.1.0))
+    (omega (arith, entry.pre.1.0, numbered.number_lists.auto.1.1.1.1.1.1.0)) numbered.number_lists.ensures _ _
+    (omega (arith, given.2.few-boxes, made.marks-marks.ensures)) (omega (arith, entry.pre.1.1, numbered.number_lists.auto.1.1.1.1.1.0))
 
-count-pages-requires : tie.Need-count-pages-requires
+count-pages-requires : tie.Need-count_pages-requires
 count-pages-requires c κs =
     let popped = c.before.before.before.before.before.before in
     let numbered = number popped in
@@ -86,10 +86,10 @@ returns c =
     (numbers numbered) (classes numbered) _ _ size.type_size.ensures (whole size)
     (omega (arith, entry.pre.1.0, numbered.number-lists.kept.1.1.1.1.1.1.0)) numbered.number-lists.ensures (pages numbered) _
     (omega (arith, entry.pre.1.1, numbered.number-lists.kept.1.1.1.1.1.0)) popped.pop-pages.ensures.1 _ popped.pop-pages.ensures.0 form commented _
-    c.count-pages.ensures
+    c.count_pages.ensures
 
-pub fold-lists-spec : {M : Type 1} → statement M
-fold-lists-spec =
+pub fold_lists_spec : {M : Type 1} → statement M
+fold_lists_spec =
     tie.close
     (tie.spec size-of-requires (λ c κs. search rules) (λ c κs. search rules) (λ c. search rules) number-lists-requires (λ c. search rules) (λ c. search rules) (λ c. search rules)
     (λ c. search rules) (λ c. search rules) (λ c. search rules) pop-pages-requires count-pages-requires (λ c. search rules) (λ c. search rules) returns)

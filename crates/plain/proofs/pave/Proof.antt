@@ -9,19 +9,19 @@ use Rattle.plain.proofs.pave.Tie as tie
 abbrev start : tie.After-list-rules → tie.Start
 start c = c.before.before.before.before.before.before.before.before.before.before.before.before.before.before
 
-list-rules-requires : tie.Need-list-rules-requires
+list-rules-requires : tie.Need-list_rules-listed-requires
 list-rules-requires c κs =
     let pre = c.before.before.before.before.before.before.before.before.before.before.before.before.before.requires in
     let given = pre.0.1 in
     ((_, (given.drawable, given.passed.apart)), (given.passed.few-boxes, pre.1.listed, pre.1.empty))
 
-returns : tie.Need-returns
+returns : tie.Need-returns-in-Refused
 returns c =
     let listing = c.before.before.before.before.before in
     λ rs given. paves-refused _ _ _ _ _ rs _ _
-    (listing-refused _ _ _ _ rs _ (listing.list-rules.ensures rs (given.drawable, given.passed.apart)) _ _ c.before.listed.given.1)
+    (listing-refused _ _ _ _ rs _ (listing.list_rules-listed.ensures rs (given.drawable, given.passed.apart)) _ _ c.before.listed-1.given.1)
 
-fold-lists-requires : tie.Need-fold-lists-requires
+fold-lists-requires : tie.Need-fold_lists-count-requires
 fold-lists-requires c κs =
     let listing = c.before.before.before.before.before.before.before in
     let pre = (start listing).requires in
@@ -29,16 +29,16 @@ fold-lists-requires c κs =
     let held = listing-held _ _ _ _ _ _ (listing.list-rules.ensures _ (given.drawable, given.passed.apart)) c.before.before.before.enum_told.given.1 in
     ((_, given.times, held.1), (pre.1.numbered, pre.1.paged))
 
-returns-2 : tie.Need-returns-2
+returns-2 : tie.Need-returns-in-Held
 returns-2 c =
     let folding = c.before.before.before.before in
     let listing = folding.before.before.before.before.before.before.before.before in
     λ rs given.
     let held = listing-held _ _ _ _ rs _ (listing.list-rules.ensures rs (given.drawable, given.passed.apart)) folding.before.before.before.before.enum_told.given.1 in
-    paves-pages _ _ _ _ _ rs _ held.0 (λ form commented. folding.fold-lists.ensures rs form given.times held.1 commented)
+    paves-pages _ _ _ _ _ rs _ held.0 (λ form commented. folding.fold_lists-count.ensures rs form given.times held.1 commented)
 
-pub pave-spec : {M : Type 1} → statement M
-pave-spec =
+pub pave_spec : {M : Type 1} → statement M
+pave_spec =
     tie.close
     (tie.spec
     list-rules-requires (λ c. search rules) (λ c. search rules) fold-lists-requires (λ c. search rules) returns (λ c. search rules) (λ c. search rules) (λ c. search rules) returns-2)

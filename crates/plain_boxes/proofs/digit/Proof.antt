@@ -8,23 +8,23 @@ use Rattle.plain_boxes.specs.Digits.{digit_of}
 use Rattle.plain_boxes.proofs.digit.Statement.{statement}
 use Rattle.plain_boxes.proofs.digit.Tie as tie
 
-div-result : tie.Need-nonzero-div-result
+div-result : tie.Need-nonzero_div-result
 div-result c =
     let sized = c.before.before in
     let start = sized.before.before in
     omega (arith, size-pos start.args.sizes.now start.args.dimension (λ k l. start.requires.1 k (omega arith)), sized.type_size.ensures)
 
-rem-result : tie.Need-nonzero-rem-result
+rem-result : tie.Need-nonzero_rem-result
 rem-result c =
     let start = c.before.before.before.before in
-    omega (arith, start.requires.1 start.args.dimension (omega arith), c.u16-to-usize.ensures.0)
+    omega (arith, start.requires.1 start.args.dimension (omega arith), c.u16_to_usize-width.ensures.0)
 
 returns : tie.Need-returns
 unfolding digit_of
-returns c = ap₂ (λ below width. c.before.before.before.before.args.box-index / below % width) c.before.before.type_size.ensures c.u16-to-usize.ensures.0
+returns c = ap₂ (λ below width. c.before.before.before.before.args.box-index / below % width) c.before.before.type_size.ensures c.u16_to_usize-width.ensures.0
 
-pub digit-spec : {M : Type 1} → statement M
-digit-spec =
+pub digit_spec : {M : Type 1} → statement M
+digit_spec =
     tie.close
     (tie.spec
     (λ c κs. let pre = c.before.requires in (omega (arith, pre.0), (λ k l. pre.1 k (omega arith)), pre.2))

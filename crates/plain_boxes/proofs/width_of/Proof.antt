@@ -8,42 +8,42 @@ use Rattle.plain_boxes.proofs.Widths.{width-none, width-next, width-le}
 use Rattle.plain_boxes.proofs.width_of.Statement.{statement}
 use Rattle.plain_boxes.proofs.width_of.Tie as tie
 
-abbrev invariant-loop : tie.invariant-loop
+abbrev invariant-loop : tie.invariant-loop-dimension
 invariant-loop sizes left width₀ dimension₀ width dimension = (dimension ≤ left) × (width ≡ width_of sizes dimension)
 
-abbrev decreases-loop : tie.decreases-loop
+abbrev decreases-loop : tie.decreases-loop-dimension
 decreases-loop sizes left width₀ dimension₀ width dimension = left - dimension
 
-add-width : tie.Need-overflow-add-width invariant-loop decreases-loop
+add-width : tie.Need-overflow_add-width invariant-loop decreases-loop
 add-width c =
     let loop = c.before.before.before in
     let start = loop.before.before in
     let sizes = start.args.sizes.now in
-    let i = loop.loop.dimension in
+    let i = loop.loop-dimension.dimension in
     omega (
       arith,
       width-next sizes i (suc i) (omega arith),
-      width-le sizes (suc i) start.args.dims-left (omega (arith, c.before.before.loop-test.true)),
-      c.u16-to-usize.ensures.0,
-      loop.loop.invariant.1,
+      width-le sizes (suc i) start.args.dims-left (omega (arith, c.before.before.loop-dimension-test.true)),
+      c.u16_to_usize-width.ensures.0,
+      loop.loop-dimension.invariant.1,
       start.requires.1,
     )
 
-loop-again : tie.Need-loop-preserved invariant-loop decreases-loop
+loop-again : tie.Need-loop-dimension-preserved invariant-loop decreases-loop
 loop-again c =
     let loop = c.before.before.before in
     let sizes = loop.before.before.args.sizes.now in
-    let i = loop.loop.dimension in
-    (omega (arith, c.before.before.loop-test.true), omega (arith, width-next sizes i (i + 1) (omega arith), c.u16-to-usize.ensures.0, loop.loop.invariant.1))
+    let i = loop.loop-dimension.dimension in
+    (omega (arith, c.before.before.loop-dimension-test.true), omega (arith, width-next sizes i (i + 1) (omega arith), c.u16_to_usize-width.ensures.0, loop.loop-dimension.invariant.1))
 
 returns : tie.Need-returns invariant-loop decreases-loop
 returns c =
     let args = c.before.before.before.args in
-    let all : c.before.loop.dimension ≡ args.dims-left = omega arith in
-    c.before.loop.invariant.1 ∙ ap (width_of args.sizes.now) all
+    let all : c.before.loop-dimension.dimension ≡ args.dims-left = omega arith in
+    c.before.loop-dimension.invariant.1 ∙ ap (width_of args.sizes.now) all
 
-pub width-of-spec : {M : Type 1} → statement M
-width-of-spec =
+pub width_of_spec : {M : Type 1} → statement M
+width_of_spec =
     tie.close
     (tie.spec invariant-loop decreases-loop (λ c. (omega arith, sym (width-none _))) (λ c. search rules) (λ c. omega arith) (λ c κs. search rules) add-width
     (λ c. omega arith) (λ c. omega arith) loop-again returns)

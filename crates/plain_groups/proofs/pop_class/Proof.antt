@@ -18,7 +18,7 @@ use Rattle.plain_groups.proofs.pop_class.Statement.{statement}
 use Rattle.plain_groups.proofs.pop_class.Tie as tie
 
 -- what is left to append and to mark gives what the start gives, and so does what is left in the end; no box passed is of the class
-abbrev invariant-loop : tie.invariant-loop
+abbrev invariant-loop : tie.invariant-loop-first
 invariant-loop cells₀ classes sizes marks₀ rows cuts pages₀ class start boxes next₀ first₀ cells marks pages next first =
     (length cells ≡ length cells₀) × (length marks ≡ length marks₀) × (length pages ≡ length pages₀)
     × ((emitted (put_page rows cuts sizes 4) (state pages next) (swept cells classes sizes class 4).0
@@ -28,10 +28,10 @@ invariant-loop cells₀ classes sizes marks₀ rows cuts pages₀ class start bo
     × ((d : ℕ) → 1 ≤ d → grid cells sizes 4 d ≡ grid cells₀ sizes 4 d)
     × (first ≤ boxes) × NoneFrom cells (in_class classes class) 0 first × (first < boxes → in_class classes class (get_or cells first 0) ≡ true)
 
-abbrev decreases-loop : tie.decreases-loop
+abbrev decreases-loop : tie.decreases-loop-first
 decreases-loop cells₀ classes sizes marks₀ rows cuts pages₀ class start boxes next₀ first₀ cells marks pages next first = matching cells classes sizes class 4
 
-mark-group-requires : tie.Need-mark-group-requires invariant-loop decreases-loop
+mark-group-requires : tie.Need-mark_group-requires invariant-loop decreases-loop
 mark-group-requires c κs =
     let loop = c.before.before.before.before in
     let sized = loop.before.before.before in
@@ -41,7 +41,7 @@ mark-group-requires c κs =
       omega (arith, c.before.before.before.loop-test.true, sized.type_size.ensures),
     )
 
-empty-group-requires : tie.Need-empty-group-requires invariant-loop decreases-loop
+empty-group-requires : tie.Need-empty_group-requires invariant-loop decreases-loop
 empty-group-requires c κs =
     let mark = c.before.before.before.before in
     let loop = mark.before.before.before.before.before in
@@ -49,7 +49,7 @@ empty-group-requires c κs =
     let i = loop.loop.invariant in
     room-len₂ _ _ _ _ _ _ _ (mark.mark-group.auto.1.1.0 ∙ i.1) (room-len _ _ _ _ _ _ _ i.0 entry.requires.0)
 
-put-page-requires : tie.Need-put-page-requires invariant-loop decreases-loop
+put-page-requires : tie.Need-put_page-next-requires invariant-loop decreases-loop
 put-page-requires c κs =
     let empty = c.before.before.before.before in
     let mark = empty.before.before.before.before.before in
@@ -65,7 +65,7 @@ put-page-requires c κs =
       (omega (arith, entry.requires.0.marked, mark.mark-group.auto.1.1.0, i.1), round_room _ _ _ _ _ _ _ _ _ _ _ round.0 i.2 entry.requires.1.1.1),
     )
 
-next-cell-requires-2 : tie.Need-next-cell-requires-2 invariant-loop decreases-loop
+next-cell-requires-2 : tie.Need-next_cell-first-requires-in-loop-first invariant-loop decreases-loop
 next-cell-requires-2 c κs =
     let empty = c.before.before.before.before.before.before.before.before in
     let loop = empty.before.before.before.before.before.before.before.before.before.before in
@@ -74,7 +74,7 @@ next-cell-requires-2 c κs =
     let i = loop.loop.invariant in
     (i.6, omega (arith, room-size _ _ _ _ _ _ entry.requires.0, sized.type_size.ensures, empty.empty_group.auto.0, i.0))
 
-loop-less : tie.Need-loop-smaller invariant-loop decreases-loop
+loop-less : tie.Need-loop-first-smaller invariant-loop decreases-loop
 loop-less c =
     let empty = c.before.before.before.before.before.before.before.before.before in
     let mark = empty.before.before.before.before.before in
@@ -85,7 +85,7 @@ loop-less c =
     let group = first_group _ _ _ _ _ _ i.7 _ _ (omega (arith, entry.requires.0.marked, i.1)) mark.mark-group.ensures (i.8 turn.loop-test.true) in
     matching-falls _ _ _ _ _ entry.requires.1.1.0 _ _ _ _ group.0 refl empty.empty_group.ensures
 
-loop-again : tie.Need-loop-preserved invariant-loop decreases-loop
+loop-again : tie.Need-loop-first-preserved invariant-loop decreases-loop
 loop-again c =
     let put = c.before.before.before.before.put-page in
     let empty = c.before.before.before.before.before.before.before.before.before in
@@ -99,7 +99,7 @@ loop-again c =
     let none = entry.requires.1.1.0 in
     let group = first_group _ _ _ _ _ _ i.7 _ _ (omega (arith, entry.requires.0.marked, i.1)) mark.mark-group.ensures (i.8 turn.loop-test.true) in
     let cleared = empty.empty_group.ensures in
-    let cell = c.next-cell2.ensures in
+    let cell = c.next_cell-first-in-loop-first.ensures in
     let page = put_page a.row-starts.now a.cuts.now a.sizes.now 4 in
     let marked = marks-round _ _ _ _ _ none _ _ _ _ group.0 refl cleared _ _ group.1 in (
       empty.empty_group.auto.0 ∙ i.0,
@@ -120,16 +120,16 @@ returns c =
     let sized = loop.before.before.before in
     let entry = sized.before.before.before.before.before.before.before.before in
     let a = entry.args in
-    let i = loop.loop.invariant in
+    let i = loop.loop-first.invariant in
     let none = entry.requires.1.1.0 in
-    let over = no-group _ _ a.sizes.now _ 4 _ i.7 (omega (arith, c.loop-test.false, sized.type_size.ensures)) in
+    let over = no-group _ _ a.sizes.now _ 4 _ i.7 (omega (arith, c.loop-first-test.false, sized.type_size.ensures)) in
     let page = put_page a.row-starts.now a.cuts.now a.sizes.now 4 in
     let written = loop-end _ _ _ _ _ none page _ _ over refl _ _ _ i.3.0 i.3.1 in
     let marked = loop-end _ _ _ _ _ none (mark_group _ _) _ _ over refl _ _ _ i.4 i.3.1 in
     (written.0, record { marked = marked.0; left = written.1; elsewhere = i.5 })
 
-pub pop-class-spec : {M : Type 1} → statement M
-pop-class-spec =
+pub pop_class_spec : {M : Type 1} → statement M
+pop_class_spec =
     tie.close
     (tie.spec invariant-loop decreases-loop
     (λ c κs.

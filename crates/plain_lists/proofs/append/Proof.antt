@@ -28,8 +28,8 @@ allowed c = sym c.before.entry-allowed.ensures ∙ not-false _ c.if2.false
 few : (c : tie.Else2) → c.before.before.if1.count < 32
 few c = ltb-true c.before.before.if1.count 32 (allowed c)
 
-pub append-spec : {M : Type 1} → statement M
-append-spec =
+pub append_spec : {M : Type 1} → statement M
+append_spec =
     tie.close
     (tie.spec
     (λ c. search rules) (λ c. search rules) (λ c. search rules) (λ c κs. search rules)

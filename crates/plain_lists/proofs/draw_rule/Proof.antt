@@ -11,11 +11,11 @@ use Rattle.plain_lists.proofs.Drawing.{Drawn, drawn-none, drawn-all, drawn-have,
 use Rattle.plain_lists.proofs.draw_rule.Statement.{statement}
 use Rattle.plain_lists.proofs.draw_rule.Tie as tie
 
-abbrev invariant-loop : tie.invariant-loop
+abbrev invariant-loop : tie.invariant-loop-box_index
 invariant-loop lists₀ rows sizes cuts counts ranges rule replaces boxes box₀ lists box =
     (box ≤ boxes) × (length lists ≡ length lists₀) × Drawn lists₀ boxes rule replaces (covers_box rows sizes cuts counts ranges rule) lists box
 
-abbrev decreases-loop : tie.decreases-loop
+abbrev decreases-loop : tie.decreases-loop-box_index
 decreases-loop lists₀ rows sizes cuts counts ranges rule replaces boxes box₀ lists box = boxes - box
 
 -- from where the box is known to be covered or not back to the loop's turn, and to where the function begins
@@ -25,8 +25,8 @@ turn c = c.before
 abbrev start : tie.In-loop invariant-loop decreases-loop → tie.Start invariant-loop decreases-loop
 start c = c.before.before.before.before.before.before.before.before
 
-pub draw-rule-spec : {M : Type 1} → statement M
-draw-rule-spec =
+pub draw_rule_spec : {M : Type 1} → statement M
+draw_rule_spec =
     tie.close
     (tie.spec
     invariant-loop decreases-loop

@@ -11,11 +11,11 @@ use Rattle.plain_lists.proofs.Going.{Going, have-none, going_start, going-covera
 use Rattle.plain_lists.proofs.list_rules.Statement.{statement}
 use Rattle.plain_lists.proofs.list_rules.Tie as tie
 
-abbrev invariant-loop : tie.invariant-loop
+abbrev invariant-loop : tie.invariant-loop-rule
 invariant-loop lists₀ rows sizes cuts replacing counts ranges rules boxes rule₀ lists rule =
     (rule ≤ rules) × (length lists ≡ length lists₀) × HaveLists lists boxes × Going replacing counts ranges rows sizes cuts rules lists rule
 
-abbrev decreases-loop : tie.decreases-loop
+abbrev decreases-loop : tie.decreases-loop-rule
 decreases-loop lists₀ rows sizes cuts replacing counts ranges rules boxes rule₀ lists rule = rules - rule
 
 -- from where the lists were counted back to where the rule was drawn, to the loop's turn, to where the boxes were counted, and to where the function begins
@@ -31,24 +31,24 @@ sized c = c.before
 abbrev start : tie.After-size-of invariant-loop decreases-loop → tie.Start invariant-loop decreases-loop
 start c = c.before.before.before.before.before.before.before.before
 
-draw-rule-requires : tie.Need-draw-rule-requires invariant-loop decreases-loop
+draw-rule-requires : tie.Need-draw_rule-requires invariant-loop decreases-loop
 draw-rule-requires c κs =
     let test = c.before.before in
     let loop = test.before in
     let t = (start (sized loop)).pre.0.1 in
-    let here = test.loop-test.true in
+    let here = test.loop-rule-test.true in
     let there = rule-there _ _ _ _ _ _ _ _ t _ here in
-    ((loop.loop.invariant.2, there.0), going-coverable _ _ _ _ _ _ _ _ _ here _ (sized loop).type_size.ensures loop.loop.invariant.2 _ t)
+    ((loop.loop-rule.invariant.2, there.0), going-coverable _ _ _ _ _ _ _ _ _ here _ (sized loop).type_size.ensures loop.loop-rule.invariant.2 _ t)
 
 -- 6
-returns : tie.Need-returns invariant-loop decreases-loop
+returns : tie.Need-returns-then-not-draw_rule invariant-loop decreases-loop
 returns c =
     let draws = c.before.before.before in
     let loop = (turn draws).before in
     let inv = loop.loop.inv in
-    going-long _ _ _ _ _ _ _ _ _ (turn draws).loop-test.true _ (sized loop).type_size.ensures inv.2 inv.3 _ _ draws.draw-rule.ensures (not-true _ c.if1.true)
+    going-long _ _ _ _ _ _ _ _ _ (turn draws).loop-test.true _ (sized loop).type_size.ensures inv.2 inv.3 _ _ draws.draw_rule.ensures (not-true _ c.if-not-draw_rule.true)
 
-too-many-requires : tie.Need-too-many-requires invariant-loop decreases-loop
+too-many-requires : tie.Need-too_many-requires invariant-loop decreases-loop
 too-many-requires c κs =
     let draws = c.before.before.before.before in
     let loop = (turn draws).before in
@@ -57,15 +57,15 @@ too-many-requires c κs =
     draws.draw-rule.auto.0
 
 -- 14
-returns-2 : tie.Need-returns-2 invariant-loop decreases-loop
+returns-2 : tie.Need-returns-then-too_many invariant-loop decreases-loop
 returns-2 c =
     let draws = drawn c.before in
     let loop = (turn draws).before in
     let inv = loop.loop.inv in
     going-many _ _ _ _ _ _ _ _ _ (turn draws).loop-test.taken _ (sized loop).type_size.ensures inv.2 inv.3 _ _ draws.draw-rule.ensures
-    (not-false _ c.before.before.before.if1.false) _ c.before.too_many.ensures c.if2.true
+    (not-false _ c.before.before.before.if1.false) _ c.before.too_many.ensures c.if-too_many.true
 
-loop-again : tie.Need-loop-preserved invariant-loop decreases-loop
+loop-again : tie.Need-loop-rule-preserved invariant-loop decreases-loop
 loop-again c =
     let draws = drawn c.before in
     let loop = (turn draws).before in
@@ -76,11 +76,11 @@ loop-again c =
       omega (arith, here),
       draws.draw-rule.kept.0 ∙ inv.1,
       have-next _ _ _ _ _ _ _ _ _ here _ boxes inv.2 inv.3 _ _ draws.draw-rule.ensures fits draws.draw-rule.kept.0,
-      going_next _ _ _ _ _ _ _ _ _ here _ boxes inv.2 inv.3 _ _ draws.draw-rule.ensures fits _ c.before.too_many.ensures c.if2.false,
+      going_next _ _ _ _ _ _ _ _ _ here _ boxes inv.2 inv.3 _ _ draws.draw-rule.ensures fits _ c.before.too_many.ensures c.if-too_many.false,
     )
 
-pub list-rules-spec : {M : Type 1} → statement M
-list-rules-spec =
+pub list_rules_spec : {M : Type 1} → statement M
+list_rules_spec =
     tie.close
     (tie.spec
     invariant-loop decreases-loop

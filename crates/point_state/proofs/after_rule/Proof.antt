@@ -4,8 +4,8 @@ use Rattle.point_state.proofs.State.{rule-alone, rule-ended, rule-unsettled}
 use Rattle.point_state.proofs.after_rule.Statement.{statement}
 use Rattle.point_state.proofs.after_rule.Tie as tie
 
-pub after-rule-spec : {M : Type 1} → statement M
-after-rule-spec =
+pub after_rule_spec : {M : Type 1} → statement M
+after_rule_spec =
     tie.close
     (tie.spec
     (λ c κs. search rules)

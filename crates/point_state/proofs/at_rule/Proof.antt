@@ -5,8 +5,8 @@ use Rattle.point_state.proofs.State.{rule-passed, rule-drawn}
 use Rattle.point_state.proofs.at_rule.Statement.{statement}
 use Rattle.point_state.proofs.at_rule.Tie as tie
 
-pub at-rule-spec : {M : Type 1} → statement M
-at-rule-spec =
+pub at_rule_spec : {M : Type 1} → statement M
+at_rule_spec =
     tie.close
     (tie.spec
     (λ c κs. search rules)

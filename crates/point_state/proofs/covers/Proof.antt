@@ -34,8 +34,8 @@ weeks : (c : tie.After-holds-in3) → let a = (start (by-year (by-month c))).arg
     c.holds-in3.result ≡ covers_point a.range-counts.now a.ranges.now a.rule 3 (a.moment.week ∷ a.moment.month ∷ a.moment.year ∷ [])
 weeks c = one_more _ _ _ _ _ _ _ _ _ (months (by-month c)) (not-false _ c.before.before.if2.left) c.before.u8-to-u162.ensures.0 c.holds-in3.ensures
 
-pub covers-spec : {M : Type 1} → statement M
-covers-spec =
+pub covers_spec : {M : Type 1} → statement M
+covers_spec =
     tie.close
     (tie.spec
     (λ c κs. search rules)

@@ -10,20 +10,20 @@ use Rattle.point_state.proofs.State.{StateBy, each-there, state-start, state-nex
 use Rattle.point_state.proofs.point_state.Statement.{statement}
 use Rattle.point_state.proofs.point_state.Tie as tie
 
-abbrev invariant-loop : tie.invariant-loop
+abbrev invariant-loop : tie.invariant-loop-rule
 invariant-loop states span_counts spans replacing range-counts ranges moment found₀ rule₀ found rule = (rule ≤ length states)
     × ((rs : List Rule) (given : PointRules states span_counts spans replacing range-counts ranges rs)
     → StateBy states span_counts spans replacing range-counts ranges rs given (moment_point moment) moment.minute rule found)
 
-abbrev decreases-loop : tie.decreases-loop
+abbrev decreases-loop : tie.decreases-loop-rule
 decreases-loop states span_counts spans replacing range-counts ranges moment found₀ rule₀ found rule = length states - rule
 
 -- from the loop's turn back to where the function begins
 abbrev start : tie.In-loop invariant-loop decreases-loop → tie.Start invariant-loop decreases-loop
 start c = c.before.before.before.before.before.before.before.before
 
-pub point-state-spec : {M : Type 1} → statement M
-point-state-spec =
+pub point_state_spec : {M : Type 1} → statement M
+point_state_spec =
     tie.close
     (tie.spec
     invariant-loop decreases-loop

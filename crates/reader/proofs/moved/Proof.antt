@@ -106,7 +106,7 @@ moved-meets {𝓤 = 𝓤} 𝓛 mem run 𝓣 =
     (moved.clauses 𝓛 mem run) (WpFn 𝓤 𝓛.H 𝓣.C 𝓣.Λ code.function) (WpFn-mono 𝓤 𝓛.H 𝓛.laws 𝓣 code.function)
     (moved-walks 𝓛 mem run 𝓣.C 𝓣.Λ)
 
-pub moved-spec : {M : Type 1} → stated.statement M
+pub moved_spec : {M : Type 1} → stated.statement M
 unfolding code.routine tables_of
 moved-spec 𝓤 𝓛 𝓜 𝓡 =
     entered 𝓤 𝓛.H (triple_of 𝓛 moved.signature (moved.spec 𝓛 𝓜.mem 𝓡.run))

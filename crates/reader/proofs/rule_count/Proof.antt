@@ -54,8 +54,8 @@ module _ (s : List ℕ) (w : ℕ) (r : Reading) (e : Says r s 0 w) where
       unmarked v n m h i j =
           opening-stops form (sheet_bits s) unlawful 0 (sym (test-failed _ _ _ _ _ t mark-said v n h (ne_eqb v form.mark (λ q. i (q ∙ sym j)))))
 
-pub rule-count-spec : {M : Type 1} → statement M
-rule-count-spec =
+pub rule_count_spec : {M : Type 1} → statement M
+rule_count_spec =
     tie.close
     (tie.spec (λ c κs. search rules) (λ c κs. search rules) (λ c. search rules) (λ c. search rules)
     (λ c. not-large _ _ _ c.before.before.first.ensures c.before.before.before.mark-width.ensures.1 c.enum_told.given.1)

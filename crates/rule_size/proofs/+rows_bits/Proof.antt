@@ -22,8 +22,8 @@ rows-bits-at t = and 1 rows-bits-kinds.ps (is 1 rows-bits-kinds.ps μ-rows-bits 
 abbrev rows-bits-below : ℕ → In 1 rows-bits-kinds.ps
 rows-bits-below t = and 1 rows-bits-kinds.ps (falls 1 rows-bits-kinds.ps ◌<◌ μ-rows-bits t) rows-bits.Pre
 
-pub +rows-bits-spec : {M : Type 1} → statement M
-+rows-bits-spec = close μ-rows-bits λ t. rows-bits-lts.spec
+pub +rows_bits_spec : {M : Type 1} → statement M
++rows_bits_spec = close μ-rows-bits λ t. rows-bits-lts.spec
     (rows-bits-below t, rows-bits.Post, u16-to-usize-reads.Asked, u16-to-usize-reads.Learnt, item-bits-reads.Asked, item-bits-reads.Learnt)
     (rows-bits-at t)
     rows-bits.Post

@@ -21,8 +21,8 @@ spans-bits-at t = and 1 spans-bits-kinds.ps (is 1 spans-bits-kinds.ps μ-spans-b
 abbrev spans-bits-below : ℕ → In 1 spans-bits-kinds.ps
 spans-bits-below t = and 1 spans-bits-kinds.ps (falls 1 spans-bits-kinds.ps ◌<◌ μ-spans-bits t) spans-bits.Pre
 
-pub +spans-bits-spec : {M : Type 1} → statement M
-+spans-bits-spec = close μ-spans-bits λ t. spans-bits-lts.spec (spans-bits-below t, spans-bits.Post, span-bits-reads.Asked, span-bits-reads.Learnt)
+pub +spans_bits_spec : {M : Type 1} → statement M
++spans_bits_spec = close μ-spans-bits λ t. spans-bits-lts.spec (spans-bits-below t, spans-bits.Post, span-bits-reads.Asked, span-bits-reads.Learnt)
     (spans-bits-at t)
     spans-bits.Post
     (λ c. (no-spans c.before.before.args.spans.now c.before.before.args.first c.before.before.args.span-count c.if1.true, omega arith))

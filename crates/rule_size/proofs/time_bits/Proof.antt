@@ -5,11 +5,11 @@ use Rattle.rule_size.proofs.Sizes.{fixed-size, variable-size}
 use Rattle.rule_size.proofs.time_bits.Statement.{statement}
 use Rattle.rule_size.proofs.time_bits.Tie as tie
 
-returns : tie.Need-returns
-returns c = (fixed-size c.before.args.number c.if1.true, omega arith)
+returns : tie.Need-returns-then-number-lt262144
+returns c = (fixed-size c.before.args.number c.if-number-lt262144.true, omega arith)
 
-returns-2 : tie.Need-returns-2
-returns-2 c = (variable-size c.before.args.number c.if1.false, omega arith)
+returns-2 : tie.Need-returns-else-number-lt262144
+returns-2 c = (variable-size c.before.args.number c.if-number-lt262144.false, omega arith)
 
-pub time-bits-spec : {M : Type 1} → statement M
-time-bits-spec = tie.close (tie.spec (λ c. search rules) (λ c. search rules) (λ c. search rules) returns returns-2)
+pub time_bits_spec : {M : Type 1} → statement M
+time_bits_spec = tie.close (tie.spec (λ c. search rules) (λ c. search rules) (λ c. search rules) returns returns-2)

@@ -13,7 +13,7 @@ returns c =
     let a = entry.args in
     let pre = entry.requires.0 in
     end-wrote (between a.sheet.now a.start a.end) (between-length a.sheet.now a.start a.end pre.0 pre.1)
-    copy-bits.copy-bits.ensures put-padding.put-padding.ensures.1
+    copy-bits.copy_bits.ensures put-padding.put_padding.ensures.1
 
-pub put-left-spec : {M : Type 1} → statement M
-put-left-spec = tie.close (tie.spec (λ c. search rules) (λ c κs. search rules) (λ c. search rules) (λ c κs. search rules) (λ c. search rules) returns)
+pub put_left_spec : {M : Type 1} → statement M
+put_left_spec = tie.close (tie.spec (λ c. search rules) (λ c κs. search rules) (λ c. search rules) (λ c κs. search rules) (λ c. search rules) returns)

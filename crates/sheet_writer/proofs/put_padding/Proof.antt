@@ -11,7 +11,7 @@ use Rattle.sheet_writer.proofs.Frame.{padding-bits}
 use Rattle.sheet_writer.proofs.put_padding.Statement.{statement}
 use Rattle.sheet_writer.proofs.put_padding.Tie as tie
 
-put-requires : tie.Need-put-requires
+put-requires : tie.Need-put-end-requires
 put-requires c κs =
     let at = c.before.before.args.at in
     let long = length-bits ((at + 7) / 8 * 8 - at) 0 in
@@ -22,8 +22,8 @@ returns : tie.Need-returns
 returns c =
     let at = c.before.before.before.before.before.args.at in
     let old = sheet_bits c.before.before.before.before.before.args.out.now in
-    let put = c.before.before.put.ensures in
+    let put = c.before.before.put-end.ensures in
     (omega (arith, put.behind, length-bits ((at + 7) / 8 * 8 - at) 0), put.stored ∙ ap (sets old at) (padding-bits at))
 
-pub put-padding-spec : {M : Type 1} → statement M
-put-padding-spec = tie.close (tie.spec (λ c. omega arith) (λ c. omega arith) (λ c. omega arith) put-requires (λ c. search rules) returns)
+pub put_padding_spec : {M : Type 1} → statement M
+put_padding_spec = tie.close (tie.spec (λ c. omega arith) (λ c. omega arith) (λ c. omega arith) put-requires (λ c. search rules) returns)

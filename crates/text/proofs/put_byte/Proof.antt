@@ -7,7 +7,7 @@ use Rattle.text.proofs.put_byte.Statement.{statement}
 use Rattle.text.proofs.put_byte.Tie as tie
 
 stored : tie.Need-returns
-stored c = ⊎_elim (λ w. byte-in _ _ _ _ w.1) (λ w. byte-out _ _ _ _ (omega (arith, w.0.left)) w.1) c.if1.branch
+stored c = ⊎_elim (λ w. byte-in _ _ _ _ w.1) (λ w. byte-out _ _ _ _ (omega (arith, w.0.left)) w.1) c.if-place-out.branch
 
-pub put-byte-spec : {M : Type 1} → statement M
-put-byte-spec = tie.close (tie.spec (λ c. search rules) (λ c. search rules) (λ c. put-length (stored c)) stored)
+pub put_byte_spec : {M : Type 1} → statement M
+put_byte_spec = tie.close (tie.spec (λ c. search rules) (λ c. search rules) (λ c. put-length (stored c)) stored)

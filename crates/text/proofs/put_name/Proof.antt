@@ -12,8 +12,8 @@ returns c =
     let args = entry.args in
     name-put _ _ args.names.now _ _ (args.index * args.width) args.width put_word.put_word.ensures
 
-pub put-name-spec : {M : Type 1} → statement M
-put-name-spec =
+pub put_name_spec : {M : Type 1} → statement M
+put_name_spec =
     tie.close
     (tie.spec (λ c. search rules) (λ c. search rules) (λ c. search rules) (λ c. search rules) (λ c. search rules) (λ c κs. search rules)
     (λ c. search rules) returns)

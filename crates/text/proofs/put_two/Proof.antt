@@ -13,10 +13,10 @@ returns c =
     let put_byte = digit2.before.before.before.before in
     let digit = put_byte.before in
     let first = digit.digit.ensures in
-    let second = digit2.digit2.ensures in
-    put_as (ap₂ (λ x y. x ∷ y ∷ []) first second ∙ two_digits _) (put_then put_byte.put_byte.ensures put-byte2.put-byte2.ensures)
+    let second = digit2.digit-2.ensures in
+    put_as (ap₂ (λ x y. x ∷ y ∷ []) first second ∙ two_digits _) (put_then put_byte.put_byte-next.ensures put-byte2.put_byte.ensures)
 
-pub put-two-spec : {M : Type 1} → statement M
-put-two-spec =
+pub put_two_spec : {M : Type 1} → statement M
+put_two_spec =
     tie.close
     (tie.spec (λ c κs. search rules) (λ c κs. search rules) (λ c κs. search rules) (λ c κs. search rules) (λ c. search rules) returns)

@@ -7,14 +7,14 @@ use Rattle.text.proofs.Putting.{word_none, word_next, word-all, put-length}
 use Rattle.text.proofs.put_word.Statement.{statement}
 use Rattle.text.proofs.put_word.Tie as tie
 
-abbrev invariant-loop : tie.invariant-loop
+abbrev invariant-loop : tie.invariant-loop-i
 invariant-loop out₀ place word i₀ out i = (i ≤ length word) × Put out₀ place (take i word) (place + i) out
 
-abbrev decreases-loop : tie.decreases-loop
+abbrev decreases-loop : tie.decreases-loop-i
 decreases-loop out₀ place word i₀ out i = length word - i
 
-pub put-word-spec : {M : Type 1} → statement M
-put-word-spec =
+pub put_word_spec : {M : Type 1} → statement M
+put_word_spec =
     tie.close
     (tie.spec invariant-loop decreases-loop (λ c. (omega arith, word_none _ _ c.before.before.args.word.now)) (λ c. omega arith) (λ c. omega arith)
     (λ c κs. omega arith) (λ c. omega arith) (λ c. omega arith)

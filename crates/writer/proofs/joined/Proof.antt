@@ -8,7 +8,7 @@ use Rattle.writer.proofs.Bytes.{joined-below}
 use Rattle.writer.proofs.joined.Statement.{statement}
 use Rattle.writer.proofs.joined.Tie as tie
 
-add-result : tie.Need-overflow-add-result
+add-result : tie.Need-overflow_add-result
 add-result c =
     let width = c.args.width in
     let n : 64 - width + width ≡ 64 = omega arith in
@@ -17,5 +17,5 @@ add-result c =
 returns : tie.Need-returns
 returns c = let width = c.args.width in ap (◌+ c.args.low) (shl_exact (64 - width) width 64 c.requires.1 (omega arith))
 
-pub joined-spec : {M : Type 1} → statement M
-joined-spec = tie.close (tie.spec (λ c. search rules) add-result returns)
+pub joined_spec : {M : Type 1} → statement M
+joined_spec = tie.close (tie.spec (λ c. search rules) add-result returns)

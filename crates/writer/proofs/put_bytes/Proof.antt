@@ -11,19 +11,19 @@ use Rattle.writer.proofs.Bytes.{last_byte, rest_below, none-stored}
 use Rattle.writer.proofs.put_bytes.Statement.{statement}
 use Rattle.writer.proofs.put_bytes.Tie as tie
 
-abbrev invariant-loop : tie.invariant-loop
+abbrev invariant-loop : tie.invariant-loop-index
 invariant-loop out₀ first past number rest₀ index₀ out rest index =
     (first ≤ index) × (index ≤ past) × (rest < 2 ^ (8 * (index - first)))
     × (sets (sheet_bits out) (8 * first) (bits (8 * (index - first)) rest) ≡ sets (sheet_bits out₀) (8 * first) (bits (8 * (past - first)) number))
     × (length out ≡ length out₀)
 
-abbrev decreases-loop : tie.decreases-loop
+abbrev decreases-loop : tie.decreases-loop-index
 decreases-loop out₀ first past number rest₀ index₀ out rest index = index - first
 
-loop-again : tie.Need-loop-preserved invariant-loop decreases-loop
+loop-again : tie.Need-loop-index-preserved invariant-loop decreases-loop
 loop-again c =
     let first = c.before.before.args.first in
-    let loop = c.before.loop in (
+    let loop = c.before.loop-index in (
       omega arith,
       omega arith,
       rest_below first loop.index loop.rest (omega arith) loop.invariant.2,
@@ -33,11 +33,11 @@ loop-again c =
 
 returns : tie.Need-returns invariant-loop decreases-loop
 returns c =
-    let loop = c.before.loop in
+    let loop = c.before.loop-index in
     none-stored (sheet_bits loop.out) (8 * c.before.before.args.first) _ loop.rest (omega arith) ∙ loop.invariant.3
 
-pub put-bytes-spec : {M : Type 1} → statement M
-put-bytes-spec =
+pub put_bytes_spec : {M : Type 1} → statement M
+put_bytes_spec =
     tie.close
     (tie.spec invariant-loop decreases-loop (λ c. (c.requires.0, omega arith, c.requires.2, refl, refl)) (λ c. search rules) (λ c. omega arith)
     (λ c. omega (arith, c.before.loop.invariant.4)) (λ c. omega arith) loop-again (λ c. c.before.loop.invariant.4) returns)

@@ -18,9 +18,9 @@ joined-requires c κs =
     let start = known.before in
     let at = start.args.at in
     let width = start.args.width in
-    let bytes = known_bytes start.args.out.now (λ j. omega (arith, known.slice-known.given j)) in
+    let bytes = known_bytes start.args.out.now (λ j. omega (arith, known.slice_known-1.given j)) in
     let few = before-below start.args.out.now bytes at width start.args.value start.requires.2 (omega arith) start.requires.3 in
-    (omega arith, lt_of_lt_of_le (rw read.u8-to-u64.ensures.0 few) (pow_mono {i = at % 8} {j = 64 - width} (omega arith)), start.requires.3)
+    (omega arith, lt_of_lt_of_le (rw read.u8_to_u64.ensures.0 few) (pow_mono {i = at % 8} {j = 64 - width} (omega arith)), start.requires.3)
 
 joined-requires-2 : tie.Need-joined-requires-2
 joined-requires-2 c κs =
@@ -30,15 +30,15 @@ joined-requires-2 c κs =
     let start = known.before in
     let at = start.args.at in
     let width = start.args.width in
-    let bytes = known_bytes start.args.out.now (λ j. omega (arith, known.slice-known.given j)) in
+    let bytes = known_bytes start.args.out.now (λ j. omega (arith, known.slice_known-1.given j)) in
     let few = before-below start.args.out.now bytes at width start.args.value start.requires.2 (omega arith) start.requires.3 in
-    let below = joined-below {high = read.u8-to-u64.result / 2 ^ (8 - at % 8)} (at % 8) width (rw read.u8-to-u64.ensures.0 few) start.requires.3 in (
+    let below = joined-below {high = read.u8_to_u64.result / 2 ^ (8 - at % 8)} (at % 8) width (rw read.u8_to_u64.ensures.0 few) start.requires.3 in (
       omega arith,
       rw c.joined.ensures (lt_of_lt_of_le below (pow_mono {i = at % 8 + width} {j = 64 - behind at width} (omega arith))),
-      rw low.low-bits.ensures (mod-lt _ (pow_pos (behind at width))),
+      rw low.low_bits-after.ensures (mod-lt _ (pow_pos (behind at width))),
     )
 
-put-bytes-requires : tie.Need-put-bytes-requires
+put-bytes-requires : tie.Need-put_bytes-requires
 put-bytes-requires c κs =
     let first = c.before in
     let low = first.before.before in
@@ -48,14 +48,14 @@ put-bytes-requires c κs =
     let start = known.before in
     let at = start.args.at in
     let width = start.args.width in
-    let bytes = known_bytes start.args.out.now (λ j. omega (arith, known.slice-known.given j)) in (
+    let bytes = known_bytes start.args.out.now (λ j. omega (arith, known.slice_known-1.given j)) in (
       omega arith,
       omega arith,
       spanned-below start.args.out.now bytes at width start.args.value start.requires.2 (omega arith) start.requires.3 _
-          (rw (c.joined2.ensures, first.joined.ensures, low.low-bits.ensures, last.u8-to-u642.ensures.0, read.u8-to-u64.ensures.0)),
+          (rw (c.joined-2.ensures, first.joined.ensures, low.low_bits-after.ensures, last.u8_to_u64-2.ensures.0, read.u8_to_u64.ensures.0)),
     )
 
-returns-2 : tie.Need-returns-2
+returns-2 : tie.Need-returns
 returns-2 c =
     let put = c.before.before in
     let second = put.before in
@@ -67,13 +67,13 @@ returns-2 c =
     let start = known.before in
     let at = start.args.at in
     let width = start.args.width in
-    let bytes = known_bytes start.args.out.now (λ j. omega (arith, known.slice-known.given j)) in
-    put.put-bytes.ensures
+    let bytes = known_bytes start.args.out.now (λ j. omega (arith, known.slice_known-1.given j)) in
+    put.put_bytes.ensures
     ∙ spanned-stored start.args.out.now bytes at width start.args.value start.requires.2 (omega arith) start.requires.3 _
-    (rw (second.joined2.ensures, first.joined.ensures, low.low-bits.ensures, last.u8-to-u642.ensures.0, read.u8-to-u64.ensures.0))
+    (rw (second.joined-2.ensures, first.joined.ensures, low.low_bits-after.ensures, last.u8_to_u64-2.ensures.0, read.u8_to_u64.ensures.0))
 
-pub put-field-spec : {M : Type 1} → statement M
-put-field-spec =
+pub put_field_spec : {M : Type 1} → statement M
+put_field_spec =
     tie.close
     (tie.spec (λ c. none-stored _ _ _ _ (omega arith)) (λ c. search rules) (λ c. search rules) (λ c. search rules) (λ c. search rules) (λ c. search rules)
     (λ c κs. search rules) (λ c. search rules) (λ c. search rules) (λ c. search rules) (λ c. search rules) (λ c κs. search rules) (λ c κs. search rules)

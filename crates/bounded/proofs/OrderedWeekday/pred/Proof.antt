@@ -6,5 +6,5 @@ use Rattle.bounded.proofs.Step.{prior-some, prior-none}
 use Rattle.bounded.proofs.OrderedWeekday.pred.Statement.{statement}
 use Rattle.bounded.proofs.OrderedWeekday.pred.Tie as tie
 
-pub pred-spec : {M : Type 1} → statement M
-pred-spec = tie.close (tie.spec (λ c. search rules) (λ c. prior-some weekday_bounds _ (omega arith)) (λ c. prior-none weekday_bounds _ (omega arith)))
+pub pred_spec : {M : Type 1} → statement M
+pred_spec = tie.close (tie.spec (λ c. search rules) (λ c. prior-some weekday_bounds _ (omega arith)) (λ c. prior-none weekday_bounds _ (omega arith)))

@@ -6,5 +6,5 @@ use Rattle.bounded.proofs.Step.{next-some, next-none}
 use Rattle.bounded.proofs.OrderedWeekday.succ.Statement.{statement}
 use Rattle.bounded.proofs.OrderedWeekday.succ.Tie as tie
 
-pub succ-spec : {M : Type 1} → statement M
-succ-spec = tie.close (tie.spec (λ c. search rules) (λ c. next-some weekday_bounds _ (omega arith)) (λ c. next-none weekday_bounds _ (omega arith)))
+pub succ_spec : {M : Type 1} → statement M
+succ_spec = tie.close (tie.spec (λ c. search rules) (λ c. next-some weekday_bounds _ (omega arith)) (λ c. next-none weekday_bounds _ (omega arith)))

@@ -3,6 +3,6 @@ use borrow.Author.Rules.{rules}
 use Rattle.bounded.proofs.Year.split_inverted_range.Statement.{statement}
 use Rattle.bounded.proofs.Year.split_inverted_range.Tie as tie
 
-pub split-inverted-range-spec : {M : Type 1} → statement M
-split-inverted-range-spec =
+pub split_inverted_range_spec : {M : Type 1} → statement M
+split_inverted_range_spec =
     tie.close (tie.spec (λ c κs. search rules) (λ c κs. search rules) (λ c. rw (← c.before.bounds.ensures) c.split-inverted-range.ensures))

@@ -23,8 +23,8 @@ fold-list-at t = and 5 fold-list-kinds.ps (is 5 fold-list-kinds.ps μ-fold-list 
 abbrev fold-list-below : ℕ → In 5 fold-list-kinds.ps
 fold-list-below t = and 5 fold-list-kinds.ps (falls 5 fold-list-kinds.ps ◌<◌ μ-fold-list t) fold-list.Pre
 
-pub +fold-list-spec : {M : Type 1} → statement M
-+fold-list-spec = close μ-fold-list λ t. fold-list-lts.spec (
+pub +fold_list_spec : {M : Type 1} → statement M
++fold_list_spec = close μ-fold-list λ t. fold-list-lts.spec (
   fold-list-below t,
   fold-list.Post,
   fold-few-reads.Asked,

@@ -4,7 +4,7 @@ use borrow.Author.Rules.{rules}
 use Rattle.box_day.proofs.scratch.fold_few.Statement.{statement}
 use Rattle.box_day.proofs.scratch.fold_few.Tie as tie
 
-normalize-time-rules-requires : tie.Need-normalize-time-rules-requires
+normalize-time-rules-requires : tie.Need-normalize_time_rules-requires
 normalize-time-rules-requires c κs =
     let third = c.before.before.before.before.before.before in
     let second = third.before in
@@ -15,16 +15,16 @@ normalize-time-rules-requires c κs =
       pre.0,
       (
         omega (arith, pre.1),
-        omega (arith, pre.1, states.few-states.ensures),
-        omega (arith, pre.1, codes.few-spans.ensures),
-        omega (arith, pre.1, first.few-ends.ensures),
-        omega (arith, pre.1, second.few-ends2.ensures),
-        omega (arith, pre.1, third.few-ends3.ensures),
+        omega (arith, pre.1, states.few_states-span_states.ensures),
+        omega (arith, pre.1, codes.few_spans-span_codes.ensures),
+        omega (arith, pre.1, first.few_ends-strokes.ensures),
+        omega (arith, pre.1, second.few_ends-minute_cuts.ensures),
+        omega (arith, pre.1, third.few_ends-interval_states.ensures),
       ),
     )
 
-pub fold-few-spec : {M : Type 1} → statement M
-fold-few-spec =
+pub fold_few_spec : {M : Type 1} → statement M
+fold_few_spec =
     tie.close
     (tie.spec (λ c κs. search rules) (λ c κs. search rules) (λ c κs. search rules) (λ c κs. search rules) (λ c κs. search rules) (λ c. search rules)
     (λ c. search rules) (λ c. search rules) (λ c. search rules) (λ c. search rules) normalize-time-rules-requires (λ c. search rules) (λ c. search rules))

@@ -4,7 +4,7 @@ use borrow.Author.Rules.{rules}
 use Rattle.box_day.proofs.scratch.fold_many.Statement.{statement}
 use Rattle.box_day.proofs.scratch.fold_many.Tie as tie
 
-normalize-time-rules-requires : tie.Need-normalize-time-rules-requires
+normalize-time-rules-requires : tie.Need-normalize_time_rules-requires
 normalize-time-rules-requires c κs =
     let third = c.before.before.before.before.before.before in
     let second = third.before in
@@ -15,16 +15,16 @@ normalize-time-rules-requires c κs =
       pre.0,
       (
         omega (arith, pre.1),
-        omega (arith, pre.1, states.states.ensures),
-        omega (arith, pre.1, codes.spans.ensures),
-        omega (arith, pre.1, first.ends.ensures),
-        omega (arith, pre.1, second.ends2.ensures),
-        omega (arith, pre.1, third.ends3.ensures),
+        omega (arith, pre.1, states.states-span_states.ensures),
+        omega (arith, pre.1, codes.spans-span_codes.ensures),
+        omega (arith, pre.1, first.ends-strokes.ensures),
+        omega (arith, pre.1, second.ends-minute_cuts.ensures),
+        omega (arith, pre.1, third.ends-interval_states.ensures),
       ),
     )
 
-pub fold-many-spec : {M : Type 1} → statement M
-fold-many-spec =
+pub fold_many_spec : {M : Type 1} → statement M
+fold_many_spec =
     tie.close
     (tie.spec (λ c κs. search rules) (λ c κs. search rules) (λ c κs. search rules) (λ c κs. search rules) (λ c κs. search rules) (λ c. search rules)
     (λ c. search rules) (λ c. search rules) (λ c. search rules) (λ c. search rules) normalize-time-rules-requires (λ c. search rules) (λ c. search rules))

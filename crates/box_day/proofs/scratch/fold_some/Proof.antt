@@ -4,7 +4,7 @@ use borrow.Author.Rules.{rules}
 use Rattle.box_day.proofs.scratch.fold_some.Statement.{statement}
 use Rattle.box_day.proofs.scratch.fold_some.Tie as tie
 
-normalize-time-rules-requires : tie.Need-normalize-time-rules-requires
+normalize-time-rules-requires : tie.Need-normalize_time_rules-requires
 normalize-time-rules-requires c κs =
     let third = c.before.before.before.before.before.before in
     let second = third.before in
@@ -15,16 +15,16 @@ normalize-time-rules-requires c κs =
       pre.0,
       (
         omega (arith, pre.1),
-        omega (arith, pre.1, states.some-states.ensures),
-        omega (arith, pre.1, codes.some-spans.ensures),
-        omega (arith, pre.1, first.some-ends.ensures),
-        omega (arith, pre.1, second.some-ends2.ensures),
-        omega (arith, pre.1, third.some-ends3.ensures),
+        omega (arith, pre.1, states.some_states-span_states.ensures),
+        omega (arith, pre.1, codes.some_spans-span_codes.ensures),
+        omega (arith, pre.1, first.some_ends-strokes.ensures),
+        omega (arith, pre.1, second.some_ends-minute_cuts.ensures),
+        omega (arith, pre.1, third.some_ends-interval_states.ensures),
       ),
     )
 
-pub fold-some-spec : {M : Type 1} → statement M
-fold-some-spec =
+pub fold_some_spec : {M : Type 1} → statement M
+fold_some_spec =
     tie.close
     (tie.spec (λ c κs. search rules) (λ c κs. search rules) (λ c κs. search rules) (λ c κs. search rules) (λ c κs. search rules) (λ c. search rules)
     (λ c. search rules) (λ c. search rules) (λ c. search rules) (λ c. search rules) normalize-time-rules-requires (λ c. search rules) (λ c. search rules))

@@ -6,59 +6,59 @@ use Rattle.canonical_time.proofs.FlattenReturns.{FlatOn, flat_start, flat_on, fl
 use Rattle.canonical_time.proofs.flatten.flatten.Statement.{statement}
 use Rattle.canonical_time.proofs.flatten.flatten.Tie as tie
 
-abbrev invariant-loop : tie.invariant-loop
+abbrev invariant-loop : tie.invariant-loop-next
 invariant-loop stated₀ spanned₀ states counts spans list n next₀ place₀ stated spanned next place =
     FlatOn states counts spans list n stated₀ spanned₀ next place stated spanned
 
-abbrev decreases-loop : tie.decreases-loop
+abbrev decreases-loop : tie.decreases-loop-next
 decreases-loop stated₀ spanned₀ states counts spans list n next₀ place₀ stated spanned next place = n - next
 
-loop-holds : tie.Need-loop-init invariant-loop decreases-loop
+loop-holds : tie.Need-loop-next-init invariant-loop decreases-loop
 loop-holds c = flat_start _ _ _ _ _ _ _ c.before.before.before.before.before.before.requires.1
 
-mul-u16-to-usize : tie.Need-overflow-mul-u16-to-usize invariant-loop decreases-loop
+mul-u16-to-usize : tie.Need-offset_bounds-list-next invariant-loop decreases-loop
 mul-u16-to-usize c = search rules
 
-shared-slice-read-u16-to-usize : tie.Need-shared-slice-read-u16-to-usize invariant-loop decreases-loop
+shared-slice-read-u16-to-usize : tie.Need-bounds-list-next invariant-loop decreases-loop
 shared-slice-read-u16-to-usize c = search rules
 
-u16-to-usize-requires : tie.Need-u16-to-usize-requires invariant-loop decreases-loop
+u16-to-usize-requires : tie.Need-u16_to_usize-r-requires invariant-loop decreases-loop
 u16-to-usize-requires c κs = search rules
 
-shared-slice-read-u8-to-usize : tie.Need-shared-slice-read-u8-to-usize invariant-loop decreases-loop
+shared-slice-read-u8-to-usize : tie.Need-bounds-span_counts-r invariant-loop decreases-loop
 shared-slice-read-u8-to-usize c =
     let rule = c.before in
     let turn = rule.before.before in
     let start = turn.before.before.before.before.before.before.before.before in
-    (named_rule _ _ _ _ start.requires.0 _ _ turn.loop-test.true rule.u16-to-usize.ensures.0).1
+    (named_rule _ _ _ _ start.requires.0 _ _ turn.loop-next-test.true rule.u16_to_usize-r.ensures.0).1
 
-u8-to-usize-requires : tie.Need-u8-to-usize-requires invariant-loop decreases-loop
+u8-to-usize-requires : tie.Need-u8_to_usize-c-requires invariant-loop decreases-loop
 u8-to-usize-requires c κs = search rules
 
-mul-push-spans : tie.Need-overflow-mul-push-spans invariant-loop decreases-loop
+mul-push-spans : tie.Need-offset_bounds-states-r invariant-loop decreases-loop
 mul-push-spans c = search rules
 
-shared-slice-read-push-spans : tie.Need-shared-slice-read-push-spans invariant-loop decreases-loop
+shared-slice-read-push-spans : tie.Need-bounds-states-r invariant-loop decreases-loop
 shared-slice-read-push-spans c =
     let rule = c.before.before.before.before.before in
     let turn = rule.before.before in
     let start = turn.before.before.before.before.before.before.before.before in
-    (named_rule _ _ _ _ start.requires.0 _ _ turn.loop-test.true rule.u16-to-usize.ensures.0).0
+    (named_rule _ _ _ _ start.requires.0 _ _ turn.loop-next-test.true rule.u16_to_usize-r.ensures.0).0
 
-mul-push-spans-2 : tie.Need-overflow-mul-push-spans-2 invariant-loop decreases-loop
+mul-push-spans-2 : tie.Need-overflow_mul-r invariant-loop decreases-loop
 mul-push-spans-2 c = search rules
 
-mul-push-spans-3 : tie.Need-overflow-mul-push-spans-3 invariant-loop decreases-loop
+mul-push-spans-3 : tie.Need-overflow_mul-r-in-loop-next invariant-loop decreases-loop
 mul-push-spans-3 c = search rules
 
-add-push-spans : tie.Need-overflow-add-push-spans invariant-loop decreases-loop
+add-push-spans : tie.Need-overflow_add-r invariant-loop decreases-loop
 add-push-spans c =
     let count = c.before.before.before in
     let rule = count.before.before in
     let start = rule.before.before.before.before.before.before.before.before.before.before in
-    omega (arith, start.requires.0.few rule.u16-to-usize.result, count.u8-to-usize.ensures.0, rule.u16-to-usize.ensures)
+    omega (arith, start.requires.0.few rule.u16_to_usize-r.result, count.u8_to_usize-c.ensures.0, rule.u16_to_usize-r.ensures)
 
-push-spans-requires : tie.Need-push-spans-requires invariant-loop decreases-loop
+push-spans-requires : tie.Need-push_spans-place-requires invariant-loop decreases-loop
 push-spans-requires c κs =
     let count = c.before.before.before in
     let rule = count.before.before in
@@ -66,22 +66,22 @@ push-spans-requires c κs =
     let loop = turn.before in
     let start = loop.before.before.before.before.before.before.before in
     let pre = start.requires in
-    let more = turn.loop-test.true in
-    let named = named_rule _ _ _ _ pre.0 _ _ more rule.u16-to-usize.ensures.0 in
-    let few = pre.0.few rule.u16-to-usize.result in
-    let room = loop.loop.invariant.room in (
-      omega (arith, few, count.u8-to-usize.ensures.0, room.0, more),
-      omega (arith, few, count.u8-to-usize.ensures.0, room.1, more),
-      omega (arith, few, count.u8-to-usize.ensures.0, named.2),
+    let more = turn.loop-next-test.true in
+    let named = named_rule _ _ _ _ pre.0 _ _ more rule.u16_to_usize-r.ensures.0 in
+    let few = pre.0.few rule.u16_to_usize-r.result in
+    let room = loop.loop-next.invariant.room in (
+      omega (arith, few, count.u8_to_usize-c.ensures.0, room.0, more),
+      omega (arith, few, count.u8_to_usize-c.ensures.0, room.1, more),
+      omega (arith, few, count.u8_to_usize-c.ensures.0, named.2),
     )
 
-add-next : tie.Need-overflow-add-next invariant-loop decreases-loop
+add-next : tie.Need-overflow_add-next invariant-loop decreases-loop
 add-next c = search rules
 
-loop-less : tie.Need-loop-smaller invariant-loop decreases-loop
+loop-less : tie.Need-loop-next-smaller invariant-loop decreases-loop
 loop-less c = search rules
 
-loop-again : tie.Need-loop-preserved invariant-loop decreases-loop
+loop-again : tie.Need-loop-next-preserved invariant-loop decreases-loop
 loop-again c =
     let pushed = c.before.before.before.before in
     let count = pushed.before.before.before.before in
@@ -89,21 +89,21 @@ loop-again c =
     let more = rule.before.before in
     let loop = more.before in
     let entry = loop.before.before.before.before.before.before.before in
-    let few = entry.requires.0.few rule.u16-to-usize.result in
-    flat_on _ _ _ _ _ _ _ _ _ _ _ loop.loop.invariant more.loop-test.true _ _ rule.u16-to-usize.ensures.0 count.u8-to-usize.ensures.0
-    (omega (arith, few, count.u8-to-usize.ensures.0)) _ _ _ pushed.push-spans.ensures (pushed.push-spans.auto.0, pushed.push-spans.auto.1.0)
+    let few = entry.requires.0.few rule.u16_to_usize-r.result in
+    flat_on _ _ _ _ _ _ _ _ _ _ _ loop.loop-next.invariant more.loop-next-test.true _ _ rule.u16_to_usize-r.ensures.0 count.u8_to_usize-c.ensures.0
+    (omega (arith, few, count.u8_to_usize-c.ensures.0)) _ _ _ pushed.push_spans-place.ensures (pushed.push_spans-place.auto.0, pushed.push_spans-place.auto.1.0)
 
-same_length : tie.Need-same-length invariant-loop decreases-loop
-same_length c = c.before.loop.invariant.lengths.0
+same_length : tie.Need-shape_of-span_states invariant-loop decreases-loop
+same_length c = c.before.loop-next.invariant.lengths.0
 
-same-length-2 : tie.Need-same-length-2 invariant-loop decreases-loop
-same-length-2 c = c.before.loop.invariant.lengths.1
+same-length-2 : tie.Need-shape_of-span_codes invariant-loop decreases-loop
+same-length-2 c = c.before.loop-next.invariant.lengths.1
 
 returns : tie.Need-returns invariant-loop decreases-loop
-returns c = flat-done _ _ _ _ _ _ _ _ _ _ _ c.before.loop.invariant (omega arith)
+returns c = flat-done _ _ _ _ _ _ _ _ _ _ _ c.before.loop-next.invariant (omega arith)
 
-pub flatten-spec : {M : Type 1} → statement M
-flatten-spec =
+pub flatten_spec : {M : Type 1} → statement M
+flatten_spec =
     tie.close
     (tie.spec
     invariant-loop decreases-loop loop-holds mul-u16-to-usize shared-slice-read-u16-to-usize u16-to-usize-requires shared-slice-read-u8-to-usize

@@ -5,8 +5,8 @@ use borrow.Author.Tests.{eq-eqb, ne_eqb}
 use Rattle.codes.proofs.title.is_fallback.Statement.{statement}
 use Rattle.codes.proofs.title.is_fallback.Tie as tie
 
-pub is-fallback-spec : {M : Type 1} → statement M
-is-fallback-spec =
+pub is_fallback_spec : {M : Type 1} → statement M
+is_fallback_spec =
     tie.close
     (tie.spec
     (λ c. sym (rw (eq-eqb c.before.args.operator 0 (omega arith))))

@@ -5,8 +5,8 @@ use Rattle.codes.proofs.TitleCases.{not-normal, closed-kind, other-kind}
 use Rattle.codes.proofs.title.replace_number.Statement.{statement}
 use Rattle.codes.proofs.title.replace_number.Tie as tie
 
-pub replace-number-spec : {M : Type 1} → statement M
-replace-number-spec =
+pub replace_number_spec : {M : Type 1} → statement M
+replace_number_spec =
     tie.close
     (tie.spec
     (λ c. sym (rw (eq-eqb c.before.before.args.operator 0 c.before.if1.true, closed-kind c.before.before.args.kind c.if2.true)))

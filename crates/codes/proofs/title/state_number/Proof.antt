@@ -5,8 +5,8 @@ use Rattle.codes.proofs.TitleCases.{state-open, state-closed, state-unknown}
 use Rattle.codes.proofs.title.state_number.Statement.{statement}
 use Rattle.codes.proofs.title.state_number.Tie as tie
 
-pub state-number-spec : {M : Type 1} → statement M
-state-number-spec =
+pub state_number_spec : {M : Type 1} → statement M
+state_number_spec =
     tie.close
     (tie.spec (λ c. search rules) (λ c. search rules) (λ c. search rules) (λ c. search rules)
     (λ c. state-open c.before.args.kind c.before.args.comment _ (omega arith) (omega arith))

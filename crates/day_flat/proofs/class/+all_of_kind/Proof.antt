@@ -21,8 +21,8 @@ all-of-kind-at t = and 1 all-of-kind-kinds.ps (is 1 all-of-kind-kinds.ps μ-all-
 abbrev all-of-kind-below : ℕ → In 1 all-of-kind-kinds.ps
 all-of-kind-below t = and 1 all-of-kind-kinds.ps (falls 1 all-of-kind-kinds.ps ◌<◌ μ-all-of-kind t) all-of-kind.Pre
 
-pub +all-of-kind-spec : {M : Type 1} → statement M
-+all-of-kind-spec = close μ-all-of-kind λ t. all-of-kind-lts.spec
+pub +all_of_kind_spec : {M : Type 1} → statement M
++all_of_kind_spec = close μ-all-of-kind λ t. all-of-kind-lts.spec
     (kind-of-reads.Asked, kind-of-reads.Learnt, u64-to-usize-reads.Asked, u64-to-usize-reads.Learnt, all-of-kind-below t, all-of-kind.Post)
     (all-of-kind-at t)
     all-of-kind.Post

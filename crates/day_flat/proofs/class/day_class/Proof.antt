@@ -6,54 +6,54 @@ use Rattle.day_flat.proofs.ClassReturns.{class-none, class-open, class-closed, c
 use Rattle.day_flat.proofs.class.day_class.Statement.{statement}
 use Rattle.day_flat.proofs.class.day_class.Tie as tie
 
-returns : tie.Need-returns
-returns c = class-none c.before.before.args.words.now c.before.before.args.n c.if1.true
+returns : tie.Need-returns-then-n-eq0
+returns c = class-none c.before.before.args.words.now c.before.before.args.n c.if-n-eq0.true
 
-shared-slice-read-kind-of : tie.Need-shared-slice-read-kind-of
+shared-slice-read-kind-of : tie.Need-bounds-words-0
 shared-slice-read-kind-of c = search rules
 
-kind-of-requires : tie.Need-kind-of-requires
+kind-of-requires : tie.Need-kind_of-kind-requires
 kind-of-requires c κs = search rules
 
-all-of-kind-requires : tie.Need-all-of-kind-requires
+all-of-kind-requires : tie.Need-all_of_kind-alike-requires
 all-of-kind-requires c κs = search rules
 
-returns-2 : tie.Need-returns-2
+returns-2 : tie.Need-returns-then-alike
 returns-2 c =
     let all-of-kind = c.before.before in
     let kind-of = all-of-kind.before in
     let if1 = kind-of.before.before in
-    class-open _ _ if1.if1.false _ kind-of.kind-of.ensures _ all-of-kind.all-of-kind.ensures true c.if2.true (omega arith)
+    class-open _ _ if1.if-n-eq0.false _ kind-of.kind_of-kind.ensures _ all-of-kind.all_of_kind-alike.ensures true c.if-alike.true (omega arith)
 
-returns-3 : tie.Need-returns-3
+returns-3 : tie.Need-returns-else-alike
 returns-3 c =
     let all-of-kind = c.before.before in
     let kind-of = all-of-kind.before in
     let if1 = kind-of.before.before in
-    class-open _ _ if1.if1.false _ kind-of.kind-of.ensures _ all-of-kind.all-of-kind.ensures false c.if2.false (omega arith)
+    class-open _ _ if1.if-n-eq0.false _ kind-of.kind_of-kind.ensures _ all-of-kind.all_of_kind-alike.ensures false c.if-alike.false (omega arith)
 
-returns-4 : tie.Need-returns-4
+returns-4 : tie.Need-returns-in-1
 returns-4 c =
     let kind-of = c.before.before in
     let if1 = kind-of.before.before in
-    class-closed _ _ if1.if1.false _ kind-of.kind-of.ensures (omega arith)
+    class-closed _ _ if1.if-n-eq0.false _ kind-of.kind_of-kind.ensures (omega arith)
 
-returns-5 : tie.Need-returns-5
+returns-5 : tie.Need-returns-then-alike-2
 returns-5 c =
     let all-of-kind = c.before.before in
     let kind-of = all-of-kind.before in
     let if1 = kind-of.before.before in
-    class-unknown _ _ if1.if1.false _ kind-of.kind-of.ensures _ all-of-kind.all-of-kind.ensures true c.if3.true (omega arith) (omega arith)
+    class-unknown _ _ if1.if-n-eq0.false _ kind-of.kind_of-kind.ensures _ all-of-kind.all_of_kind-alike.ensures true c.if-alike-2.true (omega arith) (omega arith)
 
-returns-6 : tie.Need-returns-6
+returns-6 : tie.Need-returns-else-alike-2
 returns-6 c =
     let all-of-kind = c.before.before in
     let kind-of = all-of-kind.before in
     let if1 = kind-of.before.before in
-    class-unknown _ _ if1.if1.false _ kind-of.kind-of.ensures _ all-of-kind.all-of-kind.ensures false c.if3.false (omega arith) (omega arith)
+    class-unknown _ _ if1.if-n-eq0.false _ kind-of.kind_of-kind.ensures _ all-of-kind.all_of_kind-alike.ensures false c.if-alike-2.false (omega arith) (omega arith)
 
-pub day-class-spec : {M : Type 1} → statement M
-day-class-spec =
+pub day_class_spec : {M : Type 1} → statement M
+day_class_spec =
     tie.close
     (tie.spec
     returns shared-slice-read-kind-of kind-of-requires all-of-kind-requires returns-2 returns-3 returns-4 returns-5 returns-6)

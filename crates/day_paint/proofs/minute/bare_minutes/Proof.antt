@@ -7,5 +7,5 @@ use Rattle.day_paint.proofs.minute.bare_minutes.Tie as tie
 returns : tie.Need-returns
 returns c = (refl, zeros 1440)
 
-pub bare-minutes-spec : {M : Type 1} → statement M
-bare-minutes-spec = tie.close (tie.spec returns)
+pub bare_minutes_spec : {M : Type 1} → statement M
+bare_minutes_spec = tie.close (tie.spec returns)

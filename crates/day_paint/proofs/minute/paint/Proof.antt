@@ -11,40 +11,40 @@ use Rattle.day_paint.proofs.Minutes.{painted-start, painted-on}
 use Rattle.day_paint.proofs.minute.paint.Statement.{statement}
 use Rattle.day_paint.proofs.minute.paint.Tie as tie
 
-abbrev invariant-loop : tie.invariant-loop
+abbrev invariant-loop : tie.invariant-loop-i
 invariant-loop minutes₀ strokes k i₀ number₀ minutes i number = (i ≤ k) × (number ≡ i) × (length minutes ≡ length minutes₀) × Painted strokes i minutes
 
-abbrev decreases-loop : tie.decreases-loop
+abbrev decreases-loop : tie.decreases-loop-i
 decreases-loop minutes₀ strokes k i₀ number₀ minutes i number = k - i
 
-loop-holds : tie.Need-loop-init invariant-loop decreases-loop
+loop-holds : tie.Need-loop-i-init invariant-loop decreases-loop
 loop-holds c = (omega arith, refl, refl, painted-start _ _ c.before.before.requires.1)
 
-mul-x : tie.Need-overflow-mul-x invariant-loop decreases-loop
+mul-x : tie.Need-offset_bounds-strokes-i invariant-loop decreases-loop
 mul-x c = search rules
 
-shared-slice-read-x : tie.Need-shared-slice-read-x invariant-loop decreases-loop
+shared-slice-read-x : tie.Need-bounds-strokes-i invariant-loop decreases-loop
 shared-slice-read-x c = search rules
 
-add-i : tie.Need-overflow-add-i invariant-loop decreases-loop
+add-i : tie.Need-overflow_add-i invariant-loop decreases-loop
 add-i c = search rules
 
-add-number : tie.Need-overflow-add-number invariant-loop decreases-loop
+add-number : tie.Need-overflow_add-number invariant-loop decreases-loop
 add-number c = search rules
 
-stroke-end-requires : tie.Need-stroke-end-requires invariant-loop decreases-loop
+stroke-end-requires : tie.Need-stroke_end-requires invariant-loop decreases-loop
 stroke-end-requires c κs = search rules
 
-earlier-of-requires : tie.Need-earlier-of-requires invariant-loop decreases-loop
+earlier-of-requires : tie.Need-earlier_of-end-requires invariant-loop decreases-loop
 earlier-of-requires c κs = search rules
 
-stroke-start-requires : tie.Need-stroke-start-requires invariant-loop decreases-loop
+stroke-start-requires : tie.Need-stroke_start-requires invariant-loop decreases-loop
 stroke-start-requires c κs = search rules
 
-u64-to-usize-requires : tie.Need-u64-to-usize-requires invariant-loop decreases-loop
+u64-to-usize-requires : tie.Need-u64_to_usize-requires invariant-loop decreases-loop
 u64-to-usize-requires c κs = search rules
 
-u64-to-usize-requires-2 : tie.Need-u64-to-usize-requires-2 invariant-loop decreases-loop
+u64-to-usize-requires-2 : tie.Need-u64_to_usize-requires-in-loop-i invariant-loop decreases-loop
 u64-to-usize-requires-2 c κs = search rules
 
 fill-requires : tie.Need-fill-requires invariant-loop decreases-loop
@@ -52,12 +52,12 @@ fill-requires c κs =
     let cut = c.before.before.before.before in
     let loop = cut.before.before.before.before in
     let entry = loop.before.before.before in
-    omega (arith, earlier-bound cut.before.stroke-end.result 1440, cut.earlier-of.ensures, c.u64-to-usize2.ensures, loop.loop.invariant.2, entry.requires.0)
+    omega (arith, earlier-bound cut.before.stroke_end.result 1440, cut.earlier_of-end.ensures, c.u64_to_usize-in-loop-i.ensures, loop.loop-i.invariant.2, entry.requires.0)
 
-loop-less : tie.Need-loop-smaller invariant-loop decreases-loop
+loop-less : tie.Need-loop-i-smaller invariant-loop decreases-loop
 loop-less c = search rules
 
-loop-again : tie.Need-loop-preserved invariant-loop decreases-loop
+loop-again : tie.Need-loop-i-preserved invariant-loop decreases-loop
 loop-again c =
     let fill = c.before.before in
     let end = fill.before in
@@ -67,25 +67,25 @@ loop-again c =
     let stroke-end = cut.before in
     let turn = stroke-end.before.before in
     let loop = turn.before in
-    let inv = loop.loop.invariant in (
-      omega (arith, turn.loop-test.true),
+    let inv = loop.loop-i.invariant in (
+      omega (arith, turn.loop-i-test.true),
       omega (arith, inv.1),
       fill.fill.auto.0 ∙ inv.2,
-      painted-on _ _ _ _ _ refl _ _ _ (start.u64-to-usize.ensures ∙ stroke-start.stroke-start.ensures)
-          (end.u64-to-usize2.ensures ∙ cut.earlier-of.ensures ∙ ap (λ e. earlier e 1440) stroke-end.stroke-end.ensures) (omega (arith, inv.1))
+      painted-on _ _ _ _ _ refl _ _ _ (start.u64_to_usize.ensures ∙ stroke-start.stroke_start.ensures)
+          (end.u64_to_usize-in-loop-i.ensures ∙ cut.earlier_of-end.ensures ∙ ap (λ e. earlier e 1440) stroke-end.stroke_end.ensures) (omega (arith, inv.1))
           fill.fill.ensures inv.3,
     )
 
-same_length : tie.Need-same-length invariant-loop decreases-loop
-same_length c = c.before.loop.invariant.2
+same_length : tie.Need-shape_of-minutes invariant-loop decreases-loop
+same_length c = c.before.loop-i.invariant.2
 
 returns : tie.Need-returns invariant-loop decreases-loop
 returns c =
-    let z : c.before.loop.i ≡ c.before.before.before.before.args.k = omega (arith, c.before.loop.invariant.0, c.loop-test.false) in
-    subst (λ i. Painted c.before.before.before.before.args.strokes.now i c.before.loop.minutes) z c.before.loop.invariant.3
+    let z : c.before.loop-i.i ≡ c.before.before.before.before.args.k = omega (arith, c.before.loop-i.invariant.0, c.loop-i-test.false) in
+    subst (λ i. Painted c.before.before.before.before.args.strokes.now i c.before.loop-i.minutes) z c.before.loop-i.invariant.3
 
-pub paint-spec : {M : Type 1} → statement M
-paint-spec =
+pub paint_spec : {M : Type 1} → statement M
+paint_spec =
     tie.close
     (tie.spec
     invariant-loop decreases-loop loop-holds mul-x shared-slice-read-x add-i add-number stroke-end-requires earlier-of-requires stroke-start-requires

@@ -8,93 +8,93 @@ use Rattle.day_paint.proofs.Minutes.{Reading, reading-start, reading-room, readi
 use Rattle.day_paint.proofs.minute.write_minutes.Statement.{statement}
 use Rattle.day_paint.proofs.minute.write_minutes.Tie as tie
 
-abbrev invariant-loop : tie.invariant-loop
+abbrev invariant-loop : tie.invariant-loop-from
 invariant-loop starts₀ states₀ minutes strokes place₀ from₀ starts states place from =
     (length starts ≡ length starts₀) × (length states ≡ length states₀) × Reading strokes minutes starts₀ states₀ starts states place from
 
-abbrev decreases-loop : tie.decreases-loop
+abbrev decreases-loop : tie.decreases-loop-from
 decreases-loop starts₀ states₀ minutes strokes place₀ from₀ starts states place from = 1440 - from
 
-loop-holds : tie.Need-loop-init invariant-loop decreases-loop
+loop-holds : tie.Need-loop-from-init invariant-loop decreases-loop
 loop-holds c = (refl, refl, reading-start _ _ _ _)
 
-mul-number : tie.Need-overflow-mul-number invariant-loop decreases-loop
+mul-number : tie.Need-offset_bounds-minutes-from invariant-loop decreases-loop
 mul-number c = search rules
 
-shared-slice-read-number : tie.Need-shared-slice-read-number invariant-loop decreases-loop
+shared-slice-read-number : tie.Need-bounds-minutes-from invariant-loop decreases-loop
 shared-slice-read-number c = search rules
 
-number-state-requires : tie.Need-number-state-requires invariant-loop decreases-loop
+number-state-requires : tie.Need-number_state-state-requires invariant-loop decreases-loop
 number-state-requires c κs =
     let loop = c.before.before in
     let entry = loop.before.before.before.before.before in
-    entry.requires.1 loop.loop.from
+    entry.requires.1 loop.loop-from.from
 
-usize-to-u64-requires : tie.Need-usize-to-u64-requires invariant-loop decreases-loop
+usize-to-u64-requires : tie.Need-usize_to_u64-requires invariant-loop decreases-loop
 usize-to-u64-requires c κs = search rules
 
-put-piece-requires : tie.Need-put-piece-requires invariant-loop decreases-loop
+put-piece-requires : tie.Need-put_piece-place-requires invariant-loop decreases-loop
 put-piece-requires c κs =
     let turn = c.before.before.before.before.before in
     let loop = turn.before in
     let pre = loop.before.before.before.before.before.requires.0 in
-    let inv = loop.loop.invariant in
-    let room = reading-room _ _ _ _ _ _ _ _ inv.2 turn.loop-test.true in
+    let inv = loop.loop-from.invariant in
+    let room = reading-room _ _ _ _ _ _ _ _ inv.2 turn.loop-from-test.true in
     (omega (arith, room, inv.0, pre.1), omega (arith, room, inv.1, pre.2))
 
-add-run-end : tie.Need-overflow-add-run-end invariant-loop decreases-loop
+add-run-end : tie.Need-overflow_add-from invariant-loop decreases-loop
 add-run-end c = search rules
 
-run-end-requires : tie.Need-run-end-requires invariant-loop decreases-loop
+run-end-requires : tie.Need-run_end-from-requires invariant-loop decreases-loop
 run-end-requires c κs =
     let turn = c.before.before.before.before.before.before.before.before.before.before in
-    (omega (arith, turn.loop-test.true), turn.before.before.before.before.before.before.requires.0.0)
+    (omega (arith, turn.loop-from-test.true), turn.before.before.before.before.before.before.requires.0.0)
 
-loop-less : tie.Need-loop-smaller invariant-loop decreases-loop
+loop-less : tie.Need-loop-from-smaller invariant-loop decreases-loop
 loop-less c =
     let turn = c.before.before.before.before.before.before.before.before.before.before.before in
-    omega (arith, c.run-end.ensures.0, turn.loop-test.true)
+    omega (arith, c.run_end-from.ensures.0, turn.loop-from-test.true)
 
-loop-again : tie.Need-loop-preserved invariant-loop decreases-loop
+loop-again : tie.Need-loop-from-preserved invariant-loop decreases-loop
 loop-again c =
     let put = c.before.before.before.before.before in
     let word = put.before in
     let state = word.before.before.before in
     let turn = state.before.before in
     let loop = turn.before in
-    let inv = loop.loop.invariant in (
-      put.put-piece.auto.0 ∙ inv.0,
-      put.put-piece.auto.1.0 ∙ inv.1,
-      reading-on _ _ _ _ _ _ _ _ inv.2 turn.loop-test.true _ refl _ state.number-state.ensures _ c.run-end.ensures _ _ _ _
-          word.usize-to-u64.ensures put.put-piece.ensures,
+    let inv = loop.loop-from.invariant in (
+      put.put_piece-place.auto.0 ∙ inv.0,
+      put.put_piece-place.auto.1.0 ∙ inv.1,
+      reading-on _ _ _ _ _ _ _ _ inv.2 turn.loop-from-test.true _ refl _ state.number_state-state.ensures _ c.run_end-from.ensures _ _ _ _
+          word.usize_to_u64.ensures put.put_piece-place.ensures,
     )
 
-mul-starts : tie.Need-overflow-mul-starts invariant-loop decreases-loop
+mul-starts : tie.Need-offset_bounds-starts-place invariant-loop decreases-loop
 mul-starts c =
     let loop = c.before in
     let pre = loop.before.before.before.before.before.requires.0 in
-    omega (arith, loop.loop.invariant.2.most, loop.loop.invariant.0, pre.1)
+    omega (arith, loop.loop-from.invariant.2.most, loop.loop-from.invariant.0, pre.1)
 
-slice-write-starts : tie.Need-slice-write-starts invariant-loop decreases-loop
+slice-write-starts : tie.Need-bounds-starts-place invariant-loop decreases-loop
 slice-write-starts c =
     let loop = c.before in
     let pre = loop.before.before.before.before.before.requires.0 in
-    omega (arith, loop.loop.invariant.2.most, loop.loop.invariant.0, pre.1)
+    omega (arith, loop.loop-from.invariant.2.most, loop.loop-from.invariant.0, pre.1)
 
-same_length : tie.Need-same-length invariant-loop decreases-loop
-same_length c = simp length-set c.before.loop.invariant.0
+same_length : tie.Need-shape_of-starts invariant-loop decreases-loop
+same_length c = simp length-set c.before.loop-from.invariant.0
 
-same-length-2 : tie.Need-same-length-2 invariant-loop decreases-loop
-same-length-2 c = c.before.loop.invariant.1
+same-length-2 : tie.Need-shape_of-states invariant-loop decreases-loop
+same-length-2 c = c.before.loop-from.invariant.1
 
 returns : tie.Need-returns invariant-loop decreases-loop
 returns c =
     let loop = c.before in
     let pre = loop.before.before.before.before.before.requires.0 in
-    reading-ends _ _ _ _ _ _ _ _ loop.loop.invariant.2 (omega (arith, c.loop-test.false)) pre.1 pre.2
+    reading-ends _ _ _ _ _ _ _ _ loop.loop-from.invariant.2 (omega (arith, c.loop-from-test.false)) pre.1 pre.2
 
-pub write-minutes-spec : {M : Type 1} → statement M
-write-minutes-spec =
+pub write_minutes_spec : {M : Type 1} → statement M
+write_minutes_spec =
     tie.close
     (tie.spec
     invariant-loop decreases-loop loop-holds mul-number shared-slice-read-number number-state-requires usize-to-u64-requires put-piece-requires add-run-end

@@ -29,16 +29,16 @@ abbrev write-range-below : ℕ → In 3 write-range-kinds.ps
 write-range-below t =
     and 3 write-range-kinds.ps (falls 3 write-range-kinds.ps ◌<◌ μ-write-range t) write-range.Pre
 
-abbrev write-range-Inv-loop : write-range-lts.invariant-loop
+abbrev write-range-Inv-loop : write-range-lts.invariant-loop-from
 write-range-Inv-loop starts₀ states₀ at strokes i a b place₀ below₀ from₀ starts states place below from =
     RangeOn strokes i a b at starts₀ states₀ below from place starts states
 
-abbrev write-range-μ-loop : write-range-lts.decreases-loop
+abbrev write-range-μ-loop : write-range-lts.decreases-loop-from
 write-range-μ-loop starts₀ states₀ at strokes i a b place₀ below₀ from₀ starts states place below from =
     b - from
 
-pub +write-range-spec : {M : Type 1} → statement M
-+write-range-spec = close μ-write-range λ t. write-range-lts.spec (
+pub +write_range_spec : {M : Type 1} → statement M
++write_range_spec = close μ-write-range λ t. write-range-lts.spec (
   last-meeting-reads.Asked,
   last-meeting-reads.Learnt,
   put-piece-reads.Asked,

@@ -8,45 +8,45 @@ use Rattle.day_paint.proofs.Meeting.{last-here, last-below, last_none}
 use Rattle.day_paint.proofs.piece.last_meeting.Statement.{statement}
 use Rattle.day_paint.proofs.piece.last_meeting.Tie as tie
 
-abbrev invariant-loop : tie.invariant-loop
+abbrev invariant-loop : tie.invariant-loop-next
 invariant-loop strokes i a b next₀ next = (next ≤ i) × (last_meeting strokes next a b ≡ last_meeting strokes i a b)
 
-abbrev decreases-loop : tie.decreases-loop
+abbrev decreases-loop : tie.decreases-loop-next
 decreases-loop strokes i a b next₀ next = next
 
-loop-holds : tie.Need-loop-init invariant-loop decreases-loop
+loop-holds : tie.Need-loop-next-init invariant-loop decreases-loop
 loop-holds c = (omega arith, refl)
 
-sub-meets-range : tie.Need-overflow-sub-meets-range invariant-loop decreases-loop
+sub-meets-range : tie.Need-overflow_sub-next invariant-loop decreases-loop
 sub-meets-range c = search rules
 
-mul-meets-range : tie.Need-overflow-mul-meets-range invariant-loop decreases-loop
+mul-meets-range : tie.Need-offset_bounds-strokes-next invariant-loop decreases-loop
 mul-meets-range c = search rules
 
-shared-slice-read-meets-range : tie.Need-shared-slice-read-meets-range invariant-loop decreases-loop
+shared-slice-read-meets-range : tie.Need-bounds-strokes-next invariant-loop decreases-loop
 shared-slice-read-meets-range c = search rules
 
-meets-range-requires : tie.Need-meets-range-requires invariant-loop decreases-loop
+meets-range-requires : tie.Need-meets_range-requires invariant-loop decreases-loop
 meets-range-requires c κs = search rules
 
-returns : tie.Need-returns invariant-loop decreases-loop
-returns c = last-here _ _ _ _ (omega arith) (sym c.before.meets-range.ensures ∙ c.if1.true) ∙ c.before.before.before.before.loop.invariant.1
+returns : tie.Need-returns-then-meets_range invariant-loop decreases-loop
+returns c = last-here _ _ _ _ (omega arith) (sym c.before.meets_range.ensures ∙ c.if-meets_range.true) ∙ c.before.before.before.before.loop-next.invariant.1
 
-sub-next : tie.Need-overflow-sub-next invariant-loop decreases-loop
+sub-next : tie.Need-overflow_sub-next invariant-loop decreases-loop
 sub-next c = search rules
 
-loop-less : tie.Need-loop-smaller invariant-loop decreases-loop
+loop-less : tie.Need-loop-next-smaller invariant-loop decreases-loop
 loop-less c = search rules
 
-loop-again : tie.Need-loop-preserved invariant-loop decreases-loop
+loop-again : tie.Need-loop-next-preserved invariant-loop decreases-loop
 loop-again c =
-    (omega arith, last-below _ _ _ _ (omega arith) (sym c.before.meets-range.ensures ∙ c.if1.false) ∙ c.before.before.before.before.loop.invariant.1)
+    (omega arith, last-below _ _ _ _ (omega arith) (sym c.before.meets_range.ensures ∙ c.if-meets_range.false) ∙ c.before.before.before.before.loop-next.invariant.1)
 
-returns-2 : tie.Need-returns-2 invariant-loop decreases-loop
-returns-2 c = last_none _ _ _ _ (omega arith) ∙ c.before.loop.invariant.1
+returns-2 : tie.Need-returns invariant-loop decreases-loop
+returns-2 c = last_none _ _ _ _ (omega arith) ∙ c.before.loop-next.invariant.1
 
-pub last-meeting-spec : {M : Type 1} → statement M
-last-meeting-spec =
+pub last_meeting_spec : {M : Type 1} → statement M
+last_meeting_spec =
     tie.close
     (tie.spec
     invariant-loop decreases-loop loop-holds sub-meets-range mul-meets-range shared-slice-read-meets-range meets-range-requires returns sub-next loop-less

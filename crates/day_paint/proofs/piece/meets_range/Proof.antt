@@ -7,23 +7,23 @@ use Rattle.day_paint.proofs.Meeting.{meets-past, meets-before, meets-in}
 use Rattle.day_paint.proofs.piece.meets_range.Statement.{statement}
 use Rattle.day_paint.proofs.piece.meets_range.Tie as tie
 
-stroke-end-requires : tie.Need-stroke-end-requires
+stroke-end-requires : tie.Need-stroke_end-end-requires
 stroke-end-requires c κs = search rules
 
-returns : tie.Need-returns
+returns : tie.Need-returns-then-end-a
 returns c = sym (meets-past _ _ _ (omega arith))
 
-stroke-start-requires : tie.Need-stroke-start-requires
+stroke-start-requires : tie.Need-stroke_start-start-requires
 stroke-start-requires c κs = search rules
 
-returns-2 : tie.Need-returns-2
+returns-2 : tie.Need-returns-then-b-start
 returns-2 c = sym (meets-before _ _ _ (omega arith))
 
-returns-3 : tie.Need-returns-3
+returns-3 : tie.Need-returns
 returns-3 c =
     let stroke-end = c.before.before.before in
     let entry = stroke-end.before in
-    ap₂ ltb c.before.stroke-start.ensures stroke-end.stroke-end.ensures ∙ meets-in _ _ _ entry.requires (omega arith) (omega arith)
+    ap₂ ltb c.before.stroke_start-start.ensures stroke-end.stroke_end-end.ensures ∙ meets-in _ _ _ entry.requires (omega arith) (omega arith)
 
-pub meets-range-spec : {M : Type 1} → statement M
-meets-range-spec = tie.close (tie.spec stroke-end-requires returns stroke-start-requires returns-2 returns-3)
+pub meets_range_spec : {M : Type 1} → statement M
+meets_range_spec = tie.close (tie.spec stroke-end-requires returns stroke-start-requires returns-2 returns-3)

@@ -7,5 +7,5 @@ use Rattle.day_sweep.proofs.chain.bare_heads.Tie as tie
 returns : tie.Need-returns
 returns c = (refl, λ b h. bare 64 b h)
 
-pub bare-heads-spec : {M : Type 1} → statement M
-bare-heads-spec = tie.close (tie.spec returns)
+pub bare_heads_spec : {M : Type 1} → statement M
+bare_heads_spec = tie.close (tie.spec returns)

@@ -13,11 +13,11 @@ use Rattle.draw_rule.proofs.Finding.{run_more}
 use Rattle.draw_rule.proofs.runs.find_row.Statement.{statement}
 use Rattle.draw_rule.proofs.runs.find_row.Tie as tie
 
-abbrev invariant-loop : tie.invariant-loop
+abbrev invariant-loop : tie.invariant-loop-range
 invariant-loop runs₀ sizes counts rows cuts ranges dimension count first end range₀ runs range =
     (range ≤ count) × (length runs ≡ length runs₀) × RunsUpTo sizes counts rows cuts ranges runs dimension × RowRuns sizes rows cuts ranges runs dimension range
 
-abbrev decreases-loop : tie.decreases-loop
+abbrev decreases-loop : tie.decreases-loop-range
 decreases-loop runs₀ sizes counts rows cuts ranges dimension count first end range₀ runs range = count - range
 
 abbrev start : tie.After-u16-to-usize3 invariant-loop decreases-loop → tie.Start invariant-loop decreases-loop
@@ -44,8 +44,8 @@ few-ranges size =
     let pre = (start size).requires in
     omega (arith, pre.0.count (start size).args.dimension pre.1.0.0, (first size).before.before.u16-to-usize.ensures.0)
 
-pub find-row-spec : {M : Type 1} → statement M
-find-row-spec =
+pub find_row_spec : {M : Type 1} → statement M
+find_row_spec =
     tie.close
     (tie.spec
     invariant-loop decreases-loop

@@ -5,8 +5,8 @@ use Rattle.draw_rule.proofs.Finding.{placed}
 use Rattle.draw_rule.proofs.runs.find_run.Statement.{statement}
 use Rattle.draw_rule.proofs.runs.find_run.Tie as tie
 
-pub find-run-spec : {M : Type 1} → statement M
-find-run-spec =
+pub find_run_spec : {M : Type 1} → statement M
+find_run_spec =
     tie.close
     (tie.spec
     (λ c. search rules) (λ c. search rules) (λ c κs. search rules) (λ c. search rules) (λ c. search rules) (λ c. search rules)

@@ -8,14 +8,14 @@ use Rattle.draw_rule.specs.Runs.{RunsUpTo}
 use Rattle.draw_rule.proofs.runs.find_runs.Statement.{statement}
 use Rattle.draw_rule.proofs.runs.find_runs.Tie as tie
 
-abbrev invariant-loop : tie.invariant-loop
+abbrev invariant-loop : tie.invariant-loop-dimension
 invariant-loop runs₀ sizes counts rows cuts ranges dimension₀ runs dimension = (dimension ≤ 4) × (length runs ≡ length runs₀) × RunsUpTo sizes counts rows cuts ranges runs dimension
 
-abbrev decreases-loop : tie.decreases-loop
+abbrev decreases-loop : tie.decreases-loop-dimension
 decreases-loop runs₀ sizes counts rows cuts ranges dimension₀ runs dimension = 4 - dimension
 
-pub find-runs-spec : {M : Type 1} → statement M
-find-runs-spec =
+pub find_runs_spec : {M : Type 1} → statement M
+find_runs_spec =
     tie.close
     (tie.spec
     invariant-loop decreases-loop

@@ -3,8 +3,8 @@ use borrow.Author.Rules.{rules}
 use Rattle.draw_rule.proofs.walk.draw_boxes.Statement.{statement}
 use Rattle.draw_rule.proofs.walk.draw_boxes.Tie as tie
 
-pub draw-boxes-spec : {M : Type 1} → statement M
-draw-boxes-spec =
+pub draw_boxes_spec : {M : Type 1} → statement M
+draw_boxes_spec =
     tie.close
     (tie.spec
     (λ c κs. search rules) (λ c κs. search rules) (λ c. search rules) (λ c. search rules) (λ c. search rules)

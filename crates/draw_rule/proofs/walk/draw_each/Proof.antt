@@ -10,16 +10,16 @@ use Rattle.draw_rule.proofs.Passing.{boxes-none, boxes-more}
 use Rattle.draw_rule.proofs.walk.draw_each.Statement.{statement}
 use Rattle.draw_rule.proofs.walk.draw_each.Tie as tie
 
-abbrev invariant-loop : tie.invariant-loop
+abbrev invariant-loop : tie.invariant-loop-box_index
 invariant-loop cells₀ lists₀ memo₀ rule replaces before first end drawn₀ box₀ cells lists memo drawn box =
     (first ≤ box) × (box ≤ end) × (length cells ≡ length cells₀) × (length lists ≡ length lists₀) × (length memo ≡ length memo₀)
     × Walked cells₀ lists₀ drawn₀.used drawn₀.overflowed cells lists memo drawn.used drawn.overflowed rule replaces before (from first (box - first))
 
-abbrev decreases-loop : tie.decreases-loop
+abbrev decreases-loop : tie.decreases-loop-box_index
 decreases-loop cells₀ lists₀ memo₀ rule replaces before first end drawn₀ box₀ cells lists memo drawn box = end - box
 
-pub draw-each-spec : {M : Type 1} → statement M
-draw-each-spec =
+pub draw_each_spec : {M : Type 1} → statement M
+draw_each_spec =
     tie.close
     (tie.spec
     invariant-loop decreases-loop

@@ -6,18 +6,18 @@ use Rattle.draw_rule.proofs.Level.{Level, level-start, level-run, level-node, le
 use Rattle.draw_rule.proofs.walk.draw_weekdays.Statement.{statement}
 use Rattle.draw_rule.proofs.walk.draw_weekdays.Tie as tie
 
-abbrev invariant-loop : tie.invariant-loop
+abbrev invariant-loop : tie.invariant-loop-node
 invariant-loop cells₀ lists₀ memo₀ sizes counts runs rule replaces before first end count drawn₀ node₀ range₀ cells lists memo drawn node range =
     Level cells₀ lists₀ memo₀ drawn₀.used drawn₀.overflowed rule replaces before sizes counts runs 3 first end count cells lists memo drawn.used drawn.overflowed node range
 
-abbrev decreases-loop : tie.decreases-loop
+abbrev decreases-loop : tie.decreases-loop-node
 decreases-loop cells₀ lists₀ memo₀ sizes counts runs rule replaces before first end count drawn₀ node₀ range₀ cells lists memo drawn node range = (end - node) * 65536 + (count - range)
 
 abbrev start : tie.After-u16-to-usize invariant-loop decreases-loop → tie.Start invariant-loop decreases-loop
 start count = count.before.before.before.before.before.before.before.before
 
-pub draw-weekdays-spec : {M : Type 1} → statement M
-draw-weekdays-spec =
+pub draw_weekdays_spec : {M : Type 1} → statement M
+draw_weekdays_spec =
     tie.close
     (tie.spec
     invariant-loop decreases-loop

@@ -8,18 +8,18 @@ use Rattle.draw_rule.proofs.Level.{Level, level-start, level-run, level-node, le
 use Rattle.draw_rule.proofs.walk.draw_years.Statement.{statement}
 use Rattle.draw_rule.proofs.walk.draw_years.Tie as tie
 
-abbrev invariant-loop : tie.invariant-loop
+abbrev invariant-loop : tie.invariant-loop-node
 invariant-loop cells₀ lists₀ memo₀ sizes counts runs rule replaces before first end count drawn₀ node₀ range₀ cells lists memo drawn node range =
     Level cells₀ lists₀ memo₀ drawn₀.used drawn₀.overflowed rule replaces before sizes counts runs 0 first end count cells lists memo drawn.used drawn.overflowed node range
 
-abbrev decreases-loop : tie.decreases-loop
+abbrev decreases-loop : tie.decreases-loop-node
 decreases-loop cells₀ lists₀ memo₀ sizes counts runs rule replaces before first end count drawn₀ node₀ range₀ cells lists memo drawn node range = (end - node) * 65536 + (count - range)
 
 abbrev start : tie.After-u16-to-usize invariant-loop decreases-loop → tie.Start invariant-loop decreases-loop
 start count = count.before.before.before.before.before.before.before.before
 
-pub draw-years-spec : {M : Type 1} → statement M
-draw-years-spec =
+pub draw_years_spec : {M : Type 1} → statement M
+draw_years_spec =
     tie.close
     (tie.spec
     invariant-loop decreases-loop

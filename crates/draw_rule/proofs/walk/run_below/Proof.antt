@@ -14,8 +14,8 @@ start width = width.before.before.before.before
 based : (width : tie.After-u16-to-usize) → let a = (start width).args in a.node * width.u16-to-usize.result ≡ a.node * get_or a.sizes.now a.dimension 0
 based width = ap ((start width).args.node *◌) width.u16-to-usize.ensures.0
 
-pub run-below-spec : {M : Type 1} → statement M
-run-below-spec =
+pub run_below_spec : {M : Type 1} → statement M
+run_below_spec =
     tie.close
     (tie.spec
     (λ c. search rules) (λ c. search rules) (λ c κs. search rules)

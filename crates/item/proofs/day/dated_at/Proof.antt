@@ -7,8 +7,8 @@ use Rattle.item.proofs.Returns.{monthday-stops}
 use Rattle.item.proofs.day.dated_at.Statement.{statement}
 use Rattle.item.proofs.day.dated_at.Tie as tie
 
-pub dated-at-spec : {M : Type 1} → statement M
-dated-at-spec =
+pub dated_at_spec : {M : Type 1} → statement M
+dated_at_spec =
     tie.close
     (tie.spec
     (λ c κs. search rules)

@@ -4,8 +4,8 @@ use borrow.Author.Tests.{eq-eqb, ne_eqb}
 use Rattle.item.proofs.day.every_week.Statement.{statement}
 use Rattle.item.proofs.day.every_week.Tie as tie
 
-pub every-week-spec : {M : Type 1} → statement M
-every-week-spec =
+pub every_week_spec : {M : Type 1} → statement M
+every_week_spec =
     tie.close
     (tie.spec
     (λ c. sym (rw (eq-eqb _ 0 c.before.if1.true, eq-eqb _ 31 c.if2.true)))

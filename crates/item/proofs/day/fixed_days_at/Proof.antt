@@ -8,8 +8,8 @@ use Rattle.item.proofs.Returns.{weekday-stops}
 use Rattle.item.proofs.day.fixed_days_at.Statement.{statement}
 use Rattle.item.proofs.day.fixed_days_at.Tie as tie
 
-pub fixed-days-at-spec : {M : Type 1} → statement M
-fixed-days-at-spec =
+pub fixed_days_at_spec : {M : Type 1} → statement M
+fixed_days_at_spec =
     tie.close
     (tie.spec
     (λ c κs. search rules)

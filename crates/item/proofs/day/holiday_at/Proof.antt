@@ -8,8 +8,8 @@ use Rattle.item.proofs.Returns.{weekday-stops}
 use Rattle.item.proofs.day.holiday_at.Statement.{statement}
 use Rattle.item.proofs.day.holiday_at.Tie as tie
 
-pub holiday-at-spec : {M : Type 1} → statement M
-holiday-at-spec =
+pub holiday_at_spec : {M : Type 1} → statement M
+holiday_at_spec =
     tie.close
     (tie.spec
     (λ c κs. search rules)

@@ -11,9 +11,9 @@ use Rattle.item.proofs.Bodies.{body, as-months, as-months-of, as-dated}
 use Rattle.item.proofs.day.monthday_range_at.Statement.{statement}
 use Rattle.item.proofs.day.monthday_range_at.Tie as tie
 
-pub monthday-range-at-spec : {M : Type 1} → statement M
+pub monthday_range_at_spec : {M : Type 1} → statement M
 unfolding monthday_range
-monthday-range-at-spec =
+monthday_range_at_spec =
     tie.close
     (tie.spec
     (λ c κs. search rules) (λ c. search rules) (λ c. search rules) (λ c κs. search rules)

@@ -8,8 +8,8 @@ use Rattle.item.proofs.Returns.{monthday-stops}
 use Rattle.item.proofs.day.months_at.Statement.{statement}
 use Rattle.item.proofs.day.months_at.Tie as tie
 
-pub months-at-spec : {M : Type 1} → statement M
-months-at-spec =
+pub months_at_spec : {M : Type 1} → statement M
+months_at_spec =
     tie.close
     (tie.spec
     (λ c κs. search rules)

@@ -8,8 +8,8 @@ use Rattle.item.proofs.Returns.{monthday-stops}
 use Rattle.item.proofs.day.months_of_at.Statement.{statement}
 use Rattle.item.proofs.day.months_of_at.Tie as tie
 
-pub months-of-at-spec : {M : Type 1} → statement M
-months-of-at-spec =
+pub months_of_at_spec : {M : Type 1} → statement M
+months_of_at_spec =
     tie.close
     (tie.spec
     (λ c κs. search rules)

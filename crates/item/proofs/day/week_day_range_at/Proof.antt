@@ -11,9 +11,9 @@ use Rattle.item.proofs.Bodies.{body, as-fixed-days, as-holiday}
 use Rattle.item.proofs.day.week_day_range_at.Statement.{statement}
 use Rattle.item.proofs.day.week_day_range_at.Tie as tie
 
-pub week-day-range-at-spec : {M : Type 1} → statement M
+pub week_day_range_at_spec : {M : Type 1} → statement M
 unfolding week_day_range
-week-day-range-at-spec =
+week_day_range_at_spec =
     tie.close
     (tie.spec
     (λ c κs. search rules) (λ c. search rules) (λ c. search rules) (λ c κs. search rules)

@@ -9,9 +9,9 @@ use Rattle.item.proofs.Returns.{stepped-stops}
 use Rattle.item.proofs.day.week_range_at.Statement.{statement}
 use Rattle.item.proofs.day.week_range_at.Tie as tie
 
-pub week-range-at-spec : {M : Type 1} → statement M
+pub week_range_at_spec : {M : Type 1} → statement M
 unfolding week_range
-week-range-at-spec =
+week_range_at_spec =
     tie.close
     (tie.spec
     (λ c κs. search rules)

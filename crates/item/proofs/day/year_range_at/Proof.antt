@@ -9,9 +9,9 @@ use Rattle.item.proofs.Returns.{stepped-stops}
 use Rattle.item.proofs.day.year_range_at.Statement.{statement}
 use Rattle.item.proofs.day.year_range_at.Tie as tie
 
-pub year-range-at-spec : {M : Type 1} → statement M
+pub year_range_at_spec : {M : Type 1} → statement M
 unfolding year_range
-year-range-at-spec =
+year_range_at_spec =
     tie.close
     (tie.spec
     (λ c κs. search rules)

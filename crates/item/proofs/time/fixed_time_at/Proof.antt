@@ -7,8 +7,8 @@ use Rattle.item.proofs.Returns.{time-stops}
 use Rattle.item.proofs.time.fixed_time_at.Statement.{statement}
 use Rattle.item.proofs.time.fixed_time_at.Tie as tie
 
-pub fixed-time-at-spec : {M : Type 1} → statement M
-fixed-time-at-spec =
+pub fixed_time_at_spec : {M : Type 1} → statement M
+fixed_time_at_spec =
     tie.close
     (tie.spec
     (λ c κs. search rules)

@@ -12,9 +12,9 @@ use Rattle.item.proofs.Spans.{no-repeats, repeats-goes, repeats-stops}
 use Rattle.item.proofs.time.repeats_at.Statement.{statement}
 use Rattle.item.proofs.time.repeats_at.Tie as tie
 
-pub repeats-at-spec : {M : Type 1} → statement M
+pub repeats_at_spec : {M : Type 1} → statement M
 unfolding repeats_layout
-repeats-at-spec =
+repeats_at_spec =
     tie.close
     (tie.spec
     (λ c κs. search rules) (λ c. search rules) (λ c. search rules)

@@ -10,9 +10,9 @@ use Rattle.item.proofs.Spans.{took-time, stopped-time, took-repeats, stopped-rep
 use Rattle.item.proofs.time.span_at.Statement.{statement}
 use Rattle.item.proofs.time.span_at.Tie as tie
 
-pub span-at-spec : {M : Type 1} → statement M
+pub span_at_spec : {M : Type 1} → statement M
 unfolding span
-span-at-spec =
+span_at_spec =
     tie.close
     (tie.spec
     (λ c κs. search rules) (λ c. search rules) (λ c. search rules) (λ c κs. search rules)

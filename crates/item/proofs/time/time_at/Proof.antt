@@ -11,9 +11,9 @@ use Rattle.item.proofs.Bodies.{body, as-fixed, as-variable}
 use Rattle.item.proofs.time.time_at.Statement.{statement}
 use Rattle.item.proofs.time.time_at.Tie as tie
 
-pub time-at-spec : {M : Type 1} → statement M
+pub time_at_spec : {M : Type 1} → statement M
 unfolding time
-time-at-spec =
+time_at_spec =
     tie.close
     (tie.spec
     (λ c κs. search rules) (λ c. search rules) (λ c. search rules) (λ c κs. search rules)

@@ -8,8 +8,8 @@ use Rattle.item.proofs.Returns.{time-stops}
 use Rattle.item.proofs.time.variable_time_at.Statement.{statement}
 use Rattle.item.proofs.time.variable_time_at.Tie as tie
 
-pub variable-time-at-spec : {M : Type 1} → statement M
-variable-time-at-spec =
+pub variable_time_at_spec : {M : Type 1} → statement M
+variable_time_at_spec =
     tie.close
     (tie.spec
     (λ c κs. search rules)

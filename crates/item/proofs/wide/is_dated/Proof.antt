@@ -6,8 +6,8 @@ use Rattle.item.proofs.Parts.{wide-dated}
 use Rattle.item.proofs.wide.is_dated.Statement.{statement}
 use Rattle.item.proofs.wide.is_dated.Tie as tie
 
-pub is-dated-spec : {M : Type 1} → statement M
-is-dated-spec =
+pub is_dated_spec : {M : Type 1} → statement M
+is_dated_spec =
     tie.close
     (tie.spec (λ c κs. search rules)
     (λ c t s p wide. wide-dated wide (sym c.part.ensures ∙ eqb-true c.part.result 2 t)))

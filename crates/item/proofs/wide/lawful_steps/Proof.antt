@@ -8,7 +8,7 @@ use Rattle.item.proofs.Parts.{kept, wide-steps}
 use Rattle.item.proofs.wide.lawful_steps.Statement.{statement}
 use Rattle.item.proofs.wide.lawful_steps.Tie as tie
 
-returns : tie.Need-returns
+returns : tie.Need-returns-then-inside-2
 returns c t s p wide =
     let inside2 = c.before in
     let inside = inside2.before.before in
@@ -17,12 +17,12 @@ returns c t s p wide =
     let part = part2.before in
     let args = part.before.args in
     wide-steps wide args.width args.step-width args.lowest args.upper part.before.requires
-    (kept (args.lowest, args.upper) inside.inside.ensures part.part.ensures inside2.before.if1.true)
-    (kept (args.lowest, args.upper) inside2.inside2.ensures part2.part2.ensures c.if2.true)
-    (subst (0 <◌) part3.part3.ensures (ltb-true 0 part3.part3.result t))
+    (kept (args.lowest, args.upper) inside.inside.ensures part.part-start.ensures inside2.before.if-inside.true)
+    (kept (args.lowest, args.upper) inside2.inside-then-inside.ensures part2.part-end.ensures c.if-inside-2.true)
+    (subst (0 <◌) part3.part-step.ensures (ltb-true 0 part3.part-step.result t))
 
-pub lawful-steps-spec : {M : Type 1} → statement M
-lawful-steps-spec =
+pub lawful_steps_spec : {M : Type 1} → statement M
+lawful_steps_spec =
     tie.close
     (tie.spec (λ c. search rules) (λ c κs. search rules) (λ c. search rules) (λ c. search rules) (λ c κs. search rules) (λ c. search rules)
     (λ c. search rules) (λ c. search rules) (λ c κs. search rules) (λ c κs. search rules) (λ c κs. search rules) returns

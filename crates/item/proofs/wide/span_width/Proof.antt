@@ -6,34 +6,34 @@ use Rattle.item.proofs.Parts.{wide-span, wide-repeats}
 use Rattle.item.proofs.wide.span_width.Statement.{statement}
 use Rattle.item.proofs.wide.span_width.Tie as tie
 
-no-repeats : tie.Need-returns-3
+no-repeats : tie.Need-returns-then-part-eq0
 no-repeats c =
     let part3 = c.before in
     let last = part3.before.before in
     let part2 = last.before in
     let first = part2.before.before in
     let part = first.before in (
-      omega (arith, first.time-width.ensures.0, last.time-width2.ensures.0),
-      λ l s p wide. wide-span wide first.time-width.result last.time-width2.result first.time-width.ensures.0 last.time-width2.ensures.0
-          _ _ part.part.ensures part2.part2.ensures (first.time-width.ensures.1 (omega arith)) (last.time-width2.ensures.1 (omega arith))
-          (sym part3.part3.ensures ∙ c.if3.true),
+      omega (arith, first.time_width-first.ensures.0, last.time_width-second.ensures.0),
+      λ l s p wide. wide-span wide first.time_width-first.result last.time_width-second.result first.time_width-first.ensures.0 last.time_width-second.ensures.0
+          _ _ part.part.ensures part2.part-2.ensures (first.time_width-first.ensures.1 (omega arith)) (last.time_width-second.ensures.1 (omega arith))
+          (sym part3.part-3.ensures ∙ c.if-part-eq0.true),
     )
 
-repeats : tie.Need-returns-4
+repeats : tie.Need-returns
 repeats c =
     let part3 = c.before in
     let last = part3.before.before in
     let part2 = last.before in
     let first = part2.before.before in
     let part = first.before in (
-      omega (arith, first.time-width.ensures.0, last.time-width2.ensures.0),
-      λ l s p wide. wide-repeats wide first.time-width.result last.time-width2.result first.time-width.ensures.0 last.time-width2.ensures.0
-          _ _ part.part.ensures part2.part2.ensures (first.time-width.ensures.1 (omega arith)) (last.time-width2.ensures.1 (omega arith))
-          (λ e. c.if3.false (part3.part3.ensures ∙ e)),
+      omega (arith, first.time_width-first.ensures.0, last.time_width-second.ensures.0),
+      λ l s p wide. wide-repeats wide first.time_width-first.result last.time_width-second.result first.time_width-first.ensures.0 last.time_width-second.ensures.0
+          _ _ part.part.ensures part2.part-2.ensures (first.time_width-first.ensures.1 (omega arith)) (last.time_width-second.ensures.1 (omega arith))
+          (λ e. c.if-part-eq0.false (part3.part-3.ensures ∙ e)),
     )
 
-pub span-width-spec : {M : Type 1} → statement M
-span-width-spec =
+pub span_width_spec : {M : Type 1} → statement M
+span_width_spec =
     tie.close
     (tie.spec (λ c κs. search rules) (λ c κs. search rules) (λ c. (omega arith, λ l. absurd (omega arith))) (λ c. search rules) (λ c κs. search rules)
     (λ c κs. search rules) (λ c. (omega arith, λ l. absurd (omega arith))) (λ c. search rules) (λ c. search rules) (λ c. search rules) (λ c κs. search rules)

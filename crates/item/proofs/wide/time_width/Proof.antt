@@ -7,8 +7,8 @@ use Rattle.item.proofs.Parts.{wide-fixed, wide-variable}
 use Rattle.item.proofs.wide.time_width.Statement.{statement}
 use Rattle.item.proofs.wide.time_width.Tie as tie
 
-pub time-width-spec : {M : Type 1} → statement M
-time-width-spec =
+pub time_width_spec : {M : Type 1} → statement M
+time_width_spec =
     tie.close
     (tie.spec (λ c κs. search rules) (λ c. (omega arith, λ l s p wide. wide-variable wide (λ e. c.if1.true (c.before.part.ensures ∙ e))))
     (λ c κs. search rules)

@@ -8,16 +8,16 @@ use Rattle.item_text.proofs.Spelled.{behind-alone, behind-step, behind-least, be
 use Rattle.item_text.proofs.day.put_behind.Statement.{statement}
 use Rattle.item_text.proofs.day.put_behind.Tie as tie
 
-put-byte-requires-2 : tie.Need-put-byte-requires-2
+put-byte-requires-2 : tie.Need-put_byte-slash-requires
 put-byte-requires-2 c κs =
     let put-end = c.before.before.before.before in
     let put_byte = put-end.before.before.before.before in
     let entry = put_byte.before.before.before in
     let args = entry.args in
-    let long = behind-long args.sort args.last args.step (ne_eqb _ 1 c.before.if1.false) in
-    omega (arith, entry.requires.1, long, put_byte.put_byte.ensures.ends, put-end.put-end.ensures.ends)
+    let long = behind-long args.sort args.last args.step (ne_eqb _ 1 c.before.if-step-eq1.false) in
+    omega (arith, entry.requires.1, long, put_byte.put_byte-dash.ensures.ends, put-end.put_end-end.ensures.ends)
 
-put-decimal-requires : tie.Need-put-decimal-requires
+put-decimal-requires : tie.Need-put_decimal-requires
 put-decimal-requires c κs =
     let put-byte2 = c.before.before.before in
     let if1 = put-byte2.before.before in
@@ -25,11 +25,11 @@ put-decimal-requires c κs =
     let put_byte = put-end.before.before.before.before in
     let entry = put_byte.before.before.before in
     let args = entry.args in
-    let long = behind-long args.sort args.last args.step (ne_eqb _ 1 if1.if1.false) in
-    omega (arith, entry.requires.1, long, put_byte.put_byte.ensures.ends, put-end.put-end.ensures.ends, put-byte2.put-byte2.ensures.ends)
+    let long = behind-long args.sort args.last args.step (ne_eqb _ 1 if1.if-step-eq1.false) in
+    omega (arith, entry.requires.1, long, put_byte.put_byte-dash.ensures.ends, put-end.put_end-end.ensures.ends, put-byte2.put_byte-slash.ensures.ends)
 
-pub put-behind-spec : {M : Type 1} → statement M
-put-behind-spec =
+pub put_behind_spec : {M : Type 1} → statement M
+put_behind_spec =
     tie.close
     (tie.spec
     (λ c κs.

@@ -12,7 +12,7 @@ use Rattle.item_text.proofs.Spelled.{years-end, months-end, weeks-end, weekdays-
 use Rattle.item_text.proofs.day.put_end.Statement.{statement}
 use Rattle.item_text.proofs.day.put_end.Tie as tie
 
-put-four-requires : tie.Need-put-four-requires
+put-four-requires : tie.Need-put_four-requires
 put-four-requires c κs =
     let entry = c.before.before.before in
     let args = entry.args in
@@ -20,13 +20,13 @@ put-four-requires c κs =
     let e = years-end args.sort args.value (eq-eqb args.sort 0 (omega arith)) in
     ((holds-in args.value year_bounds (sym e.1 ∙ pre.0)).1, omega (arith, pre.1, ap length e.0, length_digits 4 args.value))
 
-put-month-requires : tie.Need-put-month-requires
+put-month-requires : tie.Need-put_month-requires
 put-month-requires c κs =
     let args = c.before.before.before.args in
     let e = months-end args.sort args.value (ne_eqb args.sort 0 (omega arith)) (eq-eqb args.sort 1 (omega arith)) in
     (sym e.1 ∙ c.before.before.before.requires.0, omega (arith, c.before.before.before.requires.1, ap length e.0))
 
-put-two-requires : tie.Need-put-two-requires
+put-two-requires : tie.Need-put_two-requires
 put-two-requires c κs =
     let entry = c.before.before.before in
     let args = entry.args in
@@ -35,7 +35,7 @@ put-two-requires c κs =
     (eq-eqb args.sort 2 (omega arith)) in
     (omega (arith, holds-in args.value week_bounds (sym e.1 ∙ pre.0)), omega (arith, pre.1, ap length e.0, length_digits 2 args.value))
 
-put-weekday-requires : tie.Need-put-weekday-requires
+put-weekday-requires : tie.Need-put_weekday-requires
 put-weekday-requires c κs =
     let entry = c.before.before.before in
     let args = entry.args in
@@ -44,8 +44,8 @@ put-weekday-requires c κs =
     (ne_eqb args.sort 2 (omega arith)) in
     (sym e.1 ∙ pre.0, omega (arith, pre.1, ap length e.0))
 
-pub put-end-spec : {M : Type 1} → statement M
-put-end-spec =
+pub put_end_spec : {M : Type 1} → statement M
+put_end_spec =
     tie.close
     (tie.spec put-four-requires put-month-requires put-two-requires put-weekday-requires
     (λ c. search rules)

@@ -10,19 +10,19 @@ use Rattle.item_text.proofs.Spelled.{item-once, item-both, item-least}
 use Rattle.item_text.proofs.day.put_item.Statement.{statement}
 use Rattle.item_text.proofs.day.put_item.Tie as tie
 
-put-behind-requires : tie.Need-put-behind-requires
+put-behind-requires : tie.Need-put_behind-requires
 put-behind-requires c κs =
     let once = c.before.before in
     let put-end = once.before.before.before in
     let entry = put-end.before.before.before in
     let args = entry.args in
     let pre = entry.requires in
-    let both = item-both args.sort args.last args.step args.first (sym once.once.ensures ∙ c.before.if1.false) in
+    let both = item-both args.sort args.last args.step args.first (sym once.once.ensures ∙ c.before.if-once.false) in
     let long = length-append ((end_text args.sort).write args.first) (behind args.sort args.last args.step) in
-    (pre.1, omega (arith, pre.2, ap length both, long, put-end.put-end.ensures.ends))
+    (pre.1, omega (arith, pre.2, ap length both, long, put-end.put_end-end.ensures.ends))
 
-pub put-item-spec : {M : Type 1} → statement M
-put-item-spec =
+pub put_item_spec : {M : Type 1} → statement M
+put_item_spec =
     tie.close
     (tie.spec
     (λ c κs.

@@ -7,7 +7,7 @@ use Rattle.item_text.proofs.Names.{weekday-found}
 use Rattle.item_text.proofs.day.put_weekday.Statement.{statement}
 use Rattle.item_text.proofs.day.put_weekday.Tie as tie
 
-put-name-requires : tie.Need-put-name-requires
+put-name-requires : tie.Need-put_name-requires
 put-name-requires c κs =
     let entry = c.before.before.before in
     let pre = entry.requires in
@@ -19,7 +19,7 @@ unfolding ascii
 returns c =
     let put-name = c.before.before in
     let entry = put-name.before.before.before.before in
-    put_as (weekday-found entry.args.weekday entry.requires.0).1 put-name.put-name.ensures
+    put_as (weekday-found entry.args.weekday entry.requires.0).1 put-name.put_name.ensures
 
-pub put-weekday-spec : {M : Type 1} → statement M
-put-weekday-spec = tie.close (tie.spec (λ c. search rules) put-name-requires (λ c. search rules) returns)
+pub put_weekday_spec : {M : Type 1} → statement M
+put_weekday_spec = tie.close (tie.spec (λ c. search rules) put-name-requires (λ c. search rules) returns)

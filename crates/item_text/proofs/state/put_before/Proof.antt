@@ -8,8 +8,8 @@ use Rattle.item_text.proofs.Spelled.{before-normal, before-additional, before-fa
 use Rattle.item_text.proofs.state.put_before.Statement.{statement}
 use Rattle.item_text.proofs.state.put_before.Tie as tie
 
-pub put-before-spec : {M : Type 1} → statement M
-put-before-spec =
+pub put_before_spec : {M : Type 1} → statement M
+put_before_spec =
     tie.close
     (tie.spec
     (λ c. search rules)

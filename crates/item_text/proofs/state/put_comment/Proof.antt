@@ -8,8 +8,8 @@ use Rattle.item_text.proofs.Spelled.{comment-none, comment-some, comment-long}
 use Rattle.item_text.proofs.state.put_comment.Statement.{statement}
 use Rattle.item_text.proofs.state.put_comment.Tie as tie
 
-pub put-comment-spec : {M : Type 1} → statement M
-put-comment-spec =
+pub put_comment_spec : {M : Type 1} → statement M
+put_comment_spec =
     tie.close
     (tie.spec
     (λ c. put_as (sym (comment-none (state_of c.before.before.args.kind c.before.before.args.comment) c.if1.true)) (put-none _ _))

@@ -8,8 +8,8 @@ use Rattle.item_text.proofs.Spelled.{kind-none, kind-open, kind-closed, kind-unk
 use Rattle.item_text.proofs.state.put_kind.Statement.{statement}
 use Rattle.item_text.proofs.state.put_kind.Tie as tie
 
-pub put-kind-spec : {M : Type 1} → statement M
-put-kind-spec =
+pub put_kind_spec : {M : Type 1} → statement M
+put_kind_spec =
     tie.close
     (tie.spec
     (λ c. put_as (kind-none c.before.before.before.args.kind c.before.before.before.args.comment (omega arith) (omega arith)) (put-none _ _))

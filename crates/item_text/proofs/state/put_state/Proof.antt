@@ -8,8 +8,8 @@ use Rattle.item_text.proofs.Spelled.{state-text, state-long}
 use Rattle.item_text.proofs.state.put_state.Statement.{statement}
 use Rattle.item_text.proofs.state.put_state.Tie as tie
 
-pub put-state-spec : {M : Type 1} → statement M
-put-state-spec =
+pub put_state_spec : {M : Type 1} → statement M
+put_state_spec =
     tie.close
     (tie.spec
     (λ c κs. omega (arith, c.before.before.requires, state-long (state_of c.before.before.args.kind c.before.before.args.comment)))

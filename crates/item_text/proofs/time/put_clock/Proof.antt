@@ -9,15 +9,15 @@ use Rattle.item_text.proofs.Spelled.{clock-text, clock-long}
 use Rattle.item_text.proofs.time.put_clock.Statement.{statement}
 use Rattle.item_text.proofs.time.put_clock.Tie as tie
 
-put-byte-requires : tie.Need-put-byte-requires
+put-byte-requires : tie.Need-put_byte-colon-requires
 put-byte-requires c κs =
     let put_two = c.before.before.before in
     let entry = put_two.before.before.before in
     let args = entry.args in
     let pre = entry.requires in
-    omega (arith, pre.1, clock-long args.minutes pre.0, put_two.put_two.ensures.ends, length_digits 2 (args.minutes / 60))
+    omega (arith, pre.1, clock-long args.minutes pre.0, put_two.put_two-hours.ensures.ends, length_digits 2 (args.minutes / 60))
 
-put-two-requires-2 : tie.Need-put-two-requires-2
+put-two-requires-2 : tie.Need-put_two-requires
 put-two-requires-2 c κs =
     let put_byte = c.before.before.before in
     let put_two = put_byte.before.before.before.before in
@@ -29,14 +29,14 @@ put-two-requires-2 c κs =
         arith,
         pre.1,
         clock-long args.minutes pre.0,
-        put_two.put_two.ensures.ends,
+        put_two.put_two-hours.ensures.ends,
         length_digits 2 (args.minutes / 60),
-        put_byte.put_byte.ensures.ends,
+        put_byte.put_byte-colon.ensures.ends,
       ),
     )
 
-pub put-clock-spec : {M : Type 1} → statement M
-put-clock-spec =
+pub put_clock_spec : {M : Type 1} → statement M
+put_clock_spec =
     tie.close
     (tie.spec (λ c κs. (
       omega arith,

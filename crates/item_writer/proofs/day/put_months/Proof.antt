@@ -6,7 +6,7 @@ use Rattle.definition.specs.Sheet.{monthday_of, monthday_range}
 use Rattle.item_writer.proofs.day.put_months.Statement.{statement}
 use Rattle.item_writer.proofs.day.put_months.Tie as tie
 
-put-three-requires : tie.Need-put-three-requires
+put-three-requires : tie.Need-put_three-requires
 unfolding monthday_range monthday_of tagged via ◌then◌ field
 put-three-requires c κs =
     let entry = c.before.before in
@@ -17,5 +17,5 @@ returns : tie.Need-returns
 unfolding monthday_range monthday_of tagged via ◌then◌ field
 returns c = c.before.before.put_three.ensures
 
-pub put-months-spec : {M : Type 1} → statement M
-put-months-spec = tie.close (tie.spec put-three-requires (λ c. search rules) returns)
+pub put_months_spec : {M : Type 1} → statement M
+put_months_spec = tie.close (tie.spec put-three-requires (λ c. search rules) returns)

@@ -6,7 +6,7 @@ use Rattle.item_writer.proofs.Items.{days-joined}
 use Rattle.item_writer.proofs.day.put_weekdays.Statement.{statement}
 use Rattle.item_writer.proofs.day.put_weekdays.Tie as tie
 
-put-three-requires : tie.Need-put-three-requires
+put-three-requires : tie.Need-put_three-requires
 put-three-requires c κs =
     let entry = c.before.before.before in
     let args = entry.args in
@@ -25,7 +25,7 @@ returns c =
     let pre = entry.requires.0 in
     wrote_as (days-joined args.start args.end pre.0 pre.1 _ joined.joined.ensures) put_three.put_three.ensures
 
-pub put-weekdays-spec : {M : Type 1} → statement M
-put-weekdays-spec =
+pub put_weekdays_spec : {M : Type 1} → statement M
+put_weekdays_spec =
     tie.close
     (tie.spec (λ c. search rules) (λ c. search rules) (λ c κs. search rules) (λ c. search rules) put-three-requires (λ c. search rules) returns)

@@ -6,7 +6,7 @@ use Rattle.definition.specs.Sheet.{week_range}
 use Rattle.item_writer.proofs.day.put_weeks.Statement.{statement}
 use Rattle.item_writer.proofs.day.put_weeks.Tie as tie
 
-put-three-requires : tie.Need-put-three-requires
+put-three-requires : tie.Need-put_three-requires
 unfolding week_range via ◌then◌ field
 put-three-requires c κs =
     let entry = c.before.before in
@@ -17,5 +17,5 @@ returns : tie.Need-returns
 unfolding week_range via ◌then◌ field
 returns c = c.before.before.put_three.ensures
 
-pub put-weeks-spec : {M : Type 1} → statement M
-put-weeks-spec = tie.close (tie.spec put-three-requires (λ c. search rules) returns)
+pub put_weeks_spec : {M : Type 1} → statement M
+put_weeks_spec = tie.close (tie.spec put-three-requires (λ c. search rules) returns)

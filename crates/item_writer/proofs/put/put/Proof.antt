@@ -5,14 +5,14 @@ use Rattle.definition.proofs.Bits.{length-bits}
 use Rattle.item_writer.proofs.put.put.Statement.{statement}
 use Rattle.item_writer.proofs.put.put.Tie as tie
 
-put-field-requires : tie.Need-put-field-requires
+put-field-requires : tie.Need-put_field-requires
 put-field-requires c κs =
     let args = c.before.before.args in
     let pre = c.before.before.requires in
     let long = length-bits args.width args.value in
     (pre.0.0, omega (arith, pre.1.low), omega (arith, pre.1.inside, long), pre.0.1)
 
-add-result : tie.Need-overflow-add-result
+add-result : tie.Need-overflow_add-result
 add-result c =
     let start = c.before.before.before.before.before in
     let long = length-bits start.args.width start.args.value in
@@ -22,7 +22,7 @@ returns : tie.Need-returns
 returns c =
     let args = c.before.before.before.before.before.args in
     let long = length-bits args.width args.value in
-    record { behind = omega (arith, long); stored = c.before.before.put-field.ensures }
+    record { behind = omega (arith, long); stored = c.before.before.put_field.ensures }
 
 pub put_spec : {M : Type 1} → statement M
 put_spec = tie.close (tie.spec put-field-requires add-result (λ c. search rules) returns)

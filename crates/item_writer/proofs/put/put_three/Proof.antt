@@ -12,7 +12,7 @@ use Rattle.item_writer.proofs.put.put_three.Tie as tie
 joined-requires : tie.Need-joined-requires
 joined-requires c κs = let fits = c.before.before.requires.0 in joinable _ _ _ _ fits.1 fits.2 (omega (arith, fits.3))
 
-put-two-requires : tie.Need-put-two-requires
+put-two-requires : tie.Need-put_two-requires
 put-two-requires c κs =
     let entry = c.before.before.before in
     let args = entry.args in
@@ -32,5 +32,5 @@ returns c =
     wrote_as (ap (bits args.width args.value ++◌) (joined-bits _ _ _ _ fits.1 fits.2 (omega (arith, fits.3)) _ joined.joined.ensures))
     put_two.put_two.ensures
 
-pub put-three-spec : {M : Type 1} → statement M
-put-three-spec = tie.close (tie.spec (λ c. search rules) joined-requires put-two-requires (λ c. search rules) returns)
+pub put_three_spec : {M : Type 1} → statement M
+put_three_spec = tie.close (tie.spec (λ c. search rules) joined-requires put-two-requires (λ c. search rules) returns)

@@ -22,5 +22,5 @@ returns c =
     let fits = joined.before.before.before.requires.0 in
     wrote_as (joined-bits _ _ _ _ fits.0 fits.1 fits.2 _ joined.joined.ensures) put.put.ensures
 
-pub put-two-spec : {M : Type 1} → statement M
-put-two-spec = tie.close (tie.spec (λ c. search rules) joined-requires put-requires (λ c. search rules) returns)
+pub put_two_spec : {M : Type 1} → statement M
+put_two_spec = tie.close (tie.spec (λ c. search rules) joined-requires put-requires (λ c. search rules) returns)

@@ -9,31 +9,31 @@ use Rattle.item_writer.proofs.time.put_repeats.Tie as tie
 put-requires : tie.Need-put-requires
 put-requires c κs =
     let entry = c.before.before.before in
-    ((omega arith, omega arith), room_as (no-repeats entry.args.number c.before.if1.true) entry.requires.1)
+    ((omega arith, omega arith), room_as (no-repeats entry.args.number c.before.if-number-eq0.true) entry.requires.1)
 
-returns : tie.Need-returns
+returns : tie.Need-returns-then-number-eq0
 returns c =
     let put = c.before.before in
     let if1 = put.before.before in
     let entry = if1.before.before in
-    wrote_as (no-repeats entry.args.number if1.if1.true) put.put.ensures
+    wrote_as (no-repeats entry.args.number if1.if-number-eq0.true) put.put.ensures
 
-put-two-requires : tie.Need-put-two-requires
+put-two-requires : tie.Need-put_two-requires
 put-two-requires c κs =
     let entry = c.before.before.before in
-    let some = c.before.if1.false in
+    let some = c.before.if-number-eq0.false in
     let number = entry.args.number in (
       ((omega arith, omega arith), (omega arith, repeats-low number some entry.requires.0), omega arith),
       room_as (repeats-bits number some) entry.requires.1,
     )
 
-returns-2 : tie.Need-returns-2
+returns-2 : tie.Need-returns
 returns-2 c =
     let put_two = c.before.before in
     let if1 = put_two.before.before in
     let entry = if1.before.before in
-    wrote_as (repeats-bits entry.args.number if1.if1.false) put_two.put_two.ensures
+    wrote_as (repeats-bits entry.args.number if1.if-number-eq0.false) put_two.put_two.ensures
 
-pub put-repeats-spec : {M : Type 1} → statement M
-put-repeats-spec =
+pub put_repeats_spec : {M : Type 1} → statement M
+put_repeats_spec =
     tie.close (tie.spec put-requires (λ c. search rules) returns (λ c. search rules) put-two-requires (λ c. search rules) returns-2)

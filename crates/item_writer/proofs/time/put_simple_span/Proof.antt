@@ -7,7 +7,7 @@ use Rattle.item_writer.proofs.Items.{simple-bits}
 use Rattle.item_writer.proofs.time.put_simple_span.Statement.{statement}
 use Rattle.item_writer.proofs.time.put_simple_span.Tie as tie
 
-put-three-requires : tie.Need-put-three-requires
+put-three-requires : tie.Need-put_three-requires
 put-three-requires c κs =
     let start_of_lem = c.before in
     let entry = start_of_lem.before.before.before in
@@ -27,8 +27,8 @@ returns c =
     let entry = start_of_lem.before.before.before in
     wrote_as (simple-bits entry.args.number _ _ start_of_lem.start_of_lem.ensures end_of_lem.end_of_lem.ensures entry.requires.0) put_three.put_three.ensures
 
-pub put-simple-span-spec : {M : Type 1} → statement M
-put-simple-span-spec =
+pub put_simple_span_spec : {M : Type 1} → statement M
+put_simple_span_spec =
     tie.close
     (tie.spec (λ c. search rules) (λ c κs. search rules) (λ c. search rules) (λ c κs. search rules) (λ c. search rules) put-three-requires (λ c. search rules)
     returns)

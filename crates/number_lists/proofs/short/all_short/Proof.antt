@@ -9,14 +9,14 @@ use Rattle.number_lists.specs.Short.{AllShort}
 use Rattle.number_lists.proofs.short.all_short.Statement.{statement}
 use Rattle.number_lists.proofs.short.all_short.Tie as tie
 
-abbrev invariant-loop : tie.invariant-loop
+abbrev invariant-loop : tie.invariant-loop-place
 invariant-loop lists used place₀ place = (place ≤ used) × AllShort lists place
 
-abbrev decreases-loop : tie.decreases-loop
+abbrev decreases-loop : tie.decreases-loop-place
 decreases-loop lists used place₀ place = used - place
 
-pub all-short-spec : {M : Type 1} → statement M
-all-short-spec =
+pub all_short_spec : {M : Type 1} → statement M
+all_short_spec =
     tie.close
     (tie.spec invariant-loop decreases-loop (λ c. (omega arith, λ i l. absurd (omega arith))) (λ c. search rules) (λ c. search rules) (λ c. search rules)
     (λ c e. absurd (true≢false (sym e))) (λ c. search rules) (λ c. search rules)

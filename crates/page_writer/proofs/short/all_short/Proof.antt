@@ -12,10 +12,10 @@ use Rattle.page_writer.proofs.Brief.{Passed, none_passed, next-ready, one-passed
 use Rattle.page_writer.proofs.short.all_short.Statement.{statement}
 use Rattle.page_writer.proofs.short.all_short.Tie as tie
 
-abbrev invariant-loop : tie.invariant-loop
+abbrev invariant-loop : tie.invariant-loop-pages_left
 invariant-loop lists pages count here₀ left₀ here left = Passed lists pages count left here
 
-abbrev decreases-loop : tie.decreases-loop
+abbrev decreases-loop : tie.decreases-loop-pages_left
 decreases-loop lists pages count here₀ left₀ here left = left
 
 -- the page at which the loop is
@@ -33,15 +33,15 @@ named c = ap (◌- 1) c.u16-to-usize.ensures.0
 inside : (c : tie.After-u16-to-usize invariant-loop decreases-loop) → (c.u16-to-usize.result - 1) * list_places + list_places ≤ length (entry c.before.before).args.lists.now
 inside c = omega (arith, named c, (here-ready c.before.before).ready.there)
 
-loop-again : tie.Need-loop-preserved invariant-loop decreases-loop
+loop-again : tie.Need-loop-pages_left-preserved invariant-loop decreases-loop
 loop-again c =
     let cast = c.before.before.before in
     let tested = cast.before.before in
-    one-passed tested.before.loop.invariant tested.loop-test.true
-    (rw (sym (named cast)) (omega (arith, c.before.if1.false))) _ c.page-size.ensures
+    one-passed tested.before.loop-pages_left.invariant tested.loop-pages_left-test.true
+    (rw (sym (named cast)) (omega (arith, c.before.if-lists-place-gt4.false))) _ c.page_size-here.ensures
 
-pub all-short-spec : {M : Type 1} → statement M
-all-short-spec =
+pub all_short_spec : {M : Type 1} → statement M
+all_short_spec =
     tie.close
     (tie.spec invariant-loop decreases-loop (λ c. none_passed _ _ _)
     (λ c. omega (arith, (here-ready c).inside, (entry c).well-formed))

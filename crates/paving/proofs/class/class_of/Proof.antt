@@ -6,8 +6,8 @@ use borrow.Author.Rules.{rules}
 use Rattle.paving.proofs.class.class_of.Statement.{statement}
 use Rattle.paving.proofs.class.class_of.Tie as tie
 
-pub class-of-spec : {M : Type 1} → statement M
-class-of-spec =
+pub class_of_spec : {M : Type 1} → statement M
+class_of_spec =
     tie.close
     (tie.spec
     (λ c κs. search rules) (λ c. search rules)

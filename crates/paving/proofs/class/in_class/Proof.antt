@@ -4,8 +4,8 @@ use Rattle.paving.proofs.Classes.{below-class, from-class}
 use Rattle.paving.proofs.class.in_class.Statement.{statement}
 use Rattle.paving.proofs.class.in_class.Tie as tie
 
-pub in-class-spec : {M : Type 1} → statement M
-in-class-spec =
+pub in_class_spec : {M : Type 1} → statement M
+in_class_spec =
     tie.close
     (tie.spec
     (λ c κs. search rules) (λ c κs. search rules)

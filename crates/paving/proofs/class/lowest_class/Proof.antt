@@ -4,8 +4,8 @@ use Rattle.paving.proofs.Classes.{lowest-first, lowest-third, lowest-last}
 use Rattle.paving.proofs.class.lowest_class.Statement.{statement}
 use Rattle.paving.proofs.class.lowest_class.Tie as tie
 
-pub lowest-class-spec : {M : Type 1} → statement M
-lowest-class-spec =
+pub lowest_class_spec : {M : Type 1} → statement M
+lowest_class_spec =
     tie.close
     (tie.spec
     (λ c. lowest-third _ (omega arith) (omega arith))

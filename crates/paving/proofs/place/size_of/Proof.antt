@@ -8,31 +8,31 @@ use Rattle.paving.proofs.Skipping.{size_none, size-next, size_fits}
 use Rattle.paving.proofs.place.size_of.Statement.{statement}
 use Rattle.paving.proofs.place.size_of.Tie as tie
 
-abbrev invariant-loop : tie.invariant-loop
+abbrev invariant-loop : tie.invariant-loop-dimension
 invariant-loop sizes left size₀ dimension₀ size dimension = (dimension ≤ left) × (size ≡ size_of sizes dimension)
 
-abbrev decreases-loop : tie.decreases-loop
+abbrev decreases-loop : tie.decreases-loop-dimension
 decreases-loop sizes left size₀ dimension₀ size dimension = left - dimension
 
-mul-size : tie.Need-overflow-mul-size invariant-loop decreases-loop
+mul-size : tie.Need-overflow_mul-size invariant-loop decreases-loop
 mul-size c =
     let turn = c.before.before in
     let loop = turn.before in
     let start = loop.before.before in
     let pre = start.requires in
-    omega (arith, size_fits _ _ _ _ _ pre.1 turn.loop-test.true loop.loop.invariant.1 c.u16-to-usize.ensures.0, pre.2)
+    omega (arith, size_fits _ _ _ _ _ pre.1 turn.loop-dimension-test.true loop.loop-dimension.invariant.1 c.u16_to_usize-size.ensures.0, pre.2)
 
-loop-again : tie.Need-loop-preserved invariant-loop decreases-loop
-loop-again c = (omega arith, size-next _ _ _ _ c.before.before.before.loop.invariant.1 c.u16-to-usize.ensures.0)
+loop-again : tie.Need-loop-dimension-preserved invariant-loop decreases-loop
+loop-again c = (omega arith, size-next _ _ _ _ c.before.before.before.loop-dimension.invariant.1 c.u16_to_usize-size.ensures.0)
 
 returns : tie.Need-returns invariant-loop decreases-loop
 returns c =
     let args = c.before.before.before.args in
-    let all : c.before.loop.dimension ≡ args.dims-left = omega arith in
-    c.before.loop.invariant.1 ∙ ap (size_of args.sizes.now) all
+    let all : c.before.loop-dimension.dimension ≡ args.dims-left = omega arith in
+    c.before.loop-dimension.invariant.1 ∙ ap (size_of args.sizes.now) all
 
-pub size-of-spec : {M : Type 1} → statement M
-size-of-spec =
+pub size_of_spec : {M : Type 1} → statement M
+size_of_spec =
     tie.close
     (tie.spec invariant-loop decreases-loop (λ c. (omega arith, size_none _)) (λ c. search rules) (λ c. omega arith) (λ c κs. search rules) mul-size
     (λ c. omega arith) (λ c. omega arith) loop-again returns)

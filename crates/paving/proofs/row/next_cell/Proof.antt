@@ -8,29 +8,29 @@ use Rattle.paving.proofs.Rows.{none-begin, none_more}
 use Rattle.paving.proofs.row.next_cell.Statement.{statement}
 use Rattle.paving.proofs.row.next_cell.Tie as tie
 
-abbrev invariant-loop : tie.invariant-loop
+abbrev invariant-loop : tie.invariant-loop-at
 invariant-loop cells classes class first end at₀ at = (first ≤ at) × (at ≤ end) × NoneFrom cells (in_class classes class) first at
 
-abbrev decreases-loop : tie.decreases-loop
+abbrev decreases-loop : tie.decreases-loop-at
 decreases-loop cells classes class first end at₀ at = end - at
 
-returns : tie.Need-returns invariant-loop decreases-loop
+returns : tie.Need-returns-then-in_class invariant-loop decreases-loop
 returns c =
-    let i = c.before.before.before.before.loop.invariant in
-    (i.0, i.1, i.2, λ h. sym c.before.in-class.ensures ∙ c.if1.true)
+    let i = c.before.before.before.before.loop-at.invariant in
+    (i.0, i.1, i.2, λ h. sym c.before.in_class.ensures ∙ c.if-in_class.true)
 
-loop-again : tie.Need-loop-preserved invariant-loop decreases-loop
+loop-again : tie.Need-loop-at-preserved invariant-loop decreases-loop
 loop-again c =
-    let i = c.before.before.before.before.loop.invariant in
-    (omega (arith, i.0), omega arith, none_more _ _ _ _ _ i.2 c.before.in-class.ensures c.if1.false)
+    let i = c.before.before.before.before.loop-at.invariant in
+    (omega (arith, i.0), omega arith, none_more _ _ _ _ _ i.2 c.before.in_class.ensures c.if-in_class.false)
 
-returns-2 : tie.Need-returns-2 invariant-loop decreases-loop
+returns-2 : tie.Need-returns invariant-loop decreases-loop
 returns-2 c =
-    let i = c.before.loop.invariant in
+    let i = c.before.loop-at.invariant in
     (i.0, i.1, i.2, λ h. absurd (omega arith))
 
-pub next-cell-spec : {M : Type 1} → statement M
-next-cell-spec =
+pub next_cell_spec : {M : Type 1} → statement M
+next_cell_spec =
     tie.close
     (tie.spec invariant-loop decreases-loop (λ c. (omega arith, omega arith, none-begin _ _ _)) (λ c. search rules) (λ c. omega arith) (λ c κs. search rules)
     returns (λ c. omega arith) (λ c. omega arith) loop-again returns-2)

@@ -15,25 +15,25 @@ use Rattle.plain_boxes.proofs.Growing.{grown-begin}
 use Rattle.plain_groups.proofs.group.grow.Statement.{statement}
 use Rattle.plain_groups.proofs.group.grow.Tie as tie
 
-abbrev invariant-loop : tie.invariant-loop
+abbrev invariant-loop : tie.invariant-loop-interval
 invariant-loop cells sizes marks₀ first dimension value width block base interval₀ marks interval =
     (length marks ≡ length marks₀) × (width ≡ get_or sizes dimension 0) × Room (length cells) (length marks) sizes (suc dimension) block base
     × (paint (good_at cells sizes dimension block marks base value) base interval (width - interval) marks ≡ grown cells sizes first dimension marks₀)
 
-abbrev decreases-loop : tie.decreases-loop
+abbrev decreases-loop : tie.decreases-loop-interval
 decreases-loop cells sizes marks₀ first dimension value width block base interval₀ marks interval = width - interval
 
-shared-slice-read-value : tie.Need-shared-slice-read-value invariant-loop decreases-loop
+shared-slice-read-value : tie.Need-bounds-cells-first invariant-loop decreases-loop
 shared-slice-read-value c =
     let start = c.before.before.before.before in
     omega (arith, room-size _ _ _ _ _ _ start.requires.0, start.requires.1.0)
 
-shared-slice-read-u16-to-usize : tie.Need-shared-slice-read-u16-to-usize invariant-loop decreases-loop
+shared-slice-read-u16-to-usize : tie.Need-bounds-sizes-dimension invariant-loop decreases-loop
 shared-slice-read-u16-to-usize c =
     let start = c.before.before.before.before.before in
     omega (arith, start.requires.0.column.dims, start.requires.1.1)
 
-size-of-requires : tie.Need-size-of-requires invariant-loop decreases-loop
+size-of-requires : tie.Need-size_of-requires invariant-loop decreases-loop
 size-of-requires c κs =
     let start = c.before.before.before.before.before.before in
     let room = start.requires.0 in
@@ -43,13 +43,13 @@ size-of-requires c κs =
       omega (arith, size-le start.args.sizes.now (start.args.dimension + 1) 4 room.column.filled (omega (arith, low)), room-size _ _ _ _ _ _ room, start.well-formed),
     )
 
-div-block : tie.Need-nonzero-div-block invariant-loop decreases-loop
+div-block : tie.Need-nonzero_div-block invariant-loop decreases-loop
 div-block c =
     let start = c.before.before.before.before.before.before.before in
     let some = size-pos start.args.sizes.now (start.args.dimension + 1) (λ k lt. start.requires.0.column.filled k (omega (arith, start.requires.1.1))) in
     omega (arith, some, c.type_size.ensures)
 
-width-of-requires-2 : tie.Need-width-of-requires-2 invariant-loop decreases-loop
+width-of-requires-2 : tie.Need-width_of-requires-2 invariant-loop decreases-loop
 width-of-requires-2 c κs =
     let start = c.before.before.before.before.before.before.before.before in
     let room = start.requires.0 in
@@ -57,50 +57,50 @@ width-of-requires-2 c κs =
     let all = width-le start.args.sizes.now (start.args.dimension + 1) 4 (omega (arith, low)) in
     (omega (arith, room.column.dims, low), omega (arith, all, room.marked, start.well-formed))
 
-sub-base : tie.Need-overflow-sub-base invariant-loop decreases-loop
+sub-base : tie.Need-overflow_sub-base invariant-loop decreases-loop
 sub-base c =
     let start = c.before.before.before.before.before.before.before.before.before in
     let all = width-le start.args.sizes.now (start.args.dimension + 1) 4 (omega (arith, start.requires.1.1)) in
-    omega (arith, all, c.before.width_of_lem.ensures, c.width-of2.ensures)
+    omega (arith, all, c.before.width_of_lem.ensures, c.width_of-2.ensures)
 
-loop-holds : tie.Need-loop-init invariant-loop decreases-loop
+loop-holds : tie.Need-loop-interval-init invariant-loop decreases-loop
 loop-holds c =
     let sized = c.before.before in
-    let width = sized.before.u16-to-usize.ensures.0 in
+    let width = sized.before.u16_to_usize-width.ensures.0 in
     let pre = sized.before.before.before.before.before.before.before.requires in
-    let begin = grown-begin _ _ _ _ _ _ _ _ _ pre.1.1 pre.1.0 width sized.type_size.ensures c.before.width_of_lem.ensures c.width-of2.ensures pre.0 in
+    let begin = grown-begin _ _ _ _ _ _ _ _ _ pre.1.1 pre.1.0 width sized.type_size.ensures c.before.width_of_lem.ensures c.width_of-2.ensures pre.0 in
     (refl, width, begin.0, begin.1)
 
-add-is-good : tie.Need-overflow-add-is-good invariant-loop decreases-loop
+add-is-good : tie.Need-overflow_add-block invariant-loop decreases-loop
 add-is-good c =
     let loop = c.before.before in
     let start = loop.before.before.before.before.before.before.before.before.before.before in
     let inv = loop.loop.invariant in
     omega (arith, room-node _ _ _ _ _ _ (room-child _ _ _ _ _ _ _ _ inv.1 c.before.loop-test.true inv.2), start.well-formed)
 
-add-is-good-2 : tie.Need-overflow-add-is-good-2 invariant-loop decreases-loop
+add-is-good-2 : tie.Need-overflow_add-base invariant-loop decreases-loop
 add-is-good-2 c =
     let loop = c.before.before in
     let start = loop.before.before.before.before.before.before.before.before.before.before in
     let inv = loop.loop.invariant in
     omega (arith, room-marks _ _ _ _ _ _ _ inv.1 inv.2, inv.0, start.well-formed)
 
-add-marks : tie.Need-overflow-add-marks invariant-loop decreases-loop
+add-marks : tie.Need-overflow_add-marks invariant-loop decreases-loop
 add-marks c = omega (arith, add-is-good-2 c.before.before, c.before.before.before.loop-test.true)
 
-slice-write-marks : tie.Need-slice-write-marks invariant-loop decreases-loop
+slice-write-marks : tie.Need-bounds-marks-base invariant-loop decreases-loop
 slice-write-marks c =
     let inv = c.before.before.before.before.loop.invariant in
     omega (arith, room-marks _ _ _ _ _ _ _ inv.1 inv.2, c.before.before.before.loop-test.true)
 
-loop-again : tie.Need-loop-preserved invariant-loop decreases-loop
+loop-again : tie.Need-loop-interval-preserved invariant-loop decreases-loop
 loop-again c =
     let loop = c.before.before.before.before in
     let inv = loop.loop.invariant in (
       simp length-set inv.0,
       inv.1,
       simp length-set inv.2,
-      grow-in _ _ _ _ _ _ _ _ inv.1 _ _ _ (omega (arith, c.before.before.before.loop-test.true)) c.before.is-good.ensures c.bit.ensures ∙ inv.3,
+      grow-in _ _ _ _ _ _ _ _ inv.1 _ _ _ (omega (arith, c.before.before.before.loop-test.true)) c.before.is_good-good.ensures c.bit.ensures ∙ inv.3,
     )
 
 pub grow_spec : {M : Type 1} → statement M

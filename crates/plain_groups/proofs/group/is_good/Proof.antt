@@ -10,75 +10,75 @@ use Rattle.plain_groups.proofs.Good.{MarkedAre, are-begin, are-more, block-fits,
 use Rattle.plain_groups.proofs.group.is_good.Statement.{statement}
 use Rattle.plain_groups.proofs.group.is_good.Tie as tie
 
-abbrev invariant-loop : tie.invariant-loop
+abbrev invariant-loop : tie.invariant-loop-box_index
 invariant-loop cells sizes marks value left block base size box₀ end box =
     (block * size ≤ box) × (box ≤ block * size + size) × MarkedAre cells sizes marks value left base (block * size) box
 
-abbrev decreases-loop : tie.decreases-loop
+abbrev decreases-loop : tie.decreases-loop-box_index
 decreases-loop cells sizes marks value left block base size box₀ end box = end - box
 
-size-of-requires : tie.Need-size-of-requires invariant-loop decreases-loop
+size-of-requires : tie.Need-size_of-size-requires invariant-loop decreases-loop
 size-of-requires c κs =
     let start = c.before.before.before in
     let room = start.requires in
     (room.column.dims, room.column.filled, omega (arith, room-size _ _ _ _ _ _ room, start.well-formed))
 
-add-end : tie.Need-overflow-add-end invariant-loop decreases-loop
+add-end : tie.Need-overflow_add-end invariant-loop decreases-loop
 add-end c =
     let start = c.before.before.before.before in
     let a = start.args in
     omega (arith, block-fits (length a.cells.now) a.sizes.now a.dims-left a.block c.type_size.result c.type_size.ensures start.requires.column, start.well-formed)
 
-mul-if1 : tie.Need-overflow-mul-if1 invariant-loop decreases-loop
+mul-if1 : tie.Need-offset_bounds-cells-box_index invariant-loop decreases-loop
 mul-if1 c =
     let sized = c.before.before in
     let start = sized.before.before.before.before in
     let a = start.args in
     let fits = block-fits (length a.cells.now) a.sizes.now a.dims-left a.block sized.type_size.result sized.type_size.ensures start.requires.column in
-    omega (arith, fits, c.loop-test.true, start.well-formed)
+    omega (arith, fits, c.loop-box_index-test.true, start.well-formed)
 
-shared-slice-read-if1 : tie.Need-shared-slice-read-if1 invariant-loop decreases-loop
+shared-slice-read-if1 : tie.Need-bounds-cells-box_index invariant-loop decreases-loop
 shared-slice-read-if1 c =
     let sized = c.before.before.before in
     let start = sized.before.before.before.before in
     let a = start.args in
     let fits = block-fits (length a.cells.now) a.sizes.now a.dims-left a.block sized.type_size.result sized.type_size.ensures start.requires.column in
-    omega (arith, fits, c.before.loop-test.true)
+    omega (arith, fits, c.before.loop-box_index-test.true)
 
-is-marked-requires : tie.Need-is-marked-requires invariant-loop decreases-loop
+is-marked-requires : tie.Need-is_marked-requires invariant-loop decreases-loop
 is-marked-requires c κs =
     let start = c.before.before.before.before.before.before.before.before in
     let room = start.requires in
     ((room.column.dims, room.column.filled, omega (arith, room-size _ _ _ _ _ _ room, start.well-formed)), room.marked)
 
-returns : tie.Need-returns invariant-loop decreases-loop
+returns : tie.Need-returns-then-is_marked invariant-loop decreases-loop
 returns c =
     let loop = c.before.before.before.before.before in
     let sized = loop.before in
     let start = sized.before.before.before.before in
-    good-no _ _ _ _ _ _ start.requires.column.filled _ _ sized.type_size.ensures _ _ loop.loop.invariant.0 (omega (arith, c.before.before.before.before.loop-test.true))
-    c.before.is-marked.ensures c.if2.true c.before.before.if1.true
+    good-no _ _ _ _ _ _ start.requires.column.filled _ _ sized.type_size.ensures _ _ loop.loop-box_index.invariant.0 (omega (arith, c.before.before.before.before.loop-box_index-test.true))
+    c.before.is_marked.ensures c.if-is_marked.true c.before.before.if-cells-box_index.true
 
-loop-again : tie.Need-loop-preserved invariant-loop decreases-loop
+loop-again : tie.Need-loop-box_index-preserved invariant-loop decreases-loop
 loop-again c =
     let loop = c.before.before.before in
-    let inv = loop.loop.invariant in
-    let on = c.before.before.loop-test.true in (
+    let inv = loop.loop-box_index.invariant in
+    let on = c.before.before.loop-box_index-test.true in (
       omega (arith, inv.0),
       omega (arith, on),
       are-more _ _ _ _ _ _ _ _ inv.2
-          (⊎_elim (λ w m. absurd (false≢true (sym w.2.left ∙ w.1.ensures ∙ m))) (λ w m. w.left) c.if1.branch),
+          (⊎_elim (λ w m. absurd (false≢true (sym w.2.left ∙ w.1.ensures ∙ m))) (λ w m. w.left) c.if-cells-box_index.branch),
     )
 
-returns-2 : tie.Need-returns-2 invariant-loop decreases-loop
+returns-2 : tie.Need-returns invariant-loop decreases-loop
 returns-2 c =
     let loop = c.before in
     let sized = loop.before in
     let start = sized.before.before.before.before in
-    good-end _ _ _ _ _ _ start.requires.column.filled _ _ sized.type_size.ensures _ (omega (arith, c.loop-test.false)) loop.loop.invariant.2
+    good-end _ _ _ _ _ _ start.requires.column.filled _ _ sized.type_size.ensures _ (omega (arith, c.loop-box_index-test.false)) loop.loop-box_index.invariant.2
 
-pub is-good-spec : {M : Type 1} → statement M
-is-good-spec =
+pub is_good_spec : {M : Type 1} → statement M
+is_good_spec =
     tie.close
     (tie.spec invariant-loop decreases-loop size-of-requires (λ c. omega (arith, add-end c)) add-end (λ c. (omega arith, omega arith, are-begin _ _ _ _ _ _ _))
     mul-if1 shared-slice-read-if1 is-marked-requires returns (λ c. omega (arith, add-end c.before.before.before.before, c.before.before.loop-test.true))

@@ -11,9 +11,9 @@ returns c =
     let months = weeks.before.before.before.before in
     let years = months.before.before.before.before in
     let pre = years.before.before.before.before.before.requires in
-    group-all _ _ _ _ _ _ _ _ _ pre.1 pre.0 years.grow.ensures months.grow2.ensures weeks.grow3.ensures weekdays.grow4.ensures
+    group-all _ _ _ _ _ _ _ _ _ pre.1 pre.0 years.grow.ensures months.grow-2.ensures weeks.grow-3.ensures weekdays.grow-4.ensures
 
-pub mark-group-spec : {M : Type 1} → statement M
-mark-group-spec =
+pub mark_group_spec : {M : Type 1} → statement M
+mark_group_spec =
     tie.close
     (tie.spec (λ c κs. search rules) (λ c κs. search rules) (λ c κs. search rules) (λ c κs. search rules) (λ c. search rules) returns)

@@ -10,10 +10,10 @@ use Rattle.plain_lists.proofs.Counting.{have-first, kinds-none, many-kinds, few-
 use Rattle.plain_lists.proofs.count.counts_over.Statement.{statement}
 use Rattle.plain_lists.proofs.count.counts_over.Tie as tie
 
-abbrev invariant-loop : tie.invariant-loop
+abbrev invariant-loop : tie.invariant-loop-box_index
 invariant-loop lists kinds₀ boxes count₀ box₀ kinds count box = (box ≤ boxes) × (length kinds ≡ length kinds₀) × (count ≤ 512) × Kinds lists kinds count box
 
-abbrev decreases-loop : tie.decreases-loop
+abbrev decreases-loop : tie.decreases-loop-box_index
 decreases-loop lists kinds₀ boxes count₀ box₀ kinds count box = boxes - box
 
 -- from where the kinds are counted back to where a box was noted, to the loop's turn, and to where the function begins
@@ -26,8 +26,8 @@ turn c = c.before.before
 abbrev start : tie.In-loop invariant-loop decreases-loop → tie.Start invariant-loop decreases-loop
 start c = c.before.before.before.before
 
-pub counts-over-spec : {M : Type 1} → statement M
-counts-over-spec =
+pub counts_over_spec : {M : Type 1} → statement M
+counts_over_spec =
     tie.close
     (tie.spec
     invariant-loop decreases-loop

@@ -14,10 +14,10 @@ use Rattle.plain_lists.specs.Draw.{HasList}
 use Rattle.plain_lists.proofs.count.is_known.Statement.{statement}
 use Rattle.plain_lists.proofs.count.is_known.Tie as tie
 
-abbrev invariant-loop : tie.invariant-loop
+abbrev invariant-loop : tie.invariant-loop-kind
 invariant-loop lists kinds count box kind₀ kind = (kind ≤ count) × ((k : ℕ) → k < kind → same_list eqb (list_of lists (get_or kinds k 0)) (list_of lists box) ≡ false)
 
-abbrev decreases-loop : tie.decreases-loop
+abbrev decreases-loop : tie.decreases-loop-kind
 decreases-loop lists kinds count box kind₀ kind = count - kind
 
 -- from where a kind's list was compared back to the loop's turn
@@ -33,8 +33,8 @@ compared c =
     let a = (start (turn c)).args in
     c.same-list.ensures ∙ ap (λ n. same_list eqb (list_of a.lists.now n) (list_of a.lists.now a.box-index)) c.before.u16-to-usize.ensures.0
 
-pub is-known-spec : {M : Type 1} → statement M
-is-known-spec =
+pub is_known_spec : {M : Type 1} → statement M
+is_known_spec =
     tie.close
     (tie.spec
     invariant-loop decreases-loop

@@ -12,8 +12,8 @@ filled c = c.before.before
 abbrev start : tie.Else1 → tie.Start
 start c = c.before.before.before.before
 
-pub note-spec : {M : Type 1} → statement M
-note-spec =
+pub note_spec : {M : Type 1} → statement M
+note_spec =
     tie.close
     (tie.spec
     (λ c. search rules)

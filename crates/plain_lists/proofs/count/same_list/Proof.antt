@@ -7,14 +7,14 @@ use Rattle.plain_lists.proofs.Same.{Alike, alike_next, same-no, same-yes}
 use Rattle.plain_lists.proofs.count.same_list.Statement.{statement}
 use Rattle.plain_lists.proofs.count.same_list.Tie as tie
 
-abbrev invariant-loop : tie.invariant-loop
+abbrev invariant-loop : tie.invariant-loop-place
 invariant-loop lists first second one other end place₀ place = (place ≤ end) × (end ≤ 33) × Alike lists first second place
 
-abbrev decreases-loop : tie.decreases-loop
+abbrev decreases-loop : tie.decreases-loop-place
 decreases-loop lists first second one other end place₀ place = end - place
 
-pub same-list-spec : {M : Type 1} → statement M
-same-list-spec =
+pub same_list_spec : {M : Type 1} → statement M
+same_list_spec =
     tie.close
     (tie.spec
     invariant-loop decreases-loop

@@ -9,8 +9,8 @@ use Rattle.plain_lists.proofs.Counting.{few-lists}
 use Rattle.plain_lists.proofs.count.too_many.Statement.{statement}
 use Rattle.plain_lists.proofs.count.too_many.Tie as tie
 
-pub too-many-spec : {M : Type 1} → statement M
-too-many-spec =
+pub too_many_spec : {M : Type 1} → statement M
+too_many_spec =
     tie.close
     (tie.spec
     (λ c κs. search rules)

@@ -9,10 +9,10 @@ use Rattle.plain_lists.proofs.Covering.{Held, covers-next, covers-no, covers-yes
 use Rattle.plain_lists.proofs.cover.covers.Statement.{statement}
 use Rattle.plain_lists.proofs.cover.covers.Tie as tie
 
-abbrev invariant-loop : tie.invariant-loop
+abbrev invariant-loop : tie.invariant-loop-dimension
 invariant-loop rows sizes cuts counts ranges rule box dimension₀ dimension = (dimension ≤ 4) × Held rows sizes cuts counts ranges rule box dimension
 
-abbrev decreases-loop : tie.decreases-loop
+abbrev decreases-loop : tie.decreases-loop-dimension
 decreases-loop rows sizes cuts counts ranges rule box dimension₀ dimension = 4 - dimension
 
 -- from the loop's turn back to where the function begins; and to the turn from where the box's interval, and the answer about it, are known
@@ -35,8 +35,8 @@ inside c =
     let low = digit_low (start test).args.sizes.now (start test).args.box-index dimension (pre.filled dimension here) in
     omega (arith, pre.inside dimension here, low, c.digit.ensures, c.before.u16-to-usize.ensures.0)
 
-pub covers-spec : {M : Type 1} → statement M
-covers-spec =
+pub covers_spec : {M : Type 1} → statement M
+covers_spec =
     tie.close
     (tie.spec
     invariant-loop decreases-loop

@@ -5,8 +5,8 @@ use Rattle.plain_lists.proofs.Covering.{held-told}
 use Rattle.plain_lists.proofs.cover.holds_in.Statement.{statement}
 use Rattle.plain_lists.proofs.cover.holds_in.Tie as tie
 
-pub holds-in-spec : {M : Type 1} → statement M
-holds-in-spec =
+pub holds_in_spec : {M : Type 1} → statement M
+holds_in_spec =
     tie.close
     (tie.spec
     (λ c. search rules) (λ c. search rules) (λ c. search rules) (λ c. search rules) (λ c κs. search rules) (λ c. search rules) (λ c. search rules) (λ c. search rules)

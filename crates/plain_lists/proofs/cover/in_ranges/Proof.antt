@@ -6,14 +6,14 @@ use Rattle.plain_lists.proofs.Covering.{Passed, in-yes, in-next, in-no}
 use Rattle.plain_lists.proofs.cover.in_ranges.Statement.{statement}
 use Rattle.plain_lists.proofs.cover.in_ranges.Tie as tie
 
-abbrev invariant-loop : tie.invariant-loop
+abbrev invariant-loop : tie.invariant-loop-range
 invariant-loop ranges first count value range₀ range = (range ≤ count) × Passed ranges first value range
 
-abbrev decreases-loop : tie.decreases-loop
+abbrev decreases-loop : tie.decreases-loop-range
 decreases-loop ranges first count value range₀ range = count - range
 
-pub in-ranges-spec : {M : Type 1} → statement M
-in-ranges-spec =
+pub in_ranges_spec : {M : Type 1} → statement M
+in_ranges_spec =
     tie.close
     (tie.spec
     invariant-loop decreases-loop

@@ -10,12 +10,12 @@ use Rattle.point_state.proofs.Columns.{Marked, marked_more, kinds-none, kinds-li
 use Rattle.point_state.proofs.few.count_kinds.Statement.{statement}
 use Rattle.point_state.proofs.few.count_kinds.Tie as tie
 
-abbrev invariant-loop : tie.invariant-loop
+abbrev invariant-loop : tie.invariant-loop-column
 invariant-loop marks₀ row-starts cuts range-counts ranges rules dimension size first kinds₀ column₀ marks kinds column =
     (column ≤ size) × (kinds ≤ column) × (length marks ≡ length marks₀) × Marked range-counts ranges rules row-starts cuts dimension marks column
     × Kinds range-counts ranges rules row-starts cuts dimension column kinds
 
-abbrev decreases-loop : tie.decreases-loop
+abbrev decreases-loop : tie.decreases-loop-column
 decreases-loop marks₀ row-starts cuts range-counts ranges rules dimension size first kinds₀ column₀ marks kinds column = size - column
 
 -- from the loop's turn back to where the row's first place is known, and to where the function begins
@@ -44,8 +44,8 @@ marks-put c =
     let inv = turn.before.loop.inv in
     marked_more _ _ _ _ _ _ turn.before.loop.marks turn.before.loop.column _ _ row.u16-to-usize.ensures.0 c.marks-of.ensures (omega (arith, turn.loop-test.taken, inv.2, (start row).pre.1.2)) inv.3
 
-pub count-kinds-spec : {M : Type 1} → statement M
-count-kinds-spec =
+pub count_kinds_spec : {M : Type 1} → statement M
+count_kinds_spec =
     tie.close
     (tie.spec
     invariant-loop decreases-loop

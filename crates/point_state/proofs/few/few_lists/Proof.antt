@@ -51,8 +51,8 @@ products : (c : tie.After-kinds-in4) → let a = (years c).kinds-in.result in le
     (b * a < 2 ^ 64) × (d * (b * a) < 2 ^ 64) × (c.kinds-in4.result * (d * (b * a)) < 2 ^ 64)
 products c = four_products _ _ _ _ (years c).kinds-in.ensures.0 (months c).kinds-in2.ensures.0 (weeks c).kinds-in3.ensures.0 c.kinds-in4.ensures.0
 
-pub few-lists-spec : {M : Type 1} → statement M
-few-lists-spec =
+pub few_lists_spec : {M : Type 1} → statement M
+few_lists_spec =
     tie.close
     (tie.spec
     (λ c. λ e. absurd (true≢false (sym e)))

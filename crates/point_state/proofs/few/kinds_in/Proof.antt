@@ -5,8 +5,8 @@ use Rattle.point_state.proofs.Columns.{kinds-all, kinds-passed}
 use Rattle.point_state.proofs.few.kinds_in.Statement.{statement}
 use Rattle.point_state.proofs.few.kinds_in.Tie as tie
 
-pub kinds-in-spec : {M : Type 1} → statement M
-kinds-in-spec =
+pub kinds_in_spec : {M : Type 1} → statement M
+kinds_in_spec =
     tie.close
     (tie.spec
     (λ c. search rules) (λ c. search rules) (λ c κs. search rules)

@@ -8,10 +8,10 @@ use Rattle.point_state.proofs.Columns.{marks-start, marks-more, marks-fit}
 use Rattle.point_state.proofs.few.marks_of.Statement.{statement}
 use Rattle.point_state.proofs.few.marks_of.Tie as tie
 
-abbrev invariant-loop : tie.invariant-loop
+abbrev invariant-loop : tie.invariant-loop-rule
 invariant-loop range-counts ranges rules dimension value marks₀ rule₀ marks rule = (rule ≤ rules) × (marks ≡ marks_of range-counts ranges rule dimension value)
 
-abbrev decreases-loop : tie.decreases-loop
+abbrev decreases-loop : tie.decreases-loop-rule
 decreases-loop range-counts ranges rules dimension value marks₀ rule₀ marks rule = rules - rule
 
 -- from the loop's turn back to where the function begins
@@ -28,8 +28,8 @@ fits c =
       marks-fit a.range-counts.now a.ranges.now a.dimension c.before.loop.rule a.value (omega (arith, c.loop-test.true, (start c).requires.2)),
     )
 
-pub marks-of-spec : {M : Type 1} → statement M
-marks-of-spec =
+pub marks_of_spec : {M : Type 1} → statement M
+marks_of_spec =
     tie.close
     (tie.spec
     invariant-loop decreases-loop

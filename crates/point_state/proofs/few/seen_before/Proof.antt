@@ -7,14 +7,14 @@ use borrow.Author.Rules.{rules}
 use Rattle.point_state.proofs.few.seen_before.Statement.{statement}
 use Rattle.point_state.proofs.few.seen_before.Tie as tie
 
-abbrev invariant-loop : tie.invariant-loop
+abbrev invariant-loop : tie.invariant-loop-earlier
 invariant-loop marks column earlier₀ earlier = earlier ≤ column
 
-abbrev decreases-loop : tie.decreases-loop
+abbrev decreases-loop : tie.decreases-loop-earlier
 decreases-loop marks column earlier₀ earlier = column - earlier
 
-pub seen-before-spec : {M : Type 1} → statement M
-seen-before-spec =
+pub seen_before_spec : {M : Type 1} → statement M
+seen_before_spec =
     tie.close
     (tie.spec
     invariant-loop decreases-loop

@@ -10,7 +10,7 @@ use Rattle.rule_writer.proofs.Items.{title-bits}
 use Rattle.rule_writer.proofs.head.put_title.Statement.{statement}
 use Rattle.rule_writer.proofs.head.put_title.Tie as tie
 
-put-three-requires : tie.Need-put-three-requires
+put-three-requires : tie.Need-put_three-requires
 put-three-requires c κs =
     let width = c.before in
     let kinded = width.before in
@@ -18,15 +18,15 @@ put-three-requires c κs =
     let args = entry.args in
     let pre = entry.requires in
     let state = args.state in
-    let kind = kinded.u8-to-u64.ensures.0 ∙ kinded.before.kind-of.ensures in
-    let low : (state_coded state).comment < 2 ^ width.comment-width.result = rw width.comment-width.ensures.0 pre.0.1 in (
+    let kind = kinded.u8_to_u64.ensures.0 ∙ kinded.before.kind_of.ensures in
+    let low : (state_coded state).comment < 2 ^ width.comment_width.result = rw width.comment_width.ensures.0 pre.0.1 in (
       (
         (omega arith, omega (arith, pre.0)),
         (omega arith, omega (arith, kind, kind-number state)),
-        (omega (arith, width.comment-width.ensures.1), omega (arith, c.comment-of.ensures, low)),
-        omega (arith, width.comment-width.ensures.1),
+        (omega (arith, width.comment_width.ensures.1), omega (arith, c.comment_of.ensures, low)),
+        omega (arith, width.comment_width.ensures.1),
       ),
-      room_as (title-bits _ args.operator state _ _ _ pre.0.0 kind c.comment-of.ensures width.comment-width.ensures.0) pre.1,
+      room_as (title-bits _ args.operator state _ _ _ pre.0.0 kind c.comment_of.ensures width.comment_width.ensures.0) pre.1,
     )
 
 returns : tie.Need-returns
@@ -37,12 +37,12 @@ returns c =
     let kinded = width.before in
     let entry = kinded.before.before.before.before in
     let args = entry.args in
-    let kind = kinded.u8-to-u64.ensures.0 ∙ kinded.before.kind-of.ensures in
+    let kind = kinded.u8_to_u64.ensures.0 ∙ kinded.before.kind_of.ensures in
     wrote_as
-    (title-bits _ args.operator args.state _ _ _ entry.requires.0.0 kind comment-of.comment-of.ensures width.comment-width.ensures.0)
+    (title-bits _ args.operator args.state _ _ _ entry.requires.0.0 kind comment-of.comment_of.ensures width.comment_width.ensures.0)
     put_three.put_three.ensures
 
-pub put-title-spec : {M : Type 1} → statement M
-put-title-spec =
+pub put_title_spec : {M : Type 1} → statement M
+put_title_spec =
     tie.close
     (tie.spec (λ c κs. search rules) (λ c κs. search rules) (λ c κs. search rules) (λ c κs. search rules) put-three-requires (λ c. search rules) returns)

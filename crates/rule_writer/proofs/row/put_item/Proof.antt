@@ -6,7 +6,7 @@ use Rattle.rule_writer.proofs.Items.{as-years, as-months, as-weeks, as-weekdays}
 use Rattle.rule_writer.proofs.row.put_item.Statement.{statement}
 use Rattle.rule_writer.proofs.row.put_item.Tie as tie
 
-put-years-requires : tie.Need-put-years-requires
+put-years-requires : tie.Need-put_years-requires
 put-years-requires c κs =
     let entry = c.before.before.before in
     let args = entry.args in
@@ -14,7 +14,7 @@ put-years-requires c κs =
     let same = as-years args.sort (args.start, args.end) (omega arith) in
     ((omega (arith, same.1, pre.0), omega (arith, same.1, pre.0)), room_as same.0 pre.1)
 
-put-months-requires : tie.Need-put-months-requires
+put-months-requires : tie.Need-put_months-requires
 put-months-requires c κs =
     let entry = c.before.before.before in
     let args = entry.args in
@@ -22,7 +22,7 @@ put-months-requires c κs =
     let same = as-months args.sort (args.start, args.end) (omega arith) in
     ((omega (arith, same.1, pre.0), omega (arith, same.1, pre.0)), room_as same.0 pre.1)
 
-put-weeks-requires : tie.Need-put-weeks-requires
+put-weeks-requires : tie.Need-put_weeks-requires
 put-weeks-requires c κs =
     let entry = c.before.before.before in
     let args = entry.args in
@@ -30,7 +30,7 @@ put-weeks-requires c κs =
     let same = as-weeks args.sort (args.start, args.end) (omega arith) in
     ((omega (arith, same.1, pre.0), omega (arith, same.1, pre.0)), room_as same.0 pre.1)
 
-put-weekdays-requires : tie.Need-put-weekdays-requires
+put-weekdays-requires : tie.Need-put_weekdays-requires
 put-weekdays-requires c κs =
     let entry = c.before.before.before in
     let args = entry.args in
@@ -38,36 +38,36 @@ put-weekdays-requires c κs =
     let same = as-weekdays args.sort (args.start, args.end) (omega arith) in
     ((omega (arith, same.1, pre.0), omega (arith, same.1, pre.0)), room_as same.0 pre.1)
 
-returns : tie.Need-returns
+returns : tie.Need-returns-in-0
 returns c =
     let put-years = c.before.before in
     let entry = put-years.before.before.before.before in
     let args = entry.args in
-    wrote_as (as-years args.sort (args.start, args.end) (omega arith)).0 put-years.put-years.ensures
+    wrote_as (as-years args.sort (args.start, args.end) (omega arith)).0 put-years.put_years.ensures
 
-returns-2 : tie.Need-returns-2
+returns-2 : tie.Need-returns-in-1
 returns-2 c =
     let put-months = c.before.before in
     let entry = put-months.before.before.before.before in
     let args = entry.args in
-    wrote_as (as-months args.sort (args.start, args.end) (omega arith)).0 put-months.put-months.ensures
+    wrote_as (as-months args.sort (args.start, args.end) (omega arith)).0 put-months.put_months.ensures
 
-returns-3 : tie.Need-returns-3
+returns-3 : tie.Need-returns-in-2
 returns-3 c =
     let put-weeks = c.before.before in
     let entry = put-weeks.before.before.before.before in
     let args = entry.args in
-    wrote_as (as-weeks args.sort (args.start, args.end) (omega arith)).0 put-weeks.put-weeks.ensures
+    wrote_as (as-weeks args.sort (args.start, args.end) (omega arith)).0 put-weeks.put_weeks.ensures
 
-returns-4 : tie.Need-returns-4
+returns-4 : tie.Need-returns-in_default
 returns-4 c =
     let put-weekdays = c.before.before in
     let entry = put-weekdays.before.before.before.before in
     let args = entry.args in
-    wrote_as (as-weekdays args.sort (args.start, args.end) (omega arith)).0 put-weekdays.put-weekdays.ensures
+    wrote_as (as-weekdays args.sort (args.start, args.end) (omega arith)).0 put-weekdays.put_weekdays.ensures
 
-pub put-item-spec : {M : Type 1} → statement M
-put-item-spec =
+pub put_item_spec : {M : Type 1} → statement M
+put_item_spec =
     tie.close
     (tie.spec put-years-requires put-months-requires put-weeks-requires put-weekdays-requires (λ c. search rules) returns (λ c. search rules)
     returns-2 (λ c. search rules) returns-3 (λ c. search rules) returns-4)

@@ -11,28 +11,28 @@ use Rattle.rule_writer.proofs.Rows.{row_at, rows_none, rows_more, place-next, ro
 use Rattle.rule_writer.proofs.row.put_rows.Statement.{statement}
 use Rattle.rule_writer.proofs.row.put_rows.Tie as tie
 
-abbrev invariant-loop : tie.invariant-loop
+abbrev invariant-loop : tie.invariant-loop-sort
 invariant-loop out₀ at ends item-counts next₀ place₀ sort₀ out next place sort =
     (sort ≤ 4) × (place ≡ row_place item-counts sort) × Still out₀ at (rows_bits ends item-counts 0) out next (rows_bits ends item-counts sort)
 
-abbrev decreases-loop : tie.decreases-loop
+abbrev decreases-loop : tie.decreases-loop-sort
 decreases-loop out₀ at ends item-counts next₀ place₀ sort₀ out next place sort = 4 - sort
 
-loop-holds : tie.Need-loop-init invariant-loop decreases-loop
+loop-holds : tie.Need-loop-sort-init invariant-loop decreases-loop
 unfolding row_place
 loop-holds c = (omega arith, refl, still-all c.before.before.before.requires.1)
 
-put-row-requires : tie.Need-put-row-requires invariant-loop decreases-loop
+put-row-requires : tie.Need-put_row-next-requires invariant-loop decreases-loop
 put-row-requires c κs =
     let cast = c.before in
     let tested = cast.before.before in
-    let loop = tested.before.loop in
+    let loop = tested.before.loop-sort in
     let entry = tested.before.before.before.before.before in
     let ends = entry.args.ends.now in
     let counts = entry.args.item-counts.now in
     let rows = entry.requires.0 in
-    let low : loop.sort < 4 = omega (arith, tested.loop-test) in
-    let many = cast.u16-to-usize.ensures.0 in (
+    let low : loop.sort < 4 = omega (arith, tested.loop-sort-test) in
+    let many = cast.u16_to_usize-item_count.ensures.0 in (
       omega (arith, row_inside ends counts loop.sort low rows.inside, many, loop.invariant.1),
       (
         subst (All (Below (upper_of loop.sort))) (row_at _ _ _ _ _ many loop.invariant.1) (rows.lawful loop.sort low),
@@ -40,42 +40,42 @@ put-row-requires c κs =
       ),
     )
 
-loop-again : tie.Need-loop-preserved invariant-loop decreases-loop
+loop-again : tie.Need-loop-sort-preserved invariant-loop decreases-loop
 loop-again c =
     let put-row = c.before.before in
     let cast = put-row.before.before in
     let tested = cast.before.before in
-    let loop = tested.before.loop in
+    let loop = tested.before.loop-sort in
     let entry = tested.before.before.before.before.before in
     let counts = entry.args.item-counts.now in
-    let low : loop.sort < 4 = omega (arith, tested.loop-test) in
-    let many = cast.u16-to-usize.ensures.0 in (
+    let low : loop.sort < 4 = omega (arith, tested.loop-sort-test) in
+    let many = cast.u16_to_usize-item_count.ensures.0 in (
       omega (arith, low),
       omega (arith, loop.invariant.1, many, place-next counts loop.sort),
-      still-next loop.invariant.2 (rows_more entry.args.ends.now counts loop.sort _ _ low many loop.invariant.1) put-row.put-row.ensures,
+      still-next loop.invariant.2 (rows_more entry.args.ends.now counts loop.sort _ _ low many loop.invariant.1) put-row.put_row-next.ensures,
     )
 
 returns : tie.Need-returns invariant-loop decreases-loop
 returns c =
-    let loop = c.before.loop in
+    let loop = c.before.loop-sort in
     let args = c.before.before.before.before.before.args in
     still-none loop.invariant.2 (rows_none args.ends.now args.item-counts.now loop.sort (omega arith))
 
-add-place : tie.Need-overflow-add-place invariant-loop decreases-loop
+add-place : tie.Need-overflow_add-place invariant-loop decreases-loop
 add-place c =
     let cast = c.before.before.before.before in
     let tested = cast.before.before in
-    let loop = tested.before.loop in
+    let loop = tested.before.loop-sort in
     let entry = tested.before.before.before.before.before in
     omega (
       arith,
-      row_inside entry.args.ends.now entry.args.item-counts.now loop.sort (omega (arith, tested.loop-test)) entry.requires.0.inside,
-      cast.u16-to-usize.ensures.0,
+      row_inside entry.args.ends.now entry.args.item-counts.now loop.sort (omega (arith, tested.loop-sort-test)) entry.requires.0.inside,
+      cast.u16_to_usize-item_count.ensures.0,
       loop.invariant.1,
     )
 
-pub put-rows-spec : {M : Type 1} → statement M
-put-rows-spec =
+pub put_rows_spec : {M : Type 1} → statement M
+put_rows_spec =
     tie.close
     (tie.spec invariant-loop decreases-loop loop-holds (λ c. search rules)
     (λ c. let tested = c.before in omega (arith, tested.loop-test, tested.before.before.before.before.before.requires.0.four)) (λ c κs. search rules)

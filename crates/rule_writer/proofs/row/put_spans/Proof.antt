@@ -15,43 +15,43 @@ use Rattle.rule_writer.proofs.Rows.{spans-none, spans-more, spans-lawful}
 use Rattle.rule_writer.proofs.row.put_spans.Statement.{statement}
 use Rattle.rule_writer.proofs.row.put_spans.Tie as tie
 
-abbrev invariant-loop : tie.invariant-loop
+abbrev invariant-loop : tie.invariant-loop-spans_left
 invariant-loop out₀ at spans first span-count next₀ from₀ spans-left₀ out next from spans-left =
     (from + spans-left ≤ length spans) × All FitsSpan (spans_at spans from spans-left)
     × Still out₀ at (flat_map span.write (spans_at spans first span-count)) out next (flat_map span.write (spans_at spans from spans-left))
 
-abbrev decreases-loop : tie.decreases-loop
+abbrev decreases-loop : tie.decreases-loop-spans_left
 decreases-loop out₀ at spans first span-count next₀ from₀ spans-left₀ out next from spans-left = spans-left
 
-put-span-requires : tie.Need-put-span-requires invariant-loop decreases-loop
+put-span-requires : tie.Need-put_span-next-requires invariant-loop decreases-loop
 put-span-requires c κs =
     let tested = c.before.before in
-    let loop = tested.before.loop in
+    let loop = tested.before.loop-spans_left in
     let spans = tested.before.before.before.before.args.spans.now in
-    let some : loop.spans-left ≡ 0 → ⊥ = λ z. omega (arith, tested.loop-test) in (
+    let some : loop.spans-left ≡ 0 → ⊥ = λ z. omega (arith, tested.loop-spans_left-test) in (
       (spans-lawful spans loop.from loop.spans-left some loop.invariant.0 FitsSpan loop.invariant.1).0,
       room-first _ _ (room_as (spans-more spans loop.from loop.spans-left some loop.invariant.0) loop.invariant.2.room),
     )
 
-loop-again : tie.Need-loop-preserved invariant-loop decreases-loop
+loop-again : tie.Need-loop-spans_left-preserved invariant-loop decreases-loop
 loop-again c =
     let put-span = c.before.before in
     let tested = put-span.before.before.before in
-    let loop = tested.before.loop in
+    let loop = tested.before.loop-spans_left in
     let spans = tested.before.before.before.before.args.spans.now in
-    let some : loop.spans-left ≡ 0 → ⊥ = λ z. omega (arith, tested.loop-test) in (
-      omega (arith, loop.invariant.0, tested.loop-test),
+    let some : loop.spans-left ≡ 0 → ⊥ = λ z. omega (arith, tested.loop-spans_left-test) in (
+      omega (arith, loop.invariant.0, tested.loop-spans_left-test),
       (spans-lawful spans loop.from loop.spans-left some loop.invariant.0 FitsSpan loop.invariant.1).1,
-      still-next loop.invariant.2 (spans-more spans loop.from loop.spans-left some loop.invariant.0) put-span.put-span.ensures,
+      still-next loop.invariant.2 (spans-more spans loop.from loop.spans-left some loop.invariant.0) put-span.put_span-next.ensures,
     )
 
 returns : tie.Need-returns invariant-loop decreases-loop
 returns c =
-    let loop = c.before.loop in
+    let loop = c.before.loop-spans_left in
     still-none loop.invariant.2 (spans-none c.before.before.before.before.args.spans.now loop.from loop.spans-left (omega arith))
 
-pub put-spans-spec : {M : Type 1} → statement M
-put-spans-spec =
+pub put_spans_spec : {M : Type 1} → statement M
+put_spans_spec =
     tie.close
     (tie.spec invariant-loop decreases-loop (λ c. let pre = c.before.before.requires in (pre.0, pre.1.0, still-all pre.1.1))
     (λ c. search rules) (λ c. search rules) put-span-requires (λ c. search rules) (λ c. search rules) (λ c. search rules) loop-again (λ c. c.before.loop.invariant.2.size) returns)

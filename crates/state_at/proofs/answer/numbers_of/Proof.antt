@@ -4,8 +4,8 @@ use Rattle.state_at.proofs.Numbers.{state-numbers, unsettled-numbers}
 use Rattle.state_at.proofs.answer.numbers_of.Statement.{statement}
 use Rattle.state_at.proofs.answer.numbers_of.Tie as tie
 
-pub numbers-of-spec : {M : Type 1} → statement M
-numbers-of-spec =
+pub numbers_of_spec : {M : Type 1} → statement M
+numbers_of_spec =
     tie.close
     (tie.spec
     (λ c. search rules) (λ c κs. search rules) (λ c κs. search rules) (λ c. search rules) (λ c κs. search rules) (λ c. search rules)

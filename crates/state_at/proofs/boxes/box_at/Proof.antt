@@ -4,8 +4,8 @@ use Rattle.state_at.proofs.Search.{child-of, box-found}
 use Rattle.state_at.proofs.boxes.box_at.Statement.{statement}
 use Rattle.state_at.proofs.boxes.box_at.Tie as tie
 
-pub box-at-spec : {M : Type 1} → statement M
-box-at-spec =
+pub box_at_spec : {M : Type 1} → statement M
+box_at_spec =
     tie.close
     (tie.spec
     (λ c κs. search rules) (λ c κs. search rules) (λ c κs. search rules) (λ c κs. search rules) (λ c κs. search rules) (λ c κs. search rules)

@@ -5,8 +5,8 @@ use Rattle.state_at.proofs.Search.{child-low, row-around, child-found}
 use Rattle.state_at.proofs.boxes.child_at.Statement.{statement}
 use Rattle.state_at.proofs.boxes.child_at.Tie as tie
 
-pub child-at-spec : {M : Type 1} → statement M
-child-at-spec =
+pub child_at_spec : {M : Type 1} → statement M
+child_at_spec =
     tie.close
     (tie.spec
     (λ c. search rules) (λ c. search rules) (λ c κs. search rules)

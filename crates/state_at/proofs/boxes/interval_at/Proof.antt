@@ -6,14 +6,14 @@ use Rattle.state_at.proofs.Search.{Enclosed, enclosed-first, enclosed-last}
 use Rattle.state_at.proofs.boxes.interval_at.Statement.{statement}
 use Rattle.state_at.proofs.boxes.interval_at.Tie as tie
 
-abbrev invariant-loop : tie.invariant-loop
+abbrev invariant-loop : tie.invariant-loop-upper
 invariant-loop cuts first size value lower₀ upper₀ lower upper = Enclosed cuts first size value lower upper
 
-abbrev decreases-loop : tie.decreases-loop
+abbrev decreases-loop : tie.decreases-loop-upper
 decreases-loop cuts first size value lower₀ upper₀ lower upper = upper - lower
 
-pub interval-at-spec : {M : Type 1} → statement M
-interval-at-spec =
+pub interval_at_spec : {M : Type 1} → statement M
+interval_at_spec =
     tie.close
     (tie.spec
     invariant-loop decreases-loop

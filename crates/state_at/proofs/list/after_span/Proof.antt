@@ -5,8 +5,8 @@ use Rattle.state_at.proofs.Walk.{span-covers, span-ended, span-later}
 use Rattle.state_at.proofs.list.after_span.Statement.{statement}
 use Rattle.state_at.proofs.list.after_span.Tie as tie
 
-pub after-span-spec : {M : Type 1} → statement M
-after-span-spec =
+pub after_span_spec : {M : Type 1} → statement M
+after_span_spec =
     tie.close
     (tie.spec
     (λ c κs. search rules) (λ c κs. search rules) (λ c κs. search rules)

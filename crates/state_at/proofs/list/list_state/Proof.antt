@@ -4,8 +4,8 @@ use Rattle.state_at.proofs.Meaning.{list-ready, list-answered}
 use Rattle.state_at.proofs.list.list_state.Statement.{statement}
 use Rattle.state_at.proofs.list.list_state.Tie as tie
 
-pub list-state-spec : {M : Type 1} → statement M
-list-state-spec =
+pub list_state_spec : {M : Type 1} → statement M
+list_state_spec =
     tie.close
     (tie.spec
     (λ c. search rules) (λ c. search rules) (λ c. search rules) (λ c κs. search rules) (λ c. search rules)

@@ -10,16 +10,16 @@ use Rattle.state_at.proofs.Walk.{numbers-all, list_on, list-unsettled, list-end}
 use Rattle.state_at.proofs.list.over_list.Statement.{statement}
 use Rattle.state_at.proofs.list.over_list.Tie as tie
 
-abbrev invariant-loop : tie.invariant-loop
+abbrev invariant-loop : tie.invariant-loop-next
 invariant-loop states span_counts spans lists first many minute shown₀ next₀ shown next =
     (over_list states span_counts spans minute shown (numbers_from lists first next many) ≡ over_list states span_counts spans minute closed_number (numbers_from lists first 0 many))
     × All (InTables states span_counts spans) (numbers_from lists first next many)
 
-abbrev decreases-loop : tie.decreases-loop
+abbrev decreases-loop : tie.decreases-loop-next
 decreases-loop states span_counts spans lists first many minute shown₀ next₀ shown next = many - next
 
-pub over-list-spec : {M : Type 1} → statement M
-over-list-spec =
+pub over_list_spec : {M : Type 1} → statement M
+over_list_spec =
     tie.close
     (tie.spec
     invariant-loop decreases-loop

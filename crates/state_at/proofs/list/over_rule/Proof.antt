@@ -4,8 +4,8 @@ use Rattle.state_at.proofs.Walk.{rule-room, rule-over}
 use Rattle.state_at.proofs.list.over_rule.Statement.{statement}
 use Rattle.state_at.proofs.list.over_rule.Tie as tie
 
-pub over-rule-spec : {M : Type 1} → statement M
-over-rule-spec =
+pub over_rule_spec : {M : Type 1} → statement M
+over_rule_spec =
     tie.close
     (tie.spec
     (λ c κs. search rules) (λ c. search rules) (λ c. search rules) (λ c κs. search rules) (λ c. search rules) (λ c. search rules) (λ c. search rules)

@@ -9,15 +9,15 @@ use Rattle.state_at.proofs.Walk.{spans_on, spans-unsettled, spans-end}
 use Rattle.state_at.proofs.list.over_spans.Statement.{statement}
 use Rattle.state_at.proofs.list.over_spans.Tie as tie
 
-abbrev invariant-loop : tie.invariant-loop
+abbrev invariant-loop : tie.invariant-loop-at
 invariant-loop spans first end minute state before shown₀ at₀ shown at =
     over_spans minute state shown (part spans at (end - at)) ≡ over_spans minute state before (part spans first (end - first))
 
-abbrev decreases-loop : tie.decreases-loop
+abbrev decreases-loop : tie.decreases-loop-at
 decreases-loop spans first end minute state before shown₀ at₀ shown at = end - at
 
-pub over-spans-spec : {M : Type 1} → statement M
-over-spans-spec =
+pub over_spans_spec : {M : Type 1} → statement M
+over_spans_spec =
     tie.close
     (tie.spec
     invariant-loop decreases-loop

@@ -9,14 +9,14 @@ use Rattle.tables.proofs.Lists.{renamed-none, renamed-more}
 use Rattle.tables.proofs.cells.rename.Statement.{statement}
 use Rattle.tables.proofs.cells.rename.Tie as tie
 
-abbrev invariant-loop : tie.invariant-loop
+abbrev invariant-loop : tie.invariant-loop-box_index
 invariant-loop cells₀ numbers box₀ cells box = (box ≤ length cells₀) × (length cells ≡ length cells₀) × Renamed cells₀ numbers cells box
 
-abbrev decreases-loop : tie.decreases-loop
+abbrev decreases-loop : tie.decreases-loop-box_index
 decreases-loop cells₀ numbers box₀ cells box = length cells₀ - box
 
-pub rename-spec : {M : Type 1} → statement M
-rename-spec =
+pub rename_spec : {M : Type 1} → statement M
+rename_spec =
     tie.close
     (tie.spec
     invariant-loop decreases-loop

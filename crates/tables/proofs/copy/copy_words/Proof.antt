@@ -9,14 +9,14 @@ use Rattle.tables.proofs.Copied.{copied_none, copied_more}
 use Rattle.tables.proofs.copy.copy_words.Statement.{statement}
 use Rattle.tables.proofs.copy.copy_words.Tie as tie
 
-abbrev invariant-loop : tie.invariant-loop
+abbrev invariant-loop : tie.invariant-loop-i
 invariant-loop words₀ from to count i₀ words i = (i ≤ count) × (length words ≡ length words₀) × Copied words₀ words from to i
 
-abbrev decreases-loop : tie.decreases-loop
+abbrev decreases-loop : tie.decreases-loop-i
 decreases-loop words₀ from to count i₀ words i = count - i
 
-pub copy-words-spec : {M : Type 1} → statement M
-copy-words-spec =
+pub copy_words_spec : {M : Type 1} → statement M
+copy_words_spec =
     tie.close
     (tie.spec
     invariant-loop decreases-loop

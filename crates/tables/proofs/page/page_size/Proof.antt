@@ -4,8 +4,8 @@ use Rattle.tables.proofs.Pages.{size_is}
 use Rattle.tables.proofs.page.page_size.Statement.{statement}
 use Rattle.tables.proofs.page.page_size.Tie as tie
 
-pub page-size-spec : {M : Type 1} → statement M
-page-size-spec = tie.close (tie.spec
+pub page_size_spec : {M : Type 1} → statement M
+page_size_spec = tie.close (tie.spec
     (λ c. search rules)
     (λ c. search rules)
     (λ c. search rules)

@@ -5,14 +5,14 @@ use Rattle.tables.proofs.Narrowing.{Narrowed, narrowed-first, narrowed-up, narro
 use Rattle.tables.proofs.search.place_in.Statement.{statement}
 use Rattle.tables.proofs.search.place_in.Tie as tie
 
-abbrev invariant-loop : tie.invariant-loop
+abbrev invariant-loop : tie.invariant-loop-left
 invariant-loop numbers first end value at₀ left₀ at left = Narrowed numbers first end value at left
 
-abbrev decreases-loop : tie.decreases-loop
+abbrev decreases-loop : tie.decreases-loop-left
 decreases-loop numbers first end value at₀ left₀ at left = left
 
-pub place-in-spec : {M : Type 1} → statement M
-place-in-spec =
+pub place_in_spec : {M : Type 1} → statement M
+place_in_spec =
     tie.close
     (tie.spec
     invariant-loop decreases-loop (λ c. search rules)

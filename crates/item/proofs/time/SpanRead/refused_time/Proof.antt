@@ -5,5 +5,5 @@ use Rattle.item.specs.Answer.{span_refused_time}
 use Rattle.item.proofs.time.SpanRead.refused_time.Statement.{statement}
 use Rattle.item.proofs.time.SpanRead.refused_time.Tie as tie
 
-pub refused-time-spec : {M : Type 1} → statement M
-refused-time-spec = tie.close (tie.spec (λ c. search rules) (λ c. search rules) (λ c. ap span_refused_time (sym c.before.time.given.1)) (λ c. search rules))
+pub refused_time_spec : {M : Type 1} → statement M
+refused_time_spec = tie.close (tie.spec (λ c. search rules) (λ c. search rules) (λ c. ap span_refused_time (sym c.before.time.given.1)) (λ c. search rules))

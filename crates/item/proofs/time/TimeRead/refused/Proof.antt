@@ -5,5 +5,5 @@ use Rattle.item.specs.Answer.{time_refused}
 use Rattle.item.proofs.time.TimeRead.refused.Statement.{statement}
 use Rattle.item.proofs.time.TimeRead.refused.Tie as tie
 
-pub refused-spec : {M : Type 1} → statement M
-refused-spec = tie.close (tie.spec (λ c. search rules) (λ c. search rules) (λ c. ap time_refused (sym c.before.field.given.1)) (λ c. search rules))
+pub refused_spec : {M : Type 1} → statement M
+refused_spec = tie.close (tie.spec (λ c. search rules) (λ c. search rules) (λ c. ap time_refused (sym c.before.field.given.1)) (λ c. search rules))
