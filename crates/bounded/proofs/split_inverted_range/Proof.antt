@@ -8,13 +8,13 @@ use Rattle.bounded.proofs.split_inverted_range.Tie as tie
 
 returns : tie.Need-returns-then-range
 returns c =
-    let a = c.before.before.before.args in
-    split-two (pair_of a.bounds) (a.start, a.end) _ c.before.before.to_range_strict-range.ensures (omega arith)
+    let a = c.args in
+    split-two (pair_of a.bounds) (a.start, a.end) _ c.to_range_strict-range.ensures (omega arith)
 
 returns-2 : tie.Need-returns-else-range
 returns-2 c =
-    let a = c.before.before.before.args in
-    split_one (pair_of a.bounds) (a.start, a.end) _ c.before.before.to_range_strict-range.ensures (omega arith)
+    let a = c.args in
+    split_one (pair_of a.bounds) (a.start, a.end) _ c.to_range_strict-range.ensures (omega arith)
 
 pub split_inverted_range_spec : {M : Type 1} → statement M
 split_inverted_range_spec = tie.close (tie.spec (λ c κs. search rules) returns returns-2)

@@ -8,16 +8,11 @@ use Rattle.box_day.proofs.fold_box.Tie as tie
 
 needed : tie.Need-fold_list-requires
 needed c κs =
-    let counted = c.before.before in
-    let entry = counted.before.before.before.before.before.before.before in
-    (fold-needs _ _ _ _ _ _ entry.requires _ counted.u16_to_usize.ensures.0, omega arith)
+    (fold-needs _ _ _ _ _ _ c.requires _ c.u16_to_usize.ensures.0, omega arith)
 
 returned : tie.Need-returns
 returned c =
-    let folded = c.before.before in
-    let counted = folded.before.before.before in
-    let entry = counted.before.before.before.before.before.before.before in
-    fold-gives _ _ _ _ _ _ entry.requires _ counted.u16_to_usize.ensures.0 _ _ _ refl folded.fold_list.ensures
+    fold-gives _ _ _ _ _ _ c.requires _ c.u16_to_usize.ensures.0 _ _ _ refl c.fold_list.ensures
 
 pub fold_box_spec : {M : Type 1} → statement M
 fold_box_spec =

@@ -6,12 +6,12 @@ use Rattle.box_day.proofs.same_day.Tie as tie
 
 same : tie.Need-returns-then-other_count-word_count
 same c =
-    let folded = c.before.before.before.before.before.fold-box.ensures in
-    days-compared _ _ _ _ _ folded.0 folded.1 c.before.before.if1.true _ c.same_words.ensures
+    let folded = c.fold_box-other_count.ensures in
+    days-compared _ _ _ _ _ folded.0 folded.1 c.if-other_count-word_count.true _ c.same_words.ensures
 
 other : tie.Need-returns-else-other_count-word_count
 other c =
-    let folded = c.before.before.before.fold_box-other_count.ensures in
+    let folded = c.fold_box-other_count.ensures in
     lengths_differ _ _ _ _ _ folded.0 folded.1 c.if-other_count-word_count.false
 
 pub same_day_spec : {M : Type 1} → statement M

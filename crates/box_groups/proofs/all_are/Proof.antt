@@ -18,58 +18,44 @@ decreases-loop cells boxes count value shift place₀ place = count - place
 
 add-if1 : tie.Need-overflow_add-u16_to_usize invariant-loop decreases-loop
 add-if1 c =
-    let loop = c.before.before.before in
-    let entry = loop.before.before.before in
-    let a = entry.args in
-    omega (arith, up-low a.boxes.now a.count a.shift entry.requires.0 _ loop.loop-place.place entry.requires.1 (omega arith), entry.well-formed)
+    let a = c.args in
+    omega (arith, up-low a.boxes.now a.count a.shift c.requires.0 _ c.loop-place.place c.requires.1 (omega arith), c.well_formed)
 
 mul-if1 : tie.Need-offset_bounds-cells-u16_to_usize invariant-loop decreases-loop
 mul-if1 c =
-    let loop = c.before.before.before in
-    let entry = loop.before.before.before in
-    let a = entry.args in
-    omega (arith, up-low a.boxes.now a.count a.shift entry.requires.0 _ loop.loop-place.place entry.requires.1 (omega arith), entry.well-formed)
+    let a = c.args in
+    omega (arith, up-low a.boxes.now a.count a.shift c.requires.0 _ c.loop-place.place c.requires.1 (omega arith), c.well_formed)
 
 shared-slice-read-if1 : tie.Need-bounds-cells-u16_to_usize invariant-loop decreases-loop
 shared-slice-read-if1 c =
-    let loop = c.before.before.before.before in
-    let entry = loop.before.before.before in
-    let a = entry.args in
-    omega (arith, up-low a.boxes.now a.count a.shift entry.requires.0 _ loop.loop-place.place entry.requires.1 (omega arith))
+    let a = c.args in
+    omega (arith, up-low a.boxes.now a.count a.shift c.requires.0 _ c.loop-place.place c.requires.1 (omega arith))
 
 returns : tie.Need-returns-then-cells-u16_to_usize invariant-loop decreases-loop
 returns c =
-    let number = c.before.before in
-    let loop = number.before.before.before in
-    let entry = loop.before.before.before in
-    let a = entry.args in
+    let a = c.args in
     let L = up a.shift (take a.count a.boxes.now) in
-    let k = loop.loop-place.place in
-    let here = up_first a.boxes.now a.count a.shift entry.requires.0 k (omega arith) ∙ ap (◌+ a.shift) (sym number.u16_to_usize.ensures.0) in
-    are-no a.cells.now a.value L k (omega (arith, up-length a.boxes.now a.count a.shift entry.requires.0))
-    (λ e. c.if-cells-u16_to_usize.true (ap (λ q. get_or a.cells.now q 0) (sym here) ∙ e)) ∙ loop.loop-place.invariant.1
+    let k = c.loop-place.place in
+    let here = up_first a.boxes.now a.count a.shift c.requires.0 k (omega arith) ∙ ap (◌+ a.shift) (sym c.u16_to_usize.ensures.0) in
+    are-no a.cells.now a.value L k (omega (arith, up-length a.boxes.now a.count a.shift c.requires.0))
+    (λ e. c.if-cells-u16_to_usize.true (ap (λ q. get_or a.cells.now q 0) (sym here) ∙ e)) ∙ c.loop-place.invariant.1
 
 loop-again : tie.Need-loop-place-preserved invariant-loop decreases-loop
 loop-again c =
-    let number = c.before.before in
-    let loop = number.before.before.before in
-    let entry = loop.before.before.before in
-    let a = entry.args in
+    let a = c.args in
     let L = up a.shift (take a.count a.boxes.now) in
-    let k = loop.loop-place.place in
-    let here = up_first a.boxes.now a.count a.shift entry.requires.0 k (omega arith) ∙ ap (◌+ a.shift) (sym number.u16_to_usize.ensures.0) in (
+    let k = c.loop-place.place in
+    let here = up_first a.boxes.now a.count a.shift c.requires.0 k (omega arith) ∙ ap (◌+ a.shift) (sym c.u16_to_usize.ensures.0) in (
       omega arith,
-      are-yes a.cells.now a.value L k (omega (arith, up-length a.boxes.now a.count a.shift entry.requires.0))
-          (ap (λ q. get_or a.cells.now q 0) here ∙ c.if-cells-u16_to_usize.false) ∙ loop.loop-place.invariant.1,
+      are-yes a.cells.now a.value L k (omega (arith, up-length a.boxes.now a.count a.shift c.requires.0))
+          (ap (λ q. get_or a.cells.now q 0) here ∙ c.if-cells-u16_to_usize.false) ∙ c.loop-place.invariant.1,
     )
 
 returns-2 : tie.Need-returns invariant-loop decreases-loop
 returns-2 c =
-    let loop = c.before in
-    let entry = loop.before.before.before in
-    let a = entry.args in
-    are-end a.cells.now a.value (up a.shift (take a.count a.boxes.now)) loop.loop-place.place
-    (omega (arith, up-length a.boxes.now a.count a.shift entry.requires.0)) ∙ loop.loop-place.invariant.1
+    let a = c.args in
+    are-end a.cells.now a.value (up a.shift (take a.count a.boxes.now)) c.loop-place.place
+    (omega (arith, up-length a.boxes.now a.count a.shift c.requires.0)) ∙ c.loop-place.invariant.1
 
 pub all_are_spec : {M : Type 1} → statement M
 all_are_spec =

@@ -18,33 +18,28 @@ decreases-loop cells₀ boxes count place₀ cells place = count - place
 
 slice-write-cells : tie.Need-bounds-cells-u16_to_usize invariant-loop decreases-loop
 slice-write-cells c =
-    let loop = c.before.before.before in
-    let entry = loop.before.before.before in
-    let a = entry.args in
-    omega (arith, first-low a.boxes.now a.count entry.requires.0 _ loop.loop-place.place entry.requires.1 (omega arith), c.u16_to_usize.ensures.0, loop.loop-place.invariant.1)
+    let a = c.args in
+    omega (arith, first-low a.boxes.now a.count c.requires.0 _ c.loop-place.place c.requires.1 (omega arith), c.u16_to_usize.ensures.0, c.loop-place.invariant.1)
 
 loop-again : tie.Need-loop-place-preserved invariant-loop decreases-loop
 loop-again c =
-    let loop = c.before.before.before in
-    let entry = loop.before.before.before in
-    let a = entry.args in
-    let low = first-low a.boxes.now a.count entry.requires.0 _ loop.loop-place.place entry.requires.1 (omega arith) in (
+    let a = c.args in
+    let low = first-low a.boxes.now a.count c.requires.0 _ c.loop-place.place c.requires.1 (omega arith) in (
       omega arith,
-      simp length-set loop.loop-place.invariant.1,
+      simp length-set c.loop-place.invariant.1,
       rw c.u16_to_usize.ensures.0
-          (emptied-more a.cells.now loop.loop-place.cells a.boxes.now loop.loop-place.place (omega (arith, entry.requires.0)) (omega (arith, low, loop.loop-place.invariant.1))
-          loop.loop-place.invariant.2),
+          (emptied-more a.cells.now c.loop-place.cells a.boxes.now c.loop-place.place (omega (arith, c.requires.0)) (omega (arith, low, c.loop-place.invariant.1))
+          c.loop-place.invariant.2),
     )
 
 returns : tie.Need-returns invariant-loop decreases-loop
 returns c =
-    let loop = c.before in
-    let a = loop.before.before.before.args in
-    let all : loop.loop-place.place ≡ a.count = omega arith in
-    λ q. loop.loop-place.invariant.2 q ∙ ap (λ n. emptied_at a.cells.now (take n a.boxes.now) q) all
+    let a = c.args in
+    let all : c.loop-place.place ≡ a.count = omega arith in
+    λ q. c.loop-place.invariant.2 q ∙ ap (λ n. emptied_at a.cells.now (take n a.boxes.now) q) all
 
 pub empty_boxes_spec : {M : Type 1} → statement M
 empty_boxes_spec =
     tie.close
-    (tie.spec invariant-loop decreases-loop (λ c. (omega arith, refl, emptied-none _ c.before.before.args.boxes.now)) (λ c. search rules) (λ c. omega (arith, c.before.before.before.before.before.requires.0)) (λ c κs. search rules) (λ c. search rules)
-    slice-write-cells (λ c. omega arith) (λ c. omega arith) loop-again (λ c. c.before.loop.invariant.1) returns)
+    (tie.spec invariant-loop decreases-loop (λ c. (omega arith, refl, emptied-none _ c.args.boxes.now)) (λ c. search rules) (λ c. omega (arith, c.requires.0)) (λ c κs. search rules) (λ c. search rules)
+    slice-write-cells (λ c. omega arith) (λ c. omega arith) loop-again (λ c. c.loop-place.invariant.1) returns)

@@ -12,25 +12,21 @@ use Rattle.box_groups.proofs.grow_column.Tie as tie
 
 append-requires : tie.Need-append-requires
 append-requires c κs =
-    let entry = c.before.before.before.before.before.before.before in
-    let a = entry.args in
-    let pre = entry.requires in
+    let a = c.args in
+    let pre = c.requires in
     let low : (b : ℕ) → b < length a.cells.now → b < 65536 = λ b h. omega (arith, h, pre.3) in
     (pre.0, pre.1, All-map low (up a.shift (take a.count a.boxes.now)) pre.4)
 
 returns : tie.Need-returns-then-all_are
 returns c =
-    let append = c.before.before in
-    let if1 = append.before.before in
-    let entry = if1.before.before.before.before.before.before in
-    let a = entry.args in
-    looked-good a.marks.now a.boxes.now a.count a.listed a.place a.shift _ _ entry.requires.0 entry.requires.1
-    (sym if1.before.all_are.ensures ∙ if1.if-all_are.true) append.append.ensures
+    let a = c.args in
+    looked-good a.marks.now a.boxes.now a.count a.listed a.place a.shift _ _ c.requires.0 c.requires.1
+    (sym c.all_are.ensures ∙ c.if-all_are.true) c.append.ensures
 
 returns-2 : tie.Need-returns
 returns-2 c =
-    let a = c.before.before.before.before.before.before.args in
-    looked-bad a.marks.now a.boxes.now a.count a.listed a.place a.shift _ (sym c.before.all_are.ensures ∙ c.if-all_are.false)
+    let a = c.args in
+    looked-bad a.marks.now a.boxes.now a.count a.listed a.place a.shift _ (sym c.all_are.ensures ∙ c.if-all_are.false)
 
 pub grow_column_spec : {M : Type 1} → statement M
 grow_column_spec =

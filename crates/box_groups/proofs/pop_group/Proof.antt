@@ -11,25 +11,20 @@ use Rattle.box_groups.proofs.pop_group.Tie as tie
 
 empty-boxes-requires : tie.Need-empty_boxes-requires
 empty-boxes-requires c κs =
-    let mark = c.before.before.before.before.before.before in
-    let entry = mark.before.before.before.before.before.before.before.before in
-    let a = entry.args in
-    let group = mark.mark-group.ensures in (
+    let a = c.args in
+    let group = c.mark_group.ensures in (
       group.1,
       subst (All (λ b. b < length a.cells.now)) (sym group.2)
-          (boxes-low a.sizes.now 4 0 (length a.cells.now) _ (chosen-low _ _ 4 0) entry.requires.0.column.below),
+          (boxes-low a.sizes.now 4 0 (length a.cells.now) _ (chosen-low _ _ 4 0) c.requires.0.column.below),
     )
 
 returns : tie.Need-returns
 returns c =
-    let empty = c.before.before in
-    let mark = empty.before.before.before.before.before.before.before in
-    let entry = mark.before.before.before.before.before.before.before.before in
-    let a = entry.args in
-    let group = mark.mark-group.ensures in (
+    let a = c.args in
+    let group = c.mark_group.ensures in (
       group.0,
-      listed-cleared a.sizes.now a.cells.now _ 4 _ entry.requires.0.column.filled (chosen-low _ _ 4 0)
-          (λ q. empty.empty_boxes.ensures q ∙ ap (λ L. emptied_at a.cells.now L q) group.2),
+      listed-cleared a.sizes.now a.cells.now _ 4 _ c.requires.0.column.filled (chosen-low _ _ 4 0)
+          (λ q. c.empty_boxes.ensures q ∙ ap (λ L. emptied_at a.cells.now L q) group.2),
     )
 
 pub pop_group_spec : {M : Type 1} → statement M

@@ -18,11 +18,11 @@ decreases-loop marks₀ base width column₀ marks column = width - column
 
 loop-again : tie.Need-loop-column-preserved invariant-loop decreases-loop
 loop-again c =
-    let i = c.before.loop-column.invariant in
+    let i = c.loop-column.invariant in
     (simp length-set i.0, paint-in _ _ _ _ _ _ (omega arith) refl ∙ i.1)
 
 pub unmark_spec : {M : Type 1} → statement M
 unmark_spec =
     tie.close
-    (tie.spec invariant-loop decreases-loop (λ c. (refl, paint-all _ _ _ _)) (λ c. omega (arith, c.before.before.well-formed)) (λ c. omega (arith, c.before.loop.invariant.0))
-    (λ c. omega arith) (λ c. omega arith) loop-again (λ c. c.before.loop.invariant.0) (λ c. paint-end _ _ _ _ _ (omega arith) ∙ c.before.loop.invariant.1))
+    (tie.spec invariant-loop decreases-loop (λ c. (refl, paint-all _ _ _ _)) (λ c. omega (arith, c.well_formed)) (λ c. omega (arith, c.loop-column.invariant.0))
+    (λ c. omega arith) (λ c. omega arith) loop-again (λ c. c.loop-column.invariant.0) (λ c. paint-end _ _ _ _ _ (omega arith) ∙ c.loop-column.invariant.1))

@@ -18,14 +18,11 @@ decreases-loop year month day leap passed days₀ index₀ days index = passed -
 
 loop-again : tie.Need-loop-index-preserved invariant-loop decreases-loop
 loop-again c =
-    let loop = c.before.before in
-    let is-leap = loop.before in
-    let entry = is-leap.before in
-    let at = loop.loop-index in
-    let index_in = date-month _ _ _ entry.requires in (
+    let at = c.loop-index in
+    let index_in = date-month _ _ _ c.requires in (
       omega arith,
       omega arith,
-      days-next (month_lengths is-leap.is_leap-leap.result) at.index _ _ _ (omega arith) at.invariant.2 c.month_length.ensures,
+      days-next (month_lengths c.is_leap-leap.result) at.index _ _ _ (omega arith) at.invariant.2 c.month_length.ensures,
     )
 
 pub day_of_year_spec : {M : Type 1} → statement M
@@ -34,11 +31,11 @@ day_of_year_spec =
     (tie.spec
     invariant-loop decreases-loop
     (λ c κs. tt)
-    (λ c. omega (arith, date-month _ _ _ c.before.requires))
-    (λ c. omega (arith, day-within _ _ _ c.before.requires))
-    (λ c. (omega arith, omega (arith, day-within _ _ _ c.before.requires), days-none c.before.args.day))
-    (λ c κs. omega (arith, date-month _ _ _ c.before.before.before.requires))
+    (λ c. omega (arith, date-month _ _ _ c.requires))
+    (λ c. omega (arith, day-within _ _ _ c.requires))
+    (λ c. (omega arith, omega (arith, day-within _ _ _ c.requires), days-none c.args.day))
+    (λ c κs. omega (arith, date-month _ _ _ c.requires))
     (λ c. omega arith)
-    (λ c. omega (arith, date-month _ _ _ c.before.before.before.before.requires))
+    (λ c. omega (arith, date-month _ _ _ c.requires))
     (λ c. omega arith) (λ c. omega arith) loop-again
-    (λ c. days-all _ _ _ c.before.loop.index _ _ c.before.before.is-leap.ensures (omega arith) c.before.loop.invariant.2))
+    (λ c. days-all _ _ _ c.loop-index.index _ _ c.is_leap-leap.ensures (omega arith) c.loop-index.invariant.2))

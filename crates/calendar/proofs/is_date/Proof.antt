@@ -11,20 +11,17 @@ use Rattle.calendar.proofs.is_date.Tie as tie
 returns : tie.Need-returns-then-day-ge1
 unfolding is_date month_length
 returns c =
-    let is-leap = c.before.before in
-    let entry = is-leap.before.before.before.before.before in
-    let a = entry.args in
+    let a = c.args in
     simp (
       in-holds a.year year_bounds (omega arith) (omega arith),
       in-holds a.month month_bounds (omega arith) (omega arith),
       le-leb 1 a.day (omega arith),
-    ) (rw (c.before.month_length-length.ensures, is-leap.is_leap.ensures))
+    ) (rw (c.month_length-length.ensures, c.is_leap.ensures))
 
 returns-2 : tie.Need-returns-else-day-ge1
 unfolding is_date
 returns-2 c =
-    let entry = c.before.before.before.before.before.before.before in
-    let a = entry.args in
+    let a = c.args in
     simp (
       in-holds a.year year_bounds (omega arith) (omega arith),
       in-holds a.month month_bounds (omega arith) (omega arith),
@@ -34,21 +31,21 @@ returns-2 c =
 returns-3 : tie.Need-returns-in_default-month
 unfolding is_date
 returns-3 c =
-    let a = c.before.before.before.args in simp (in-holds a.year year_bounds (omega arith) (omega arith), lt-leb 1 a.month (omega arith))
+    let a = c.args in simp (in-holds a.year year_bounds (omega arith) (omega arith), lt-leb 1 a.month (omega arith))
 
 returns-4 : tie.Need-returns-in_default-month-2
 unfolding is_date
 returns-4 c =
-    let a = c.before.before.before.before.args in
+    let a = c.args in
     simp (in-holds a.year year_bounds (omega arith) (omega arith), le-leb 1 a.month (omega arith), le-ltb a.month 13 (omega arith))
 
 returns-5 : tie.Need-returns-in_default
 unfolding is_date
-returns-5 c = simp (lt-leb 1900 c.before.args.year (omega arith))
+returns-5 c = simp (lt-leb 1900 c.args.year (omega arith))
 
 returns-6 : tie.Need-returns-in_default-2
 unfolding is_date
-returns-6 c = let a = c.before.before.args in simp (le-leb 1900 a.year (omega arith), le-ltb a.year 10000 (omega arith))
+returns-6 c = let a = c.args in simp (le-leb 1900 a.year (omega arith), le-ltb a.year 10000 (omega arith))
 
 pub is_date_spec : {M : Type 1} → statement M
 is_date_spec =

@@ -6,11 +6,11 @@ use Rattle.calendar.proofs.is_leap.Tie as tie
 
 returns : tie.Need-returns-then-year-ne0
 unfolding is_leap
-returns c = simp (eq-eqb _ _ c.before.if-year-eq0.true, ne_eqb _ _ c.if-year-ne0.true)
+returns c = simp (eq-eqb _ _ c.if-year-eq0.true, ne_eqb _ _ c.if-year-ne0.true)
 
 returns-2 : tie.Need-returns-else-year-ne0
 unfolding is_leap
-returns-2 c = simp (eq-eqb _ _ c.before.if-year-eq0.true, eq-eqb _ _ c.if-year-ne0.false)
+returns-2 c = simp (eq-eqb _ _ c.if-year-eq0.true, eq-eqb _ _ c.if-year-ne0.false)
 
 returns-3 : tie.Need-returns-else-year-eq0
 unfolding is_leap

@@ -27,4 +27,4 @@ month_length_spec =
     (λ c. omega (arith, below_two c.args.leap))
     (λ c. below_two c.args.leap)
     (λ c. search rules)
-    (λ c. rows c.before.args.leap c.before.args.index))
+    (λ c. rows c.args.leap c.args.index))

@@ -11,20 +11,16 @@ point_of_spec =
     tie.close
     (tie.spec
     (λ c κs. search rules)
-    (λ c κs. sym c.before.is-date.ensures ∙ c.if1.true)
+    (λ c κs. sym c.is_date.ensures ∙ c.if-is_date.true)
     (λ c κs.
-    let dated = sym c.before.before.is-date.ensures ∙ c.before.if1.true in
-    ((date-year _ _ _ dated).0, rw c.day-of-year.ensures (day-in-year _ _ _ dated)))
+    let dated = sym c.is_date.ensures ∙ c.if-is_date.true in
+    ((date-year _ _ _ dated).0, rw c.day_of_year-passed.ensures (day-in-year _ _ _ dated)))
     (λ c κs.
-    let known = c.before.before in
-    let dated = sym known.before.is-date.ensures ∙ known.if1.true in
-    ((date-year _ _ _ dated).0, rw c.before.day-of-year.ensures (day-in-year _ _ _ dated), c.weekday-of.ensures))
-    (λ c. let known = c.before.before.before in omega (arith, date-month _ _ _ (sym known.before.is-date.ensures ∙ known.if1.true)))
-    (λ c. let known = c.before.before.before in omega (arith, date-year _ _ _ (sym known.before.is-date.ensures ∙ known.if1.true)))
+    let dated = sym c.is_date.ensures ∙ c.if-is_date.true in
+    ((date-year _ _ _ dated).0, rw c.day_of_year-passed.ensures (day-in-year _ _ _ dated), c.weekday_of-weekday.ensures))
+    (λ c. omega (arith, date-month _ _ _ (sym c.is_date.ensures ∙ c.if-is_date.true)))
+    (λ c. omega (arith, date-year _ _ _ (sym c.is_date.ensures ∙ c.if-is_date.true)))
     (λ c.
-    let day-of-year = c.before.before in
-    let known = day-of-year.before in
-    let is-date = known.before in
-    point-some _ _ _ _ _ _ (sym is-date.is-date.ensures ∙ known.if1.true) day-of-year.day-of-year.ensures c.before.weekday-of.ensures
-    c.week-of.ensures)
-    (λ c. point-none _ _ _ (sym c.before.is-date.ensures ∙ c.if1.false)))
+    point-some _ _ _ _ _ _ (sym c.is_date.ensures ∙ c.if-is_date.true) c.day_of_year-passed.ensures c.weekday_of-weekday.ensures
+    c.week_of.ensures)
+    (λ c. point-none _ _ _ (sym c.is_date.ensures ∙ c.if-is_date.false)))

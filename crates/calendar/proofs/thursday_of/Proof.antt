@@ -11,20 +11,17 @@ use Rattle.calendar.proofs.thursday_of.Tie as tie
 
 returns : tie.Need-returns-then-days-passed
 returns c =
-    let start = c.before.before in
-    let e = ap (λ t. t.1) (thursday-before start.args.year start.args.day start.requires.1 (omega arith)) in
+    let e = ap (λ t. t.1) (thursday-before c.args.year c.args.day c.requires.1 (omega arith)) in
     omega (arith, e)
 
 returns-2 : tie.Need-returns-then-thursday-length
 returns-2 c =
-    let start = c.before.before.before in
-    let e = ap (λ t. t.1) (thursday-same start.args.year start.args.day start.requires.1 (omega arith) (omega arith)) in
+    let e = ap (λ t. t.1) (thursday-same c.args.year c.args.day c.requires.1 (omega arith) (omega arith)) in
     omega (arith, e)
 
 returns-3 : tie.Need-returns-else-thursday-length
 returns-3 c =
-    let start = c.before.before.before in
-    let e = ap (λ t. t.1) (thursday-next start.args.year start.args.day start.requires.1 (omega arith)) in
+    let e = ap (λ t. t.1) (thursday-next c.args.year c.args.day c.requires.1 (omega arith)) in
     omega (arith, e)
 
 pub thursday_of_spec : {M : Type 1} → statement M
@@ -33,6 +30,6 @@ thursday_of_spec =
     (tie.spec
     (λ c. omega (arith, year-long c.args.year))
     (λ c. search rules) (λ c κs. search rules)
-    (λ c. omega (arith, year-long (c.before.before.args.year - 1), year-long c.before.before.args.year))
-    (λ c. omega (arith, year-long (c.before.before.args.year - 1), weekday-within (c.before.before.args.year, c.before.before.args.day)))
+    (λ c. omega (arith, year-long (c.args.year - 1), year-long c.args.year))
+    (λ c. omega (arith, year-long (c.args.year - 1), weekday-within (c.args.year, c.args.day)))
     returns (λ c. search rules) (λ c κs. search rules) (λ c. search rules) returns-2 returns-3)

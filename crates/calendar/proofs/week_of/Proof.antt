@@ -11,7 +11,7 @@ week_of_spec =
     tie.close
     (tie.spec
     (λ c κs. search rules)
-    (λ c. omega (arith, is-thursday _ _ c.before.requires.1 c.before.requires.0))
+    (λ c. omega (arith, is-thursday _ _ c.requires.1 c.requires.0))
     (λ c. search rules)
-    (λ c. omega (arith, week-number _ _ c.before.requires.1 c.before.requires.0, week-bounds _ _ c.before.requires.1 c.before.requires.0))
-    (λ c. omega (arith, week-number _ _ c.before.requires.1 c.before.requires.0)))
+    (λ c. omega (arith, week-number _ _ c.requires.1 c.requires.0, week-bounds _ _ c.requires.1 c.requires.0))
+    (λ c. omega (arith, week-number _ _ c.requires.1 c.requires.0)))

@@ -15,5 +15,5 @@ weekday_of_spec =
     tie.close
     (tie.spec
     (λ c κs. search rules) (λ c. search rules) (λ c. search rules)
-    (λ c. omega (arith, year-long c.before.args.year))
+    (λ c. omega (arith, year-long c.args.year))
     (λ c. search rules) returns)

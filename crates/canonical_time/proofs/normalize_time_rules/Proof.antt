@@ -13,35 +13,28 @@ write-strokes-requires c κs = search rules
 
 write-day-requires : tie.Need-write_day-m-requires
 write-day-requires c κs =
-    let stroked = c.before.before.before.before.before in
-    let flat = stroked.before.before.before.before.before.before.before.before in
-    let entry = flat.before.before.before.before.before.before.before.before.before.before.before.before.before in
-    let room = entry.requires.1 in
-    let few = few-strokes _ _ _ _ stroked.write-strokes.ensures.1 in
-    let spans = flat.flatten.ensures.3 in (
+    let room = c.requires.1 in
+    let few = few-strokes _ _ _ _ c.write_strokes.ensures.1 in
+    let spans = c.flatten.ensures.3 in (
       omega (arith, few, room, spans),
-      omega (arith, few, room, spans, stroked.write-strokes.auto.0),
+      omega (arith, few, room, spans, c.write_strokes.auto.0),
       omega (arith, few, room, spans),
       omega (arith, few, room, spans),
     )
 
 sweep-classes-requires : tie.Need-sweep_classes-at-requires
 sweep-classes-requires c κs =
-    let pieced = c.before.before.before.before.before.before.before.before in
-    let stroked = pieced.before.before.before.before.before.before in
-    let flat = stroked.before.before.before.before.before.before.before.before in
-    let entry = flat.before.before.before.before.before.before.before.before.before.before.before.before.before in
-    let room = entry.requires.1 in
-    let few = few-strokes _ _ _ _ stroked.write-strokes.ensures.1 in
-    let spans = flat.flatten.ensures.3 in
-    let size = pieced.write-day.ensures.1 in (
+    let room = c.requires.1 in
+    let few = few-strokes _ _ _ _ c.write_strokes.ensures.1 in
+    let spans = c.flatten.ensures.3 in
+    let size = c.write_day.ensures.1 in (
       (
         omega (arith, few, room, spans, size),
-        omega (arith, few, room, spans, size, stroked.write-strokes.auto.0),
-        omega (arith, few, room, spans, size, pieced.write-day.auto.0),
-        omega (arith, few, room, spans, size, pieced.write-day.auto.1.0),
+        omega (arith, few, room, spans, size, c.write_strokes.auto.0),
+        omega (arith, few, room, spans, size, c.write_day.auto.0),
+        omega (arith, few, room, spans, size, c.write_day.auto.1.0),
       ),
-      cuts-bounded _ _ _ _ pieced.write-day.ensures.0,
+      cuts-bounded _ _ _ _ c.write_day.ensures.0,
     )
 
 same_length : tie.Need-shape_of-out-then-k-n
@@ -64,27 +57,18 @@ same-length-6 c = search rules
 
 returns : tie.Need-returns-then-k-n
 returns c =
-    let swept = c.before.before.before.before.before.before.before in
-    let pieced = swept.before.before.before.before.before.before.before.before.before in
-    let stroked = pieced.before.before.before.before.before.before in
-    let flat = stroked.before.before.before.before.before.before.before.before in
-    let entry = flat.before.before.before.before.before.before.before.before.before.before.before.before.before in
-    let room = entry.requires.1 in
-    painted-laid _ _ _ _ _ _ _ _ _ _ _ _ _ _ _ _ _ _ _ flat.flatten.ensures stroked.write-strokes.ensures pieced.write-day.ensures
-    (swept.sweep_classes-at.ensures.0, swept.sweep_classes-at.ensures.1) (room.1, room.2, room.3, omega (arith, room.5, pieced.write-day.auto.1.0)) (omega arith)
+    let room = c.requires.1 in
+    painted-laid _ _ _ _ _ _ _ _ _ _ _ _ _ _ _ _ _ _ _ c.flatten.ensures c.write_strokes.ensures c.write_day.ensures
+    (c.sweep_classes-at.ensures.0, c.sweep_classes-at.ensures.1) (room.1, room.2, room.3, omega (arith, room.5, c.write_day.auto.1.0)) (omega arith)
 
 groups-requires : tie.Need-groups-requires
 groups-requires c κs =
-    let swept = c.before.before.before.before.before.before.before.before.before.before.before in
-    let stroked = swept.before.before.before.before.before.before.before.before.before.before.before.before.before.before.before in
-    let flat = stroked.before.before.before.before.before.before.before.before in
-    let entry = flat.before.before.before.before.before.before.before.before.before.before.before.before.before in
-    let room = entry.requires.1 in
-    let spans = flat.flatten.ensures.3 in (
-      omega (arith, room, spans, flat.flatten.auto.0),
-      omega (arith, room, spans, flat.flatten.auto.1.0),
-      omega (arith, room, spans, stroked.write-strokes.auto.0, swept.sweep-classes.auto.1.0),
-      omega (arith, room, spans, swept.sweep-classes.ensures.2),
+    let room = c.requires.1 in
+    let spans = c.flatten.ensures.3 in (
+      omega (arith, room, spans, c.flatten.auto.0),
+      omega (arith, room, spans, c.flatten.auto.1.0),
+      omega (arith, room, spans, c.write_strokes.auto.0, c.sweep_classes.auto.1.0),
+      omega (arith, room, spans, c.sweep_classes.ensures.2),
     )
 
 same-length-7 : tie.Need-shape_of-out
@@ -92,17 +76,11 @@ same-length-7 c = search rules
 
 same-length-8 : tie.Need-shape_of-span_states
 same-length-8 c =
-    let swept = c.before.before.before.before.before.before.before.before.before.before.before.before.before.before.before.before in
-    let stroked = swept.before.before.before.before.before.before.before.before.before.before.before.before.before.before.before in
-    let flat = stroked.before.before.before.before.before.before.before.before in
-    flat.flatten.auto.0
+    c.flatten.auto.0
 
 same-length-9 : tie.Need-shape_of-span_codes
 same-length-9 c =
-    let swept = c.before.before.before.before.before.before.before.before.before.before.before.before.before.before.before.before in
-    let stroked = swept.before.before.before.before.before.before.before.before.before.before.before.before.before.before.before in
-    let flat = stroked.before.before.before.before.before.before.before.before in
-    flat.flatten.auto.1.0
+    c.flatten.auto.1.0
 
 same-length-10 : tie.Need-shape_of-strokes
 same-length-10 c = search rules
@@ -115,15 +93,9 @@ same-length-12 c = search rules
 
 returns-2 : tie.Need-returns
 returns-2 c =
-    let grouped = c.before.before.before.before in
-    let swept = grouped.before.before.before.before.before.before.before.before.before.before.before.before in
-    let pieced = swept.before.before.before.before.before.before.before.before.before in
-    let stroked = pieced.before.before.before.before.before.before in
-    let flat = stroked.before.before.before.before.before.before.before.before in
-    let entry = flat.before.before.before.before.before.before.before.before.before.before.before.before.before in
-    let room = entry.requires.1 in
-    grouped-laid _ _ _ _ _ _ _ _ _ _ _ _ _ _ _ _ _ _ _ flat.flatten.ensures stroked.write-strokes.ensures pieced.write-day.ensures
-    (swept.sweep-classes.ensures.0, swept.sweep-classes.ensures.1) (room.1, room.2, room.3, omega (arith, room.5, pieced.write-day.auto.1.0)) _ _ grouped.groups.ensures
+    let room = c.requires.1 in
+    grouped-laid _ _ _ _ _ _ _ _ _ _ _ _ _ _ _ _ _ _ _ c.flatten.ensures c.write_strokes.ensures c.write_day.ensures
+    (c.sweep_classes.ensures.0, c.sweep_classes.ensures.1) (room.1, room.2, room.3, omega (arith, room.5, c.write_day.auto.1.0)) _ _ c.groups.ensures
 
 pub normalize_time_rules_spec : {M : Type 1} → statement M
 normalize_time_rules_spec =

@@ -9,6 +9,6 @@ pub is_simple_spec : {M : Type 1} → statement M
 is_simple_spec =
     tie.close
     (tie.spec (λ c κs. search rules) (λ c κs. search rules)
-    (λ c. simple-plain _ _ _ c.before.before.before.start_of_lem.ensures c.before.before.end_of_lem.ensures (omega arith) (omega arith))
-    (λ c. simple-late _ _ _ c.before.before.before.start_of_lem.ensures c.before.before.end_of_lem.ensures (omega arith))
-    (λ c. simple-open _ c.if1.false))
+    (λ c. simple-plain _ _ _ c.start_of-start.ensures c.end_of-end.ensures (omega arith) (omega arith))
+    (λ c. simple-late _ _ _ c.start_of-start.ensures c.end_of-end.ensures (omega arith))
+    (λ c. simple-open _ c.if-span-eq0.false))

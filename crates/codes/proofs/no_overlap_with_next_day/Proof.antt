@@ -9,6 +9,6 @@ pub no_overlap_with_next_day_spec : {M : Type 1} → statement M
 no_overlap_with_next_day_spec =
     tie.close
     (tie.spec (λ c κs. search rules) (λ c κs. search rules)
-    (λ c. today-fixed _ _ _ c.before.before.before.start_of_lem.ensures c.before.before.end_of_lem.ensures (omega arith) (omega arith))
-    (λ c. today-late _ _ _ c.before.before.before.start_of_lem.ensures c.before.before.end_of_lem.ensures (omega arith) (omega arith))
-    (λ c. today-variable _ _ _ c.before.before.start_of_lem.ensures c.before.end_of_lem.ensures (omega arith)))
+    (λ c. today-fixed _ _ _ c.start_of-start.ensures c.end_of-end.ensures (omega arith) (omega arith))
+    (λ c. today-late _ _ _ c.start_of-start.ensures c.end_of-end.ensures (omega arith) (omega arith))
+    (λ c. today-variable _ _ _ c.start_of-start.ensures c.end_of-end.ensures (omega arith)))

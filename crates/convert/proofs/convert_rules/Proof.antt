@@ -42,29 +42,26 @@ Given c rs = let a = (start c).args in SheetRead (as_form a.form) a.sheet.now a.
 
 -- what the definition answers in the form that the sheet is moved to, it answers in the other form
 answered : (c : tie.After-first-long-comment) (rs : List Rule) {w : Written} → let a = (start c).args in
-    convert_rules (as_form c.before.other-form.result) sheet_limits (length a.out.now) rs ≡ w → convert_rules (other (as_form a.form)) sheet_limits (length a.out.now) rs ≡ w
-answered c rs e = sym (ap (λ to. convert_rules to sheet_limits (length (start c).args.out.now) rs) c.before.other-form.ensures) ∙ e
+    convert_rules (as_form c.before.other_form.result) sheet_limits (length a.out.now) rs ≡ w → convert_rules (other (as_form a.form)) sheet_limits (length a.out.now) rs ≡ w
+answered c rs e = sym (ap (λ to. convert_rules to sheet_limits (length (start c).args.out.now) rs) c.before.other_form.ensures) ∙ e
 
-first-long-comment-requires : tie.Need-first-long-comment-requires
+first-long-comment-requires : tie.Need-first_long_comment-long-requires
 first-long-comment-requires c κs =
-    let shared = c.before.before.before in
-    let entry = shared.before in
-    let a = entry.args in
-    let whole = known_bytes a.sheet.now (λ j. omega (arith, shared.shared-slice-known.given j)) in
-    let read = entry.pre.1 in
+    let a = c.args in
+    let whole = known_bytes a.sheet.now (λ j. omega (arith, c.shared_slice_known-1.given j)) in
+    let read = c.pre.1 in
     (rules-begun _ (as_form a.form) a.sheet.now a.begins.now whole _ _ a.count read.0 read.1, omega (arith, (begins-long _ a.sheet.now a.begins.now whole _ _ read.0).1, read.1))
 
 -- ## A comment without room
-returns : tie.Need-returns
+returns : tie.Need-returns-then-long-count
 returns c =
-    let long = c.before in
-    let a = (start long).args in
-    let k = long.first-long-comment.result in
+    let a = (start c).args in
+    let k = c.first_long_comment-long.result in
     λ rs read many.
-    let told = long-told _ (as_form long.before.other-form.result) a.sheet.now a.begins.now (bytes long) rs a.end a.count read many k
-    long.first-long-comment.ensures.0 in
-    let first : first_long_comment (as_form long.before.other-form.result) rs ≡ some k = sym told ∙ ap (λ b. only_if b k) (lt-ltb k a.count c.if1.taken) in
-    let answer = answered long rs (converts-not _ (length a.out.now) rs k first) in
+    let told = long-told _ (as_form c.other_form-to.result) a.sheet.now a.begins.now (bytes c) rs a.end a.count read many k
+    c.first_long_comment-long.ensures.0 in
+    let first : first_long_comment (as_form c.other_form-to.result) rs ≡ some k = sym told ∙ ap (λ b. only_if b k) (lt-ltb k a.count c.if-long-count.taken) in
+    let answer = answered c rs (converts-not _ (length a.out.now) rs k first) in
     (sym (ap written_numbers answer), sym (ap (λ w. buffer w.result a.out.now) answer))
 
 -- ## Behind that test
@@ -73,19 +70,19 @@ module _ (c : tie.Else1) where
   long = c.before
 
   -- no comment is without room
-  none-long : (rs : List Rule) → Given long rs → first_long_comment (as_form long.before.other-form.result) rs ≡ none
+  none-long : (rs : List Rule) → Given long rs → first_long_comment (as_form long.before.other_form.result) rs ≡ none
   none-long rs given =
       let a = (start long).args in
-      let k = long.first-long-comment.result in
-      sym (long-told _ _ a.sheet.now a.begins.now (bytes long) rs a.end a.count given.0 given.1 k long.first-long-comment.ensures.0)
+      let k = long.first_long_comment.result in
+      sym (long-told _ _ a.sheet.now a.begins.now (bytes long) rs a.end a.count given.0 given.1 k long.first_long_comment.ensures.0)
       ∙ ap (λ b. only_if b k) (le-ltb k a.count c.if1.left)
 
-moved-bits-requires : tie.Need-moved-bits-requires
+moved-bits-requires : tie.Need-moved_bits-requires
 moved-bits-requires c κs =
-    let entry = start c.before in
+    let entry = start c in
     let a = entry.args in
     let read = entry.pre.1 in
-    let whole = bytes c.before in (
+    let whole = bytes c in (
       omega (arith, (begins-long _ a.sheet.now a.begins.now whole _ _ read.0).0, read.1),
       heads-inside _ (as_form a.form) a.sheet.now a.begins.now whole _ _ a.count read.0 read.1,
       (rules-end _ a.sheet.now _ _ read.0.narrow whole read.0.read).1,
@@ -93,102 +90,85 @@ moved-bits-requires c κs =
 
 -- so many bits have the rules in the other form
 sized : (c : tie.After-moved-bits) (rs : List Rule) → Given c.before.before rs
-    → length ((rules (as_form c.before.before.before.other-form.result) sheet_limits).write rs) ≡ c.moved-bits.result
+    → length ((rules (as_form c.before.before.before.other_form.result) sheet_limits).write rs) ≡ c.moved_bits.result
 sized c rs given =
     let a = (start c.before.before).args in
-    moved_length _ _ a.sheet.now a.begins.now (bytes c.before.before) rs a.end a.count given.0 given.1 _ c.moved-bits.ensures.0
+    moved_length _ _ a.sheet.now a.begins.now (bytes c.before.before) rs a.end a.count given.0 given.1 _ c.moved_bits.ensures.0
 
 -- and so many bytes
 encoded : (c : tie.After-moved-bits) (rs : List Rule) → Given c.before.before rs
-    → length (encode (as_form c.before.before.before.other-form.result) sheet_limits rs) ≡ (c.moved-bits.result + 7) / 8
+    → length (encode (as_form c.before.before.before.other_form.result) sheet_limits rs) ≡ (c.moved_bits.result + 7) / 8
 encoded c rs given = encoded-length _ 0 rs (none-long c.before rs given) ∙ ap bytes_for (sized c rs given)
 
 -- ## A buffer without room
-returns-2 : tie.Need-returns-2
+returns-2 : tie.Need-returns-then-lacks_room
 returns-2 c =
-    let room = c.before in
-    let moved = room.before in
-    let a = (start moved.before.before).args in
-    let lacking = ltb-true _ _ (sym room.lacks-room.ensures ∙ c.if2.taken) in
+    let a = (start c).args in
+    let lacking = ltb-true _ _ (sym c.lacks_room.ensures ∙ c.if-lacks_room.taken) in
     λ rs read many.
-    let none = none-long moved.before rs (read, many) in
-    let answer = answered moved.before.before rs (converts-short _ (length a.out.now) rs none _ (encoded moved rs (read, many)) lacking) in
+    let none = none-long c rs (read, many) in
+    let answer = answered c rs (converts-short _ (length a.out.now) rs none _ (encoded c rs (read, many)) lacking) in
     (sym (ap written_numbers answer), sym (ap (λ w. buffer w.result a.out.now) answer))
 
 -- ## Behind that test
 -- the result has room
-enough : (c : tie.Else2) → (c.before.before.moved-bits.result + 7) / 8 ≤ length (start c.before.before.before.before).args.out.now
-enough c = ltb-false _ _ (sym c.before.lacks-room.ensures ∙ c.if2.left)
+enough : (c : tie.Else2) → (c.before.before.moved_bits.result + 7) / 8 ≤ length (start c.before.before.before.before).args.out.now
+enough c = ltb-false _ _ (sym c.before.lacks_room.ensures ∙ c.if2.left)
 
 room : (c : tie.Else2) (rs : List Rule) → Given c.before.before.before.before rs → let first = c.before.before.before.before in
-    let to = as_form first.before.other-form.result in let a = (start first).args in
+    let to = as_form first.before.other_form.result in let a = (start first).args in
     RoomFor (length a.out.now) 0 ((opening to sheet_limits).write a.count ++ flat_map (rule to sheet_limits).write rs)
 room c rs given =
     let moved = c.before.before in
     let a = (start moved.before.before).args in
     room-for-all _ _ a.sheet.now a.begins.now (bytes moved.before.before) rs a.end a.count given.0 given.1 _ _ (sized moved rs given) (enough c)
-    moved.moved-bits.ensures.1
+    moved.moved_bits.ensures.1
 
-put-opening-requires : tie.Need-put-opening-requires
+put-opening-requires : tie.Need-put_opening-first-requires
 put-opening-requires c κs =
-    let branch = c.before in
-    let first = branch.before.before.before.before in
-    let entry = start first in
+    let entry = start c in
     let a = entry.args in
     let read = entry.pre.1 in
-    let few = (begins-long _ a.sheet.now a.begins.now (bytes first) _ _ read.0).0 in
-    (rules-fit first.before.other-form.result a.count (omega (arith, few, read.1)), room-first _ _ (room branch _ read))
+    let few = (begins-long _ a.sheet.now a.begins.now (bytes c) _ _ read.0).0 in
+    (rules-fit c.other_form-to.result a.count (omega (arith, few, read.1)), room-first _ _ (room c _ read))
 
-move-rules-requires : tie.Need-move-rules-requires
+move-rules-requires : tie.Need-move_rules-behind-requires
 move-rules-requires c κs =
-    let opening = c.before.before.before in
-    let branch = opening.before.before in
-    let first = branch.before.before.before.before in
-    let entry = start first in
+    let entry = start c in
     let read = entry.pre.1 in (
       entry.pre.0,
       read.0,
       read.1,
-      all-commented _ 0 _ (none-long branch.before.before.before _ read),
-      room-rest opening.put-opening.ensures _ (room branch _ read),
+      all-commented _ 0 _ (none-long c _ read),
+      room-rest c.put_opening-first.ensures _ (room c _ read),
     )
 
-put-padding-requires : tie.Need-put-padding-requires
+put-padding-requires : tie.Need-put_padding-requires
 put-padding-requires c κs =
-    let moving = c.before.before.before in
-    let opened = moving.before.before.before.before in
-    let branch = opened.before.before in
-    let entry = start branch.before.before.before.before in
+    let entry = start c in
     let read = entry.pre.1 in
-    let all = wrote_then opened.put-opening.ensures (moving.move-rules.ensures _ read.0 read.1) in
+    let all = wrote_then c.put_opening-first.ensures (c.move_rules-behind.ensures _ read.0 read.1) in
     let a = entry.args in
-    let moved = branch.before.before in
-    let long = ap length (laid _ (as_form moved.before.before.before.other-form.result) a.sheet.now a.begins.now (bytes moved.before.before) _ a.end a.count read.0 read.1) in
-    (omega (arith, all.behind, (room branch _ read).inside, same_size all), omega (arith, all.behind, long, sized moved _ read, moved.moved-bits.ensures.1))
+    let long = ap length (laid _ (as_form c.other_form-to.result) a.sheet.now a.begins.now (bytes c) _ a.end a.count read.0 read.1) in
+    (omega (arith, all.behind, (room c _ read).inside, same_size all), omega (arith, all.behind, long, sized c _ read, c.moved_bits.ensures.1))
 
-returns-3 : tie.Need-returns-3
+returns-3 : tie.Need-returns
 returns-3 c =
-    let padded = c.before.before in
-    let moving = padded.before.before.before.before in
-    let opened = moving.before.before.before.before in
-    let branch = opened.before.before in
-    let moved = branch.before.before in
-    let first = moved.before.before in
-    let a = (start first).args in
+    let a = (start c).args in
     λ rs read many.
-    let given : Given first rs = (read, many) in
-    let none = none-long moved.before rs given in
-    let fine = answered first rs (converts-fine _ (length a.out.now) rs none _ (encoded moved rs given) (enough branch)) in
-    let behind = moving.move-rules.result in
-    let new = all-written _ _ a.sheet.now a.begins.now (bytes first) rs a.end a.count read many opened.put-opening.ensures
-    (moving.move-rules.ensures rs read many) (record { behind = sym (padding-length behind); stored = padded.put-padding.ensures.1 }) (omega (arith, sized moved rs given, enough branch)) (λ j. omega (arith, first.before.before.slice-known.given j))
-    (λ j. omega (arith, c.slice-known4.given j)) in (
-      ap (λ n. 0 ∷ n ∷ 0 ∷ []) (sym (encoded moved rs given)) ∙ sym (ap written_numbers fine),
+    let given : Given c rs = (read, many) in
+    let none = none-long c rs given in
+    let fine = answered c rs (converts-fine _ (length a.out.now) rs none _ (encoded c rs given) (enough c)) in
+    let behind = c.move_rules-behind.result in
+    let new = all-written _ _ a.sheet.now a.begins.now (bytes c) rs a.end a.count read many c.put_opening-first.ensures
+    (c.move_rules-behind.ensures rs read many) (record { behind = sym (padding-length behind); stored = c.put_padding.ensures.1 }) (omega (arith, sized c rs given, enough c)) (λ j. omega (arith, c.slice_known-1.given j))
+    (λ j. omega (arith, c.slice_known-4-1.given j)) in (
+      ap (λ n. 0 ∷ n ∷ 0 ∷ []) (sym (encoded c rs given)) ∙ sym (ap written_numbers fine),
       new ∙ sym (ap (λ w. buffer w.result a.out.now) fine),
     )
 
-pub convert-rules-spec : {M : Type 1} → statement M
-convert-rules-spec =
+pub convert_rules_spec : {M : Type 1} → statement M
+convert_rules_spec =
     tie.close
     (tie.spec (λ c κs. search rules) first-long-comment-requires returns moved-bits-requires (λ c. search rules) (λ c κs. search rules) returns-2
     put-opening-requires move-rules-requires put-padding-requires (λ c. search rules) returns-3)

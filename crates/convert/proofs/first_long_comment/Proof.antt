@@ -9,26 +9,24 @@ use Rattle.convert.proofs.Comments.{NoneBefore, none-next, long-found, long-none
 use Rattle.convert.proofs.first_long_comment.Statement.{statement}
 use Rattle.convert.proofs.first_long_comment.Tie as tie
 
-abbrev invariant-loop : tie.invariant-loop
+abbrev invariant-loop : tie.invariant-loop-rule
 invariant-loop form to sheet begins count rule₀ rule = (rule ≤ count) × NoneBefore (as_form form) (as_form to) (sheet_bits sheet) begins rule
 
-abbrev decreases-loop : tie.decreases-loop
+abbrev decreases-loop : tie.decreases-loop-rule
 decreases-loop form to sheet begins count rule₀ rule = count - rule
 
-pub first-long-comment-spec : {M : Type 1} → statement M
-first-long-comment-spec =
+pub first_long_comment_spec : {M : Type 1} → statement M
+first_long_comment_spec =
     tie.close
     (tie.spec invariant-loop decreases-loop (λ c. (omega arith, λ j l. absurd (omega arith))) (λ c. search rules) (λ c. search rules)
-    (λ c κs. c.before.before.before.before.before.requires.0 _ c.before.loop-test.true)
+    (λ c κs. c.requires.0 _ c.loop-rule-test.true)
     (λ c.
-    let test = c.before.before.before in
-    (long-found _ _ _ _ _ _ test.loop-test.true (sym c.before.has-long-comment.ensures ∙ c.if1.true) test.before.loop.invariant.1, test.before.loop.invariant.0))
-    (λ c. omega (arith, c.before.before.before.loop-test.true)) (λ c. omega (arith, c.before.before.before.loop-test.true))
+    (long-found _ _ _ _ _ _ c.loop-rule-test.true (sym c.has_long_comment.ensures ∙ c.if-has_long_comment.true) c.loop-rule.invariant.1, c.loop-rule.invariant.0))
+    (λ c. omega (arith, c.loop-rule-test.true)) (λ c. omega (arith, c.loop-rule-test.true))
     (λ c.
-    let test = c.before.before.before in
-    let a = test.before.before.before.before.args in
-    (omega (arith, test.loop-test.true), none-next (as_form a.form) (as_form a.to) (sheet_bits a.sheet.now) a.begins.now _ test.before.loop.invariant.1 (sym c.before.has-long-comment.ensures ∙ c.if1.false)))
+    let a = c.args in
+    (omega (arith, c.loop-rule-test.true), none-next (as_form a.form) (as_form a.to) (sheet_bits a.sheet.now) a.begins.now _ c.loop-rule.invariant.1 (sym c.has_long_comment.ensures ∙ c.if-has_long_comment.false)))
     (λ c.
-    let a = c.before.before.before.before.args in
-    let end : c.before.loop.rule ≡ a.count = omega (arith, c.loop-test.false, c.before.loop.invariant.0) in
-    (long-none _ _ _ _ _ (subst (NoneBefore (as_form a.form) (as_form a.to) (sheet_bits a.sheet.now) a.begins.now) end c.before.loop.invariant.1), omega arith)))
+    let a = c.args in
+    let end : c.loop-rule.rule ≡ a.count = omega (arith, c.loop-rule-test.false, c.loop-rule.invariant.0) in
+    (long-none _ _ _ _ _ (subst (NoneBefore (as_form a.form) (as_form a.to) (sheet_bits a.sheet.now) a.begins.now) end c.loop-rule.invariant.1), omega arith)))

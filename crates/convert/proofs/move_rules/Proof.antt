@@ -22,13 +22,13 @@ use Rattle.convert.proofs.Moving.{There, there, rules-once, Moving, moving-none,
 use Rattle.convert.proofs.move_rules.Statement.{statement}
 use Rattle.convert.proofs.move_rules.Tie as tie
 
-abbrev invariant-loop : tie.invariant-loop
+abbrev invariant-loop : tie.invariant-loop-rule
 invariant-loop form to sheet begins count end out₀ place next₀ rule₀ out next passed =
     (passed ≤ count) × (length out ≡ length out₀)
     × ((rs : List Rule) → SheetRead (as_form form) sheet begins rs end → RoomFor (length out₀) place (flat_map (rule (as_form to) sheet_limits).write rs)
     → Moving (as_form to) rs out₀ place out next passed)
 
-abbrev decreases-loop : tie.decreases-loop
+abbrev decreases-loop : tie.decreases-loop-rule
 decreases-loop form to sheet begins count end out₀ place next₀ rule₀ out next passed = count - passed
 
 -- where the function begins; and its sheet is bytes
@@ -51,19 +51,18 @@ turn : (c : tie.In-loop invariant-loop decreases-loop) → let a = (start c).arg
     → a.count ≡ length rs → There (as_form a.form) a.sheet.now a.begins.now (bytes c) rs a.end read c.before.loop.rule
 turn c rs read many = there _ _ _ (bytes c) rs _ read _ (omega (arith, c.loop-test.true, many))
 
-move-rule-requires : tie.Need-move-rule-requires invariant-loop decreases-loop
+move-rule-requires : tie.Need-move_rule-next-requires invariant-loop decreases-loop
 move-rule-requires c κs =
-    let test = c.before.before.before in
-    let entry = start test in
+    let entry = start c in
     let a = entry.args in
     let rs = entry.pre.0 in
     let many = entry.pre.2 in
-    let i = test.before.loop.rule in
-    let l : i < length rs = omega (arith, test.loop-test.true, many) in
-    let here = turn test rs entry.pre.1 many in
-    let room = rule-room _ rs (test.before.loop.invariant.2 rs entry.pre.1 entry.pre.4) l in (
+    let i = c.loop-rule.rule in
+    let l : i < length rs = omega (arith, c.loop-rule-test.true, many) in
+    let here = turn c rs entry.pre.1 many in
+    let room = rule-room _ rs (c.loop-rule.invariant.2 rs entry.pre.1 entry.pre.4) l in (
       (
-        (here.readable, c.before.before.rule-end.ensures ∙ ap (λ n. cond (ltb (i + 1) n) (get_or a.begins.now (i + 1) 0) a.end) many ∙ here.ends),
+        (here.readable, c.rule_end-behind.ensures ∙ ap (λ n. cond (ltb (i + 1) n) (get_or a.begins.now (i + 1) 0) a.end) many ∙ here.ends),
         here.low,
       ),
       (
@@ -72,35 +71,32 @@ move-rule-requires c κs =
       ),
     )
 
-loop-again : tie.Need-loop-preserved invariant-loop decreases-loop
+loop-again : tie.Need-loop-rule-preserved invariant-loop decreases-loop
 loop-again c =
-    let move = c.before.before in
-    let test = move.before.before.before.before in
-    let entry = start test in
+    let entry = start c in
     let a = entry.args in
-    let loop = test.before.loop in (
-      omega (arith, test.loop-test.true),
-      move.move-rule.auto.1.1.1.1.1.0 ∙ loop.invariant.1,
+    let loop = c.loop-rule in (
+      omega (arith, c.loop-rule-test.true),
+      c.move_rule-next.auto.1.1.1.1.1.0 ∙ loop.invariant.1,
       λ rs read room.
           let many = entry.pre.2 ∙ ap length (rules-once entry.pre.0 rs entry.pre.1 read) in
-          let here = turn test rs read many in
-          moving-more _ rs (loop.invariant.2 rs read room) (omega (arith, test.loop-test.true, many))
-          (wrote_as (ap (rule (as_form a.to) sheet_limits).write (sym here.same)) move.move-rule.ensures),
+          let here = turn c rs read many in
+          moving-more _ rs (loop.invariant.2 rs read room) (omega (arith, c.loop-rule-test.true, many))
+          (wrote_as (ap (rule (as_form a.to) sheet_limits).write (sym here.same)) c.move_rule-next.ensures),
     )
 
 returns : tie.Need-returns invariant-loop decreases-loop
 returns c =
-    let loop = c.before.loop in
-    let entry = c.before.before.before.before.before in
-    let a = entry.args in
+    let loop = c.loop-rule in
+    let a = c.args in
     λ rs read many. moving-all _ rs (loop.invariant.2 rs read
-    (subst (λ qs. RoomFor (length a.out.now) a.place (flat_map (rule (as_form a.to) sheet_limits).write qs)) (rules-once entry.requires.0 rs entry.requires.1 read) entry.requires.4))
-    (omega (arith, c.loop-test.false, many))
+    (subst (λ qs. RoomFor (length a.out.now) a.place (flat_map (rule (as_form a.to) sheet_limits).write qs)) (rules-once c.requires.0 rs c.requires.1 read) c.requires.4))
+    (omega (arith, c.loop-rule-test.false, many))
 
-pub move-rules-spec : {M : Type 1} → statement M
-move-rules-spec =
+pub move_rules_spec : {M : Type 1} → statement M
+move_rules_spec =
     tie.close
-    (tie.spec invariant-loop decreases-loop (λ c. (omega arith, refl, λ rs reading room. moving-none _ rs _ _ room)) (λ c κs. (c.loop-test.true, (few c).1))
-    (λ c. omega (arith, c.before.loop-test.true, (few c.before).0)) (λ c. omega (arith, c.before.before.loop-test.true, (few c.before.before).1))
-    move-rule-requires (λ c. let test = c.before.before.before.before.before.before in omega (arith, test.loop-test.true, (few test).0))
-    (λ c. omega (arith, c.before.before.before.before.before.before.loop-test.true)) loop-again (λ c. c.before.loop.invariant.1) returns)
+    (tie.spec invariant-loop decreases-loop (λ c. (omega arith, refl, λ rs reading room. moving-none _ rs _ _ room)) (λ c κs. (c.loop-rule-test.true, (few c).1))
+    (λ c. omega (arith, c.loop-rule-test.true, (few c).0)) (λ c. omega (arith, c.loop-rule-test.true, (few c).1))
+    move-rule-requires (λ c. omega (arith, c.loop-rule-test.true, (few c).0))
+    (λ c. omega (arith, c.loop-rule-test.true)) loop-again (λ c. c.loop-rule.invariant.1) returns)

@@ -14,33 +14,31 @@ heads-low : (n w : ℕ) → n ≤ 256 → w ≤ 88 → n * w ≤ 22528
 heads-low n w h k = mul-le-mul h k
 
 -- the heads in the form of the sheet
-heads : (c : tie.After-head-width) → let a = c.before.before.args in a.count * c.head-width.result ≡ a.count * head_width (as_form a.form)
-heads c = ap (c.before.before.args.count *◌) c.head-width.ensures.0
+heads : (c : tie.After-head-width) → let a = c.before.before.args in a.count * c.head_width.result ≡ a.count * head_width (as_form a.form)
+heads c = ap (c.before.before.args.count *◌) c.head_width.ensures.0
 
-low : (c : tie.After-head-width) → c.before.before.args.count * c.head-width.result ≤ 22528
-low c = heads-low _ _ c.before.before.requires.0 c.head-width.ensures.1
+low : (c : tie.After-head-width) → c.before.before.args.count * c.head_width.result ≤ 22528
+low c = heads-low _ _ c.before.before.requires.0 c.head_width.ensures.1
 
 low₂ : (c : tie.After-head-width2) → c.before.before.before.before.args.count * c.head-width2.result ≤ 22528
 low₂ c = heads-low _ _ c.before.before.before.before.requires.0 c.head-width2.ensures.1
 
 -- all of them lie before the end
-inside : (c : tie.After-head-width) → c.before.opening-width.result + c.before.before.args.count * c.head-width.result ≤ c.before.before.args.end
-inside c = omega (arith, c.before.before.requires.1, heads c, c.before.opening-width.ensures.0)
+inside : (c : tie.After-head-width) → c.before.opening_width.result + c.before.before.args.count * c.head_width.result ≤ c.before.before.args.end
+inside c = omega (arith, c.before.before.requires.1, heads c, c.before.opening_width.ensures.0)
 
 returns : tie.Need-returns
 returns c =
-    let first = c.before.before in
-    let entry = first.before.before in
-    let a = entry.args in
-    let moved : a.count * c.head-width2.result ≡ a.count * head_width (as_form a.to) = ap (a.count *◌) c.head-width2.ensures.0 in (
-      omega (arith, inside first, heads first, moved, first.before.opening-width.ensures.0, c.before.opening-width2.ensures.0),
-      omega (arith, inside first, low₂ c, entry.requires.2, c.before.opening-width2.ensures.1),
+    let a = c.args in
+    let moved : a.count * c.head_width-2.result ≡ a.count * head_width (as_form a.to) = ap (a.count *◌) c.head_width-2.ensures.0 in (
+      omega (arith, inside c, heads c, moved, c.opening_width.ensures.0, c.opening_width-2.ensures.0),
+      omega (arith, inside c, low₂ c, c.requires.2, c.opening_width-2.ensures.1),
     )
 
-pub moved-bits-spec : {M : Type 1} → statement M
-moved-bits-spec =
+pub moved_bits_spec : {M : Type 1} → statement M
+moved_bits_spec =
     tie.close
-    (tie.spec (λ c κs. search rules) (λ c. omega (arith, c.before.requires.1, c.opening-width.ensures.0)) (λ c κs. search rules) (λ c. omega (arith, low c))
+    (tie.spec (λ c κs. search rules) (λ c. omega (arith, c.requires.1, c.opening_width.ensures.0)) (λ c κs. search rules) (λ c. omega (arith, low c))
     (λ c. omega (arith, inside c)) (λ c κs. search rules) (λ c κs. search rules) (λ c. omega (arith, low₂ c))
-    (λ c. omega (arith, low₂ c, c.before.opening-width2.ensures.1))
-    (λ c. omega (arith, low₂ c, c.before.opening-width2.ensures.1, c.before.before.before.before.requires.2)) returns)
+    (λ c. omega (arith, low₂ c, c.opening_width-2.ensures.1))
+    (λ c. omega (arith, low₂ c, c.opening_width-2.ensures.1, c.requires.2)) returns)

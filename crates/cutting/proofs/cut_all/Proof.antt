@@ -8,10 +8,8 @@ use Rattle.cutting.proofs.cut_all.Tie as tie
 
 cut-rules-requires : tie.Need-cut_rules-requires
 cut-rules-requires c κs =
-    let start-rows = c.before.before.before.before.before.before.before.before.before in
-    let entry = start-rows.before.before.before.before.before.before.before.before.before in
-    let pre = entry.requires in
-    let start = start-rows.start-rows in (
+    let pre = c.requires in
+    let start = c.start_rows in (
       pre.0,
       (
         record {
@@ -26,12 +24,9 @@ cut-rules-requires c κs =
 
 returns : tie.Need-returns
 returns c =
-    let cut-rules = c.before.before.before.before.before.before in
-    let start-rows = cut-rules.before.before.before.before.before.before.before.before.before.before in
-    let entry = start-rows.before.before.before.before.before.before.before.before.before in
-    let pre = entry.requires in
-    let start = start-rows.start-rows in
-    let cut = cut-rules.cut-rules in
+    let pre = c.requires in
+    let start = c.start_rows in
+    let cut = c.cut_rules in
     λ rs days. cut-there _ _ _ _ days _ _ _
     (record {
       four-rows = start.auto.1.1.0 ∙ pre.1.0;
@@ -44,31 +39,19 @@ pub cut_all_spec : {M : Type 1} → statement M
 cut_all_spec =
     tie.close
     (tie.spec (λ c.
-    let entry = c.before.before.before.before.before.before.before.before in
-    search (rules, entry.requires.0.1.few-rules))
+    search (rules, c.requires.0.1.few-rules))
     (λ c.
-    let entry = c.before.before.before.before.before.before.before.before in
-    search (rules, entry.requires.0.1.few-rules))
+    search (rules, c.requires.0.1.few-rules))
     (λ c.
-    let entry = c.before.before.before.before.before.before.before.before in
-    search (rules, entry.requires.0.1.few-rules))
+    search (rules, c.requires.0.1.few-rules))
     (λ c κs.
-    let entry = c.before.before.before.before.before.before.before.before in
-    let pre = entry.requires in ((pre.1.0, pre.1.1), (omega arith, omega (arith, entry.requires.0.1.few-rules), pre.1.2)))
+    let pre = c.requires in ((pre.1.0, pre.1.1), (omega arith, omega (arith, c.requires.0.1.few-rules), pre.1.2)))
     cut-rules-requires
     (λ c κs.
-    let cut-rules = c.before.before.before.before.before in
-    let start-rows = cut-rules.before.before.before.before.before.before.before.before.before.before in
-    let entry = start-rows.before.before.before.before.before.before.before.before.before in
-    (omega (arith, cut-rules.cut-rules.auto.1.0, start-rows.start-rows.auto.1.0, entry.requires.1.1), omega arith))
+    (omega (arith, c.cut_rules.auto.1.0, c.start_rows.auto.1.0, c.requires.1.1), omega arith))
     (λ c.
-    let cut-rules = c.before.before.before.before.before.before in
-    let start-rows = cut-rules.before.before.before.before.before.before.before.before.before.before in
-    cut-rules.cut-rules.auto.0 ∙ start-rows.start-rows.auto.0)
+    c.cut_rules.auto.0 ∙ c.start_rows.auto.0)
     (λ c.
-    let cut-rules = c.before.before.before.before.before.before in
-    let start-rows = cut-rules.before.before.before.before.before.before.before.before.before.before in
-    cut-rules.cut-rules.auto.1.0 ∙ start-rows.start-rows.auto.1.0)
+    c.cut_rules.auto.1.0 ∙ c.start_rows.auto.1.0)
     (λ c.
-    let start-rows = c.before.before.before.before.before.before.before.before.before.before.before.before.before.before.before.before in
-    start-rows.start-rows.auto.1.1.0) returns)
+    c.start_rows.auto.1.1.0) returns)

@@ -23,22 +23,17 @@ decreases-loop cuts₀ sizes₀ rows counts ranges rules rule₀ cuts sizes rule
 
 cut-rule-requires : tie.Need-cut_rule-requires invariant-loop decreases-loop
 cut-rule-requires c κs =
-    let loop = c.before.before.before.before.before in
-    let entry = loop.before.before.before.before.before.before in
-    let days = entry.requires.0 in
-    let inv = loop.loop-rule.invariant in
-    next-space _ _ _ _ days.1 _ _ _ (rows-kept _ _ _ _ _ _ inv.3 inv.2 entry.requires.1.0) _
-    c.before.before.before.before.loop-rule-test.true (inv.1 days.0 days.1)
+    let days = c.requires.0 in
+    let inv = c.loop-rule.invariant in
+    next-space _ _ _ _ days.1 _ _ _ (rows-kept _ _ _ _ _ _ inv.3 inv.2 c.requires.1.0) _
+    c.loop-rule-test.true (inv.1 days.0 days.1)
 
 loop-again : tie.Need-loop-rule-preserved invariant-loop decreases-loop
 loop-again c =
-    let loop-test = c.before.before.before.before.before.before.before.before.before in
-    let loop = loop-test.before in
-    let entry = loop.before.before.before.before.before.before in
-    let inv = loop.loop-rule.invariant in
-    let cut = c.before.before.before.before.cut_rule in (
-      omega (arith, loop-test.loop-rule-test.true),
-      λ rs days. next-cut _ _ _ _ days _ _ _ (rows-kept _ _ _ _ _ _ inv.3 inv.2 entry.requires.1.0) _ loop-test.loop-rule-test.true (inv.1 rs days) _
+    let inv = c.loop-rule.invariant in
+    let cut = c.cut_rule in (
+      omega (arith, c.loop-rule-test.true),
+      λ rs days. next-cut _ _ _ _ days _ _ _ (rows-kept _ _ _ _ _ _ inv.3 inv.2 c.requires.1.0) _ c.loop-rule-test.true (inv.1 rs days) _
           cut.ensures,
       cut.auto.0 ∙ inv.2,
       cut.auto.1.0 ∙ inv.3,
@@ -47,31 +42,23 @@ loop-again c =
 pub cut_rules_spec : {M : Type 1} → statement M
 cut_rules_spec =
     tie.close
-    (tie.spec invariant-loop decreases-loop (λ c. (omega arith, λ rs days. c.before.before.before.before.before.requires.1.1, refl, refl))
+    (tie.spec invariant-loop decreases-loop (λ c. (omega arith, λ rs days. c.requires.1.1, refl, refl))
     (λ c.
-    let entry = c.before.before.before.before.before.before.before in
-    search (rules, c.loop-test.true, entry.requires.0.1.few-rules))
+    search (rules, c.loop-rule-test.true, c.requires.0.1.few-rules))
     (λ c.
-    let entry = c.before.before.before.before.before.before.before in
-    search (rules, c.loop-test.true, entry.requires.0.1.few-rules))
+    search (rules, c.loop-rule-test.true, c.requires.0.1.few-rules))
     (λ c.
-    let entry = c.before.before.before.before.before.before.before in
-    search (rules, c.loop-test.true, entry.requires.0.1.few-rules))
+    search (rules, c.loop-rule-test.true, c.requires.0.1.few-rules))
     (λ c.
-    let entry = c.before.before.before.before.before.before.before in
-    search (rules, c.loop-test.true, entry.requires.0.1.few-rules))
+    search (rules, c.loop-rule-test.true, c.requires.0.1.few-rules))
     (λ c. search rules) (λ c. search rules) (λ c. search rules)
     (λ c.
-    let entry = c.before.before.before.before.before.before.before.before.before in
-    search (rules, c.before.before.loop-test.true, entry.requires.0.1.all-counts))
+    search (rules, c.loop-rule-test.true, c.requires.0.1.all-counts))
     (λ c. search rules) (λ c. search rules) (λ c. search rules)
     (λ c.
-    let entry = c.before.before.before.before.before.before.before.before.before.before in
-    search (rules, c.before.before.before.loop-test.true, entry.requires.0.1.all-ranges))
+    search (rules, c.loop-rule-test.true, c.requires.0.1.all-ranges))
     cut-rule-requires (λ c.
-    let loop-test = c.before.before.before.before.before.before.before.before.before in
-    omega (arith, loop-test.loop-test.true))
+    omega (arith, c.loop-rule-test.true))
     (λ c.
-    let loop-test = c.before.before.before.before.before.before.before.before.before in
-    omega (arith, loop-test.loop-test.true)) loop-again (λ c. c.before.loop.invariant.2) (λ c. c.before.loop.invariant.3)
-    (λ c. λ rs days. all-cut _ _ _ _ days _ _ _ _ c.loop-test.false (c.before.loop.invariant.1 rs days)))
+    omega (arith, c.loop-rule-test.true)) loop-again (λ c. c.loop-rule.invariant.2) (λ c. c.loop-rule.invariant.3)
+    (λ c. λ rs days. all-cut _ _ _ _ days _ _ _ _ c.loop-rule-test.false (c.loop-rule.invariant.1 rs days)))

@@ -8,4 +8,4 @@ pub place_rows_spec : {M : Type 1} → statement M
 place_rows_spec =
     tie.close
     (tie.spec (λ c. search rules) (λ c. search rules) (λ c. search rules) (λ c. search rules) (λ c. search rules) (λ c. search rules) (λ c. search rules)
-    (λ c. rows-placed c.args.row-starts.now c.args.places c.requires.0))
+    (λ c. rows-placed c.args.row_starts.now c.args.places c.requires.0))

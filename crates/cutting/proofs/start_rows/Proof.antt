@@ -7,73 +7,51 @@ use Rattle.cutting.proofs.start_rows.Tie as tie
 
 start-row-requires : tie.Need-start_row-requires
 start-row-requires c κs =
-    let place-rows = c.before.before.before.before.before.before.before in
-    let entry = place-rows.before.before.before.before.before in
-    let pre = entry.requires in
-    let placed = place-rows.place-rows.ensures 3 (omega arith) in
-    (omega (arith, place-rows.place-rows.auto.0, pre.0), omega (arith, pre.0), omega (arith, placed, pre.1))
+    let pre = c.requires in
+    let placed = c.place_rows.ensures 3 (omega arith) in
+    (omega (arith, c.place_rows.auto.0, pre.0), omega (arith, pre.0), omega (arith, placed, pre.1))
 
 start-row-requires-2 : tie.Need-start_row-requires-2
 start-row-requires-2 c κs =
-    let start-row = c.before.before.before.before.before.before.before.before.before in
-    let place-rows = start-row.before.before.before.before.before.before.before.before in
-    let entry = place-rows.before.before.before.before.before in
-    let pre = entry.requires in
-    let placed = place-rows.place-rows.ensures 2 (omega arith) in
-    let first = start-row.start-row.auto in
-    (omega (arith, place-rows.place-rows.auto.0, pre.0), omega (arith, first.1.0, pre.0), omega (arith, first.0, placed, pre.1))
+    let pre = c.requires in
+    let placed = c.place_rows.ensures 2 (omega arith) in
+    let first = c.start_row.auto in
+    (omega (arith, c.place_rows.auto.0, pre.0), omega (arith, first.1.0, pre.0), omega (arith, first.0, placed, pre.1))
 
 start-row-requires-3 : tie.Need-start_row-requires-3
 start-row-requires-3 c κs =
-    let start-row2 = c.before.before.before.before.before.before.before.before.before in
-    let start-row = start-row2.before.before.before.before.before.before.before.before.before.before in
-    let place-rows = start-row.before.before.before.before.before.before.before.before in
-    let entry = place-rows.before.before.before.before.before in
-    let pre = entry.requires in
-    let placed = place-rows.place-rows.ensures 1 (omega arith) in
-    let first = start-row.start-row.auto in
-    let second = start-row2.start-row2.auto in (
-      omega (arith, place-rows.place-rows.auto.0, pre.0),
+    let pre = c.requires in
+    let placed = c.place_rows.ensures 1 (omega arith) in
+    let first = c.start_row.auto in
+    let second = c.start-row2.auto in (
+      omega (arith, c.place_rows.auto.0, pre.0),
       omega (arith, first.1.0, second.1.0, pre.0),
       omega (arith, first.0, second.0, placed, pre.1),
     )
 
 start-row-requires-4 : tie.Need-start_row-requires-4
 start-row-requires-4 c κs =
-    let start-row3 = c.before.before.before.before.before.before.before in
-    let start-row2 = start-row3.before.before.before.before.before.before.before.before.before.before in
-    let start-row = start-row2.before.before.before.before.before.before.before.before.before.before in
-    let place-rows = start-row.before.before.before.before.before.before.before.before in
-    let entry = place-rows.before.before.before.before.before in
-    let pre = entry.requires in
-    let placed = place-rows.place-rows.ensures 0 (omega arith) in
-    let first = start-row.start-row.auto in
-    let second = start-row2.start-row2.auto in
-    let third = start-row3.start-row3.auto in (
-      omega (arith, place-rows.place-rows.auto.0, pre.0),
+    let pre = c.requires in
+    let placed = c.place_rows.ensures 0 (omega arith) in
+    let first = c.start_row.auto in
+    let second = c.start-row2.auto in
+    let third = c.start-row3.auto in (
+      omega (arith, c.place_rows.auto.0, pre.0),
       omega (arith, first.1.0, second.1.0, third.1.0, pre.0),
       omega (arith, first.0, second.0, third.0, placed, pre.1),
     )
 
 rows-same-length : tie.Need-shape_of-row_starts
 rows-same-length c =
-    let start-row3 = c.before.before.before.before.before.before.before.before.before.before.before.before in
-    let start-row = start-row3.before.before.before.before.before.before.before.before.before.before.before.before.before.before.before.before.before.before.before.before in
-    let place-rows = start-row.before.before.before.before.before.before.before.before in
-    place-rows.place-rows.auto.0
+    c.place_rows.auto.0
 
 returns : tie.Need-returns
 returns c =
-    let start-row3 = c.before.before.before.before.before.before.before.before.before.before.before.before in
-    let start-row2 = start-row3.before.before.before.before.before.before.before.before.before.before in
-    let start-row = start-row2.before.before.before.before.before.before.before.before.before.before in
-    let place-rows = start-row.before.before.before.before.before.before.before.before in
-    let entry = place-rows.before.before.before.before.before in
-    let pre = entry.requires in
-    let placed = place-rows.place-rows.ensures in (
+    let pre = c.requires in
+    let placed = c.place_rows.ensures in (
       placed,
-      bounds-cut _ _ placed pre.1.0 _ _ pre.0.1 pre.1.2 _ _ _ _ start-row.start-row.ensures start-row2.start-row2.ensures
-          start-row3.start-row3.ensures c.before.before.before.before.start_row-4.ensures,
+      bounds-cut _ _ placed pre.1.0 _ _ pre.0.1 pre.1.2 _ _ _ _ c.start_row.ensures c.start-row2.ensures
+          c.start-row3.ensures c.start_row-4.ensures,
     )
 
 pub start_rows_spec : {M : Type 1} → statement M

@@ -7,44 +7,34 @@ use Rattle.date_items.proofs.put_items.Tie as tie
 
 returns : tie.Need-returns-then-end-width
 returns c =
-    let entry = c.before.before.before.before.before in
-    let a = entry.args in
-    items-none a.marks.now a.base a.width a.cuts.now a.row entry.requires.1.0 c.before.run_end-end.result a.at a.ends.now
-    c.before.run_end-end.ensures c.if-end-width.true
+    let a = c.args in
+    items-none a.marks.now a.base a.width a.cuts.now a.row c.requires.1.0 c.run_end-end.result a.at a.ends.now
+    c.run_end-end.ensures c.if-end-width.true
 
 put-runs-requires : tie.Need-put_runs-requires
 put-runs-requires c κs =
-    let run-end = c.before.before.before in
-    let entry = run-end.before.before.before.before in
-    let a = entry.args in
-    let pre = entry.requires in
-    let room = runs-room a.marks.now a.base a.width a.cuts.now a.row pre.1.0 run-end.run_end-end.result run-end.run_end-end.ensures
-    c.before.before.if-end-width.false in
+    let a = c.args in
+    let pre = c.requires in
+    let room = runs-room a.marks.now a.base a.width a.cuts.now a.row pre.1.0 c.run_end-end.result c.run_end-end.ensures
+    c.if-end-width.false in
     ((omega arith, pre.0), (pre.1.0, omega (arith, room, pre.1.1)))
 
 returns-2 : tie.Need-returns-then-end-eq0
 returns-2 c =
-    let put-runs = c.before.before in
-    let if1 = put-runs.before.before.before in
-    let run-end = if1.before in
-    let entry = run-end.before.before.before.before in
-    let a = entry.args in
-    items-some a.marks.now a.base a.width a.cuts.now a.row entry.requires.1.0 run-end.run_end-end.result put-runs.put_runs.result
-    a.at a.ends.now _ run-end.run_end-end.ensures if1.if-end-width.false put-runs.put_runs.ensures
+    let a = c.args in
+    items-some a.marks.now a.base a.width a.cuts.now a.row c.requires.1.0 c.run_end-end.result c.put_runs.result
+    a.at a.ends.now _ c.run_end-end.ensures c.if-end-width.false c.put_runs.ensures
 
 put-run-requires : tie.Need-put_run-requires
 put-run-requires c κs =
-    let if2 = c.before in
-    let run-end = if2.before.before in
-    let entry = run-end.before.before.before.before in
-    let a = entry.args in
-    let pre = entry.requires in
-    let e = end-bounds a.marks.now a.base a.width 0 (omega arith) _ run-end.run_end-end.ensures in
-    let room = first-room a.marks.now a.base a.width a.cuts.now a.row pre.1.0 _ run-end.run_end-end.ensures if2.before.if-end-width.false
-    if2.if-end-eq0.false in (
+    let a = c.args in
+    let pre = c.requires in
+    let e = end-bounds a.marks.now a.base a.width 0 (omega arith) _ c.run_end-end.ensures in
+    let room = first-room a.marks.now a.base a.width a.cuts.now a.row pre.1.0 _ c.run_end-end.ensures c.if-end-width.false
+    c.if-end-eq0.false in (
       (omega (arith, pre.1.0.inside), omega (arith, pre.1.0.inside, e.1)),
       (
-        end-positive a.marks.now a.base a.width a.cuts.now a.row pre.1.0 run-end.run_end-end.result (omega (arith, if2.if-end-eq0.false))
+        end-positive a.marks.now a.base a.width a.cuts.now a.row pre.1.0 c.run_end-end.result (omega (arith, c.if-end-eq0.false))
             e.1,
         omega (arith, pre.1.1, room),
       ),
@@ -52,44 +42,31 @@ put-run-requires c κs =
 
 put-runs-requires-2 : tie.Need-put_runs-behind-requires
 put-runs-requires-2 c κs =
-    let put-run = c.before.before.before in
-    let if2 = put-run.before.before in
-    let run-end = if2.before.before in
-    let entry = run-end.before.before.before.before in
-    let a = entry.args in
-    let pre = entry.requires in
-    let e = end-bounds a.marks.now a.base a.width 0 (omega arith) _ run-end.run_end-end.ensures in
-    let room = first-room a.marks.now a.base a.width a.cuts.now a.row pre.1.0 _ run-end.run_end-end.ensures if2.before.if-end-width.false
-    if2.if-end-eq0.false in
-    ((e.1, pre.0), (pre.1.0, omega (arith, pre.1.1, room, put-run.put_run.auto)))
+    let a = c.args in
+    let pre = c.requires in
+    let e = end-bounds a.marks.now a.base a.width 0 (omega arith) _ c.run_end-end.ensures in
+    let room = first-room a.marks.now a.base a.width a.cuts.now a.row pre.1.0 _ c.run_end-end.ensures c.if-end-width.false
+    c.if-end-eq0.false in
+    ((e.1, pre.0), (pre.1.0, omega (arith, pre.1.1, room, c.put_run.auto)))
 
 add-result : tie.Need-overflow_add-result
 add-result c =
-    let put-runs2 = c.before.before in
-    let if2 = put-runs2.before.before.before.before.before.before in
-    let run-end = if2.before.before in
-    let entry = run-end.before.before.before.before in
-    let a = entry.args in
-    let room = first-room a.marks.now a.base a.width a.cuts.now a.row entry.requires.1.0 _ run-end.run_end-end.ensures
-    if2.before.if-end-width.false if2.if-end-eq0.false in
-    omega (arith, entry.requires.1.1, entry.well-formed, room, put-runs2.put_runs-behind.ensures.0)
+    let a = c.args in
+    let room = first-room a.marks.now a.base a.width a.cuts.now a.row c.requires.1.0 _ c.run_end-end.ensures
+    c.if-end-width.false c.if-end-eq0.false in
+    omega (arith, c.requires.1.1, c.well_formed, room, c.put_runs-behind.ensures.0)
 
 returns-3 : tie.Need-returns
 returns-3 c =
-    let put-runs2 = c.before.before in
-    let put-run = put-runs2.before.before.before.before in
-    let if2 = put-run.before.before in
-    let run-end = if2.before.before in
-    let entry = run-end.before.before.before.before in
-    let a = entry.args in
-    let run = first_run a.marks.now a.base a.width a.cuts.now a.row entry.requires.1.0 _ run-end.run_end-end.ensures if2.if-end-eq0.false in
-    items-some a.marks.now a.base a.width a.cuts.now a.row entry.requires.1.0 run-end.run_end-end.result _ a.at a.ends.now _
-    run-end.run_end-end.ensures if2.before.if-end-width.false
-    (put_first a.marks.now a.base a.width a.cuts.now a.row 0 run-end.run_end-end.result put-runs2.put_runs-behind.result a.at
-    a.ends.now _ _ run put-run.put_run.ensures put-runs2.put_runs-behind.ensures)
+    let a = c.args in
+    let run = first_run a.marks.now a.base a.width a.cuts.now a.row c.requires.1.0 _ c.run_end-end.ensures c.if-end-eq0.false in
+    items-some a.marks.now a.base a.width a.cuts.now a.row c.requires.1.0 c.run_end-end.result _ a.at a.ends.now _
+    c.run_end-end.ensures c.if-end-width.false
+    (put_first a.marks.now a.base a.width a.cuts.now a.row 0 c.run_end-end.result c.put_runs-behind.result a.at
+    a.ends.now _ _ run c.put_run.ensures c.put_runs-behind.ensures)
 
 pub put_items_spec : {M : Type 1} → statement M
 put_items_spec =
     tie.close
-    (tie.spec (λ c κs. (omega arith, c.before.before.before.requires.0)) returns put-runs-requires (λ c. search rules) returns-2 put-run-requires
+    (tie.spec (λ c κs. (omega arith, c.requires.0)) returns put-runs-requires (λ c. search rules) returns-2 put-run-requires
     (λ c. search rules) put-runs-requires-2 add-result (λ c. search rules) returns-3)

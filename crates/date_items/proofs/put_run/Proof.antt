@@ -8,9 +8,8 @@ use Rattle.date_items.proofs.put_run.Tie as tie
 
 slice-write-ends-2 : tie.Need-bounds-ends-at-2
 slice-write-ends-2 c =
-    let entry = c.before.before in
-    let a = entry.args in
-    omega (arith, entry.requires.1.1, length-set a.ends.now a.at (cut_of a.cuts.now a.row a.start))
+    let a = c.args in
+    omega (arith, c.requires.1.1, length-set a.ends.now a.at (cut_of a.cuts.now a.row a.start))
 
 pub put_run_spec : {M : Type 1} → statement M
 put_run_spec =

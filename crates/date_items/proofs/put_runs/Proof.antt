@@ -18,91 +18,71 @@ decreases-loop marks base width cuts row ends₀ at column count₀ start₀ end
 
 loop-holds : tie.Need-loop-start-init invariant-loop decreases-loop
 loop-holds c =
-    let a = c.before.before.before.before.args in
+    let a = c.args in
     let first = c.run_start-start.ensures in
     (first.1, first.2, refl, left-all a.marks.now a.base a.width a.cuts.now a.row a.column c.run_start-start.result a.at a.ends.now first.3)
 
 put-run-requires : tie.Need-put_run-requires invariant-loop decreases-loop
 put-run-requires c κs =
-    let run-end = c.before in
-    let at-loop = run-end.before.before in
-    let entry = at-loop.before.before.before.before.before in
-    let a = entry.args in
-    let i = at-loop.loop-start.invariant in
-    let start = at-loop.loop-start.start in
-    let within = run-end.before.loop-start-test in
-    let e = end-bounds a.marks.now a.base a.width (start + 1) (omega arith) _ run-end.run_end-end.ensures in
+    let a = c.args in
+    let i = c.loop-start.invariant in
+    let start = c.loop-start.start in
+    let within = c.loop-start-test in
+    let e = end-bounds a.marks.now a.base a.width (start + 1) (omega arith) _ c.run_end-end.ensures in
     let more = ap length
-    (runs-take a.marks.now a.base a.width a.cuts.now a.row entry.requires.1.0 start (omega arith) (i.1 (omega arith)) _
-    run-end.run_end-end.ensures) in (
-      (omega (arith, entry.requires.1.0.inside), omega (arith, entry.requires.1.0.inside, e.1)),
+    (runs-take a.marks.now a.base a.width a.cuts.now a.row c.requires.1.0 start (omega arith) (i.1 (omega arith)) _
+    c.run_end-end.ensures) in (
+      (omega (arith, c.requires.1.0.inside), omega (arith, c.requires.1.0.inside, e.1)),
       (
-        end-positive a.marks.now a.base a.width a.cuts.now a.row entry.requires.1.0 run-end.run_end-end.result (omega (arith, e.0)) e.1,
-        omega (arith, entry.requires.1.1, more, i.2, i.3.0),
+        end-positive a.marks.now a.base a.width a.cuts.now a.row c.requires.1.0 c.run_end-end.result (omega (arith, e.0)) e.1,
+        omega (arith, c.requires.1.1, more, i.2, i.3.0),
       ),
     )
 
 run-start-requires-2 : tie.Need-run_start-start-requires-in-loop-start invariant-loop decreases-loop
 run-start-requires-2 c κs =
-    let run-end = c.before.before.before.before in
-    let at-loop = run-end.before.before in
-    let entry = at-loop.before.before.before.before.before in
-    let a = entry.args in
-    ((end-bounds a.marks.now a.base a.width (at-loop.loop-start.start + 1) (omega arith) _ run-end.run_end-end.ensures).1, entry.requires.0.1)
+    let a = c.args in
+    ((end-bounds a.marks.now a.base a.width (c.loop-start.start + 1) (omega arith) _ c.run_end-end.ensures).1, c.requires.0.1)
 
 loop-less : tie.Need-loop-start-smaller invariant-loop decreases-loop
 loop-less c =
-    let run-end = c.before.before.before.before.before in
-    let at-loop = run-end.before.before in
-    let entry = at-loop.before.before.before.before.before in
-    let a = entry.args in
-    let e = end-bounds a.marks.now a.base a.width (at-loop.loop-start.start + 1) (omega arith) _ run-end.run_end-end.ensures in
+    let a = c.args in
+    let e = end-bounds a.marks.now a.base a.width (c.loop-start.start + 1) (omega arith) _ c.run_end-end.ensures in
     omega (arith, e.0, c.run_start-start-in-loop-start.ensures.0)
 
 loop-again : tie.Need-loop-start-preserved invariant-loop decreases-loop
 loop-again c =
-    let put-run = c.before.before.before in
-    let run-end = put-run.before.before in
-    let at-loop = run-end.before.before in
-    let entry = at-loop.before.before.before.before.before in
-    let a = entry.args in
-    let i = at-loop.loop-start.invariant in
+    let a = c.args in
+    let i = c.loop-start.invariant in
     let next = c.run_start-start-in-loop-start.ensures in
-    let run = runs-take a.marks.now a.base a.width a.cuts.now a.row entry.requires.1.0 at-loop.loop-start.start (omega arith) (i.1 (omega arith)) _
-    run-end.run_end-end.ensures in (
+    let run = runs-take a.marks.now a.base a.width a.cuts.now a.row c.requires.1.0 c.loop-start.start (omega arith) (i.1 (omega arith)) _
+    c.run_end-end.ensures in (
       next.1,
       next.2,
-      ap length put-run.put_run.ensures ∙ simp length-set i.2,
-      left-next a.marks.now a.base a.width a.cuts.now a.row a.column at-loop.loop-start.start run-end.run_end-end.result
-          c.run_start-start-in-loop-start.result a.at at-loop.loop-start.count a.ends.now at-loop.loop-start.ends _ run put-run.put_run.ensures next.3 i.3,
+      ap length c.put_run.ensures ∙ simp length-set i.2,
+      left-next a.marks.now a.base a.width a.cuts.now a.row a.column c.loop-start.start c.run_end-end.result
+          c.run_start-start-in-loop-start.result a.at c.loop-start.count a.ends.now c.loop-start.ends _ run c.put_run.ensures next.3 i.3,
     )
 
 returns : tie.Need-returns invariant-loop decreases-loop
 returns c =
-    let at-loop = c.before in
-    let a = at-loop.before.before.before.before.before.args in
-    left-none a.marks.now a.base a.width a.cuts.now a.row a.column at-loop.loop-start.start a.at at-loop.loop-start.count
-    a.ends.now at-loop.loop-start.ends (omega arith) at-loop.loop-start.invariant.3
+    let a = c.args in
+    left-none a.marks.now a.base a.width a.cuts.now a.row a.column c.loop-start.start a.at c.loop-start.count
+    a.ends.now c.loop-start.ends (omega arith) c.loop-start.invariant.3
 
 -- the items written so far have room
 counted : tie.Need-overflow_mul-count invariant-loop decreases-loop
 counted c =
-    let at-loop = c.before.before.before in
-    let entry = at-loop.before.before.before.before.before in
-    omega (arith, entry.requires.1.1, entry.well-formed, at-loop.loop-start.invariant.3.0)
+    omega (arith, c.requires.1.1, c.well_formed, c.loop-start.invariant.3.0)
 
 pub put_runs_spec : {M : Type 1} → statement M
 put_runs_spec =
     tie.close
     (tie.spec invariant-loop decreases-loop (λ c κs. search rules) loop-holds (λ c. omega arith)
-    (λ c κs. (omega arith, c.before.before.before.before.before.before.requires.0.1)) counted
+    (λ c κs. (omega arith, c.requires.0.1)) counted
     (λ c.
-    let at-loop = c.before.before.before in
-    let entry = at-loop.before.before.before.before.before in
-    omega (arith, entry.requires.1.1, entry.well-formed, at-loop.loop.invariant.3.0))
+    omega (arith, c.requires.1.1, c.well_formed, c.loop-start.invariant.3.0))
     put-run-requires
     (λ c.
-    let at-loop = c.before.before.before.before.before.before in
-    let entry = at-loop.before.before.before.before.before in
-    omega (arith, entry.requires.1.1, entry.well-formed, at-loop.loop.invariant.3.0))
-    run-start-requires-2 loop-less loop-again (λ c. c.before.loop.invariant.2) returns)
+    omega (arith, c.requires.1.1, c.well_formed, c.loop-start.invariant.3.0))
+    run-start-requires-2 loop-less loop-again (λ c. c.loop-start.invariant.2) returns)

@@ -16,24 +16,21 @@ decreases-loop marks base width column end₀ end = width - end
 
 returns : tie.Need-returns-then-marks-base-ne1 invariant-loop decreases-loop
 returns c =
-    let at-loop = c.before.before.before in
-    let a = at-loop.before.args in
-    end-here a.marks.now a.base a.width at-loop.loop-end.end (omega arith) c.if-marks-base-ne1.true ∙ at-loop.loop-end.invariant.1
+    let a = c.args in
+    end-here a.marks.now a.base a.width c.loop-end.end (omega arith) c.if-marks-base-ne1.true ∙ c.loop-end.invariant.1
 
 loop-again : tie.Need-loop-end-preserved invariant-loop decreases-loop
 loop-again c =
-    let at-loop = c.before.before.before in
-    let a = at-loop.before.args in
-    (omega arith, sym (end-next a.marks.now a.base a.width at-loop.loop-end.end (omega arith) c.if-marks-base-ne1.false) ∙ at-loop.loop-end.invariant.1)
+    let a = c.args in
+    (omega arith, sym (end-next a.marks.now a.base a.width c.loop-end.end (omega arith) c.if-marks-base-ne1.false) ∙ c.loop-end.invariant.1)
 
 returns-2 : tie.Need-returns invariant-loop decreases-loop
 returns-2 c =
-    let at-loop = c.before in
-    let a = at-loop.before.args in
-    end-last a.marks.now a.base a.width at-loop.loop-end.end (omega arith) ∙ at-loop.loop-end.invariant.1
+    let a = c.args in
+    end-last a.marks.now a.base a.width c.loop-end.end (omega arith) ∙ c.loop-end.invariant.1
 
 pub run_end_spec : {M : Type 1} → statement M
 run_end_spec =
     tie.close
-    (tie.spec invariant-loop decreases-loop (λ c. (omega arith, refl)) (λ c. omega (arith, c.before.before.well-formed)) (λ c. omega arith) returns (λ c. omega arith)
+    (tie.spec invariant-loop decreases-loop (λ c. (omega arith, refl)) (λ c. omega (arith, c.well_formed)) (λ c. omega arith) returns (λ c. omega arith)
     (λ c. omega arith) loop-again returns-2)

@@ -16,23 +16,22 @@ decreases-loop marks base width column start₀ start = width - start
 
 returns : tie.Need-returns-then-marks-base-eq1 invariant-loop decreases-loop
 returns c =
-    let i = c.before.before.before.loop-start.invariant in
+    let i = c.loop-start.invariant in
     (i.0, i.1, (λ h. c.if-marks-base-eq1.true), i.2)
 
 loop-again : tie.Need-loop-start-preserved invariant-loop decreases-loop
 loop-again c =
-    let at-loop = c.before.before.before in
-    let a = at-loop.before.args in
-    let i = at-loop.loop-start.invariant in
-    (omega (arith, i.0), omega arith, i.2 ∙ marks-out a.marks.now a.base a.width at-loop.loop-start.start (omega arith) c.if-marks-base-eq1.false)
+    let a = c.args in
+    let i = c.loop-start.invariant in
+    (omega (arith, i.0), omega arith, i.2 ∙ marks-out a.marks.now a.base a.width c.loop-start.start (omega arith) c.if-marks-base-eq1.false)
 
 returns-2 : tie.Need-returns invariant-loop decreases-loop
 returns-2 c =
-    let i = c.before.loop-start.invariant in
+    let i = c.loop-start.invariant in
     (i.0, i.1, (λ h. absurd (omega arith)), i.2)
 
 pub run_start_spec : {M : Type 1} → statement M
 run_start_spec =
     tie.close
-    (tie.spec invariant-loop decreases-loop (λ c. (omega arith, omega arith, refl)) (λ c. omega (arith, c.before.before.well-formed)) (λ c. omega arith) returns
+    (tie.spec invariant-loop decreases-loop (λ c. (omega arith, omega arith, refl)) (λ c. omega (arith, c.well_formed)) (λ c. omega arith) returns
     (λ c. omega arith) (λ c. omega arith) loop-again returns-2)

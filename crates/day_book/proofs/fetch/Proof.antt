@@ -35,88 +35,83 @@ module _ (c : tie.After-fold-box) where
   days = let a = (start c).args in number_words a.states.now a.span_counts.now a.spans.now a.lists.now
 
   -- it has room behind what is filled
-  fits : c.fold-box.result + filled ≤ length book
-  fits = omega (arith, c.fold-box.ensures.1, (start c).requires.0.2.wordy, (start c).requires.1.roomy)
+  fits : c.fold_box.result + filled ≤ length book
+  fits = omega (arith, c.fold_box.ensures.1, (start c).requires.0.2.wordy, (start c).requires.1.roomy)
 
-  long : c.fold-box.result ≤ length c.fold-box.new.0
-  long = omega (arith, c.fold-box.ensures.1, (start c).requires.0.2.wordy, (start c).requires.1.roomy, c.fold-box.auto.0)
+  long : c.fold_box.result ≤ length c.fold_box.new.0
+  long = omega (arith, c.fold_box.ensures.1, (start c).requires.0.2.wordy, (start c).requires.1.roomy, c.fold_box.auto.0)
 
   abbrev after : List ℕ
-  after = take filled book ++ (c.fold-box.new.0 ++ rest)
+  after = take filled book ++ (c.fold_box.new.0 ++ rest)
 
   same_size : length after ≡ length book
   same_size =
       omega (
         arith,
-        length-append (take filled book) (c.fold-box.new.0 ++ rest),
-        length-append c.fold-box.new.0 rest,
+        length-append (take filled book) (c.fold_box.new.0 ++ rest),
+        length-append c.fold_box.new.0 rest,
         length-take-le filled book (omega (arith, (start c).requires.1.roomy)),
         length-drop (length book - filled) (drop filled book),
         length-drop filled book,
-        c.fold-box.auto.0,
+        c.fold_box.auto.0,
       )
 
-  there : part after filled c.fold-box.result ≡ days (start c).args.number
+  there : part after filled c.fold_box.result ≡ days (start c).args.number
   there =
-      folded-there book filled (omega (arith, (start c).requires.1.roomy)) c.fold-box.new.0 rest c.fold-box.result _ long
-      (c.fold-box.ensures.0 ∙ own-words _ (start c).args.number (start c).requires.0.0)
+      folded-there book filled (omega (arith, (start c).requires.1.roomy)) c.fold_box.new.0 rest c.fold_box.result _ long
+      (c.fold_box.ensures.0 ∙ own-words _ (start c).args.number (start c).requires.0.0)
 
 -- ## What is needed
 returns : tie.Need-returns-then-kept-gt0
 returns c =
-    let kept = c.before.before.before in
-    let entry = kept.before.before.before.before.before.before.before.before.before in
-    let a = entry.args in
-    let held = entry.requires.1.held a.number (omega (arith, kept.u16_to_usize-kept.ensures.0, c.before.before.if-kept-gt0.true)) in
+    let a = c.args in
+    let held = c.requires.1.held a.number (omega (arith, c.u16_to_usize-kept.ensures.0, c.if-kept-gt0.true)) in
     let place : 2 * a.number + 1 - 1 ≡ 2 * a.number = omega arith in
     let from = c.u16_to_usize.ensures.0 ∙ ap (λ j. get_or a.notes.now j 0) place in
-    let many = kept.u16_to_usize-kept.ensures.0 in
+    let many = c.u16_to_usize-kept.ensures.0 in
     record {
-      inside = omega (arith, held.inside, entry.requires.1.roomy, from, many);
+      inside = omega (arith, held.inside, c.requires.1.roomy, from, many);
       words = ap₂ (part a.book.now) from many ∙ held.words;
-      opened = entry.requires.1;
+      opened = c.requires.1;
     }
 
 returns-2 : tie.Need-returns-then-noted-notes-2
 returns-2 c =
-    let folded = c.before.before.before.before in
-    let entry = start folded in
+    let entry = start c in
     record {
-      inside = omega (arith, same_size folded, fits folded);
-      words = there folded;
+      inside = omega (arith, same_size c, fits c);
+      words = there c;
       opened = record {
-        held = one-more-held (book folded) (filled folded) (omega (arith, entry.pre.1.roomy)) folded.fold_box-count.new.0 (rest folded) (days folded) _ entry.pre.1.held
-            entry.args.number folded.fold_box-count.result c.if-noted-notes-2.true (there folded);
-        roomy = omega (arith, same_size folded, c.before.if-next-room.true);
-        few = omega (arith, same_size folded, entry.pre.1.few);
+        held = one-more-held (book c) (filled c) (omega (arith, entry.pre.1.roomy)) c.fold_box-count.new.0 (rest c) (days c) _ entry.pre.1.held
+            entry.args.number c.fold_box-count.result c.if-noted-notes-2.true (there c);
+        roomy = omega (arith, same_size c, c.if-next-room.true);
+        few = omega (arith, same_size c, entry.pre.1.few);
       };
     }
 
 returns-3 : tie.Need-returns-else-noted-notes-2
 returns-3 c =
-    let folded = c.before.before.before.before in
-    let entry = start folded in
+    let entry = start c in
     record {
-      inside = omega (arith, same_size folded, fits folded);
-      words = there folded;
+      inside = omega (arith, same_size c, fits c);
+      words = there c;
       opened = record {
-        held = still-held (book folded) (filled folded) (omega (arith, entry.pre.1.roomy)) folded.fold_box-count.new.0 (rest folded) (days folded) _ entry.pre.1.held;
-        roomy = omega (arith, same_size folded, entry.pre.1.roomy);
-        few = omega (arith, same_size folded, entry.pre.1.few);
+        held = still-held (book c) (filled c) (omega (arith, entry.pre.1.roomy)) c.fold_box-count.new.0 (rest c) (days c) _ entry.pre.1.held;
+        roomy = omega (arith, same_size c, entry.pre.1.roomy);
+        few = omega (arith, same_size c, entry.pre.1.few);
       };
     }
 
 returns-4 : tie.Need-returns-else-next-room
 returns-4 c =
-    let folded = c.before.before.before in
-    let entry = start folded in
+    let entry = start c in
     record {
-      inside = omega (arith, same_size folded, fits folded);
-      words = there folded;
+      inside = omega (arith, same_size c, fits c);
+      words = there c;
       opened = record {
-        held = still-held (book folded) (filled folded) (omega (arith, entry.pre.1.roomy)) folded.fold_box-count.new.0 (rest folded) (days folded) _ entry.pre.1.held;
-        roomy = omega (arith, same_size folded, entry.pre.1.roomy);
-        few = omega (arith, same_size folded, entry.pre.1.few);
+        held = still-held (book c) (filled c) (omega (arith, entry.pre.1.roomy)) c.fold_box-count.new.0 (rest c) (days c) _ entry.pre.1.held;
+        roomy = omega (arith, same_size c, entry.pre.1.roomy);
+        few = omega (arith, same_size c, entry.pre.1.few);
       };
     }
 

@@ -39,10 +39,10 @@ loop-less c = search rules
 
 loop-again : tie.Need-loop-i-preserved invariant-loop decreases-loop
 loop-again c =
-    (omega arith, mixed-step _ _ _ _ (omega arith) ∙ c.before.before.loop-i.invariant.1)
+    (omega arith, mixed-step _ _ _ _ (omega arith) ∙ c.loop-i.invariant.1)
 
 returns : tie.Need-returns invariant-loop decreases-loop
-returns c = mixed-end _ _ _ _ (omega arith) ∙ c.before.loop-i.invariant.1
+returns c = mixed-end _ _ _ _ (omega arith) ∙ c.loop-i.invariant.1
 
 pub fingerprint_spec : {M : Type 1} → statement M
 fingerprint_spec =

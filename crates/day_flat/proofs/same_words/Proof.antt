@@ -23,7 +23,7 @@ same_words_spec =
     invariant-loop decreases-loop
     (λ c. same_start _ _ _)
     (λ c. search rules) (λ c. search rules) (λ c. search rules) (λ c. search rules)
-    (λ c. same_not _ _ _ _ (omega arith) c.if1.true ∙ c.before.before.before.before.loop.invariant)
+    (λ c. same_not _ _ _ _ (omega arith) c.if-a-i.true ∙ c.loop-i.invariant)
     (λ c. search rules) (λ c. search rules)
-    (λ c. same-on _ _ _ _ (omega arith) c.if1.false ∙ c.before.before.before.before.loop.invariant)
-    (λ c. same_end _ _ _ _ (omega arith) ∙ c.before.loop.invariant))
+    (λ c. same-on _ _ _ _ (omega arith) c.if-a-i.false ∙ c.loop-i.invariant)
+    (λ c. same_end _ _ _ _ (omega arith) ∙ c.loop-i.invariant))

@@ -54,12 +54,12 @@ some c = c.before.before.if1.false
 -- ## What is needed there
 returns : tie.Need-returns-then-word_count-eq0 invariant-loop decreases-loop
 returns c =
-    let entry : Start = c.before.before.before.before.before.before.before.before in
+    let entry : Start = c in
     no_words (days entry) _ _ _ entry.requires.1.1.0 c.if-word_count-eq0.true
 
 loop-holds : tie.Need-loop-before-init invariant-loop decreases-loop
 loop-holds c =
-    let entry : Start = c.before.before.before.before.before.before.before.before.before in
+    let entry : Start = c in
     let a = entry.args in
     let known = entry.requires.1.1 in
     let passed = first-passed (days entry) a.words.now a.word_count a.place known.0 a.hashes.now _ known.1 known.2 _ c.next_place-before.ensures in
@@ -67,12 +67,11 @@ loop-holds c =
 
 same-day-requires : tie.Need-same_day-requires invariant-loop decreases-loop
 same-day-requires c κs =
-    let inside = c.before in
-    let entry = start inside.before in
+    let entry = start c in
     let a = entry.args in
     let pre = entry.pre in
-    let inv = inside.before.loop-before.invariant in (
-      ready-kept a.states.now a.span_counts.now a.spans.now a.lists.now _ _ _ inv.1 pre.0 _ inside.loop-before-test.true,
+    let inv = c.loop-before.invariant in (
+      ready-kept a.states.now a.span_counts.now a.spans.now a.lists.now _ _ _ inv.1 pre.0 _ c.loop-before-test.true,
       pre.1.0.0,
     )
 
@@ -80,18 +79,18 @@ returns-2 : tie.Need-returns-then-same_day invariant-loop decreases-loop
 returns-2 c =
     let same = equal c in
     let entry = start (loop same) in
-    day-found (days entry) _ _ _ entry.pre.1.1.0 (some (loop same)) _ (loop same).loop.inv.0 (sym c.if-same_day.true ∙ same.same-day.ensures)
+    day-found (days entry) _ _ _ entry.pre.1.1.0 (some (loop same)) _ (loop same).loop.inv.0 (sym c.if-same_day.true ∙ same.same_day.ensures)
 
 loop-again : tie.Need-loop-before-preserved invariant-loop decreases-loop
 loop-again c =
-    let other = different c.before in
+    let other = different c in
     let entry = start (loop other) in
     let a = entry.args in
     let known = entry.pre.1.1 in
     let inv = (loop other).loop.inv in
-    let kept = other.same-day.kept.1 in (
+    let kept = other.same_day.kept.1 in (
       more-passed (days entry) a.words.now a.word_count a.place known.0 a.hashes.now _ known.1 known.2 _ inv.0
-          (sym c.before.if-same_day.false ∙ other.same-day.ensures) _ c.next_place-before-in-loop-before.ensures,
+          (sym c.if-same_day.false ∙ other.same_day.ensures) _ c.next_place-before-in-loop-before.ensures,
       kept.0 ∙ inv.1,
     )
 
@@ -102,14 +101,14 @@ find_day_spec =
     invariant-loop decreases-loop returns
     (λ c κs. search rules) loop-holds same-day-requires
     (λ c. omega (arith, (test (equal c)).loop-test.taken, (start (loop (equal c))).ranges.place))
-    (λ c. (equal c).same-day.auto.1.0 ∙ (loop (equal c)).loop.inv.1)
+    (λ c. (equal c).same_day.auto.1.0 ∙ (loop (equal c)).loop.inv.1)
     returns-2
     (λ c. omega (arith, (test (different c)).loop-test.taken, (start (loop (different c))).ranges.place))
     (λ c κs. (omega (arith, (test (different c)).loop-test.taken), omega (arith, (start (loop (different c))).requires.1.0.1)))
-    (λ c. omega (arith, c.next-place2.ensures.0, (test (different c.before)).loop-test.taken))
+    (λ c. omega (arith, c.next_place-before-in-loop-before.ensures.0, (test (different c)).loop-test.taken))
     loop-again
-    (λ c. omega (arith, (start c.before).requires.1.0.1))
-    (λ c. c.before.loop.invariant.1)
+    (λ c. omega (arith, (start c).requires.1.0.1))
+    (λ c. c.loop-before.invariant.1)
     (λ c.
-    let entry = start c.before in
-    day-new (days entry) _ _ _ entry.pre.1.1.0 (some c.before) _ c.before.loop.invariant.0 c.loop-test.false))
+    let entry = start c in
+    day-new (days entry) _ _ _ entry.pre.1.1.0 (some c) _ c.loop-before.invariant.0 c.loop-before-test.false))

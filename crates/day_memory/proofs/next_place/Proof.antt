@@ -21,7 +21,7 @@ next_place_spec =
     invariant-loop decreases-loop
     (λ c. (search rules, search rules, λ k l m. absurd (omega arith)))
     (λ c. search rules) (λ c. search rules)
-    (λ c. (search rules, search rules, λ k l m. c.before.before.before.loop.invariant.2 k m l))
+    (λ c. (search rules, search rules, λ k l m. c.loop-place.invariant.2 k m l))
     (λ c. search rules) (λ c. search rules)
-    (λ c. (search rules, search rules, below_more _ _ c.before.before.before.loop.invariant.2 (λ l. c.if1.false)))
-    (λ c. (search rules, search rules, λ k l m. c.before.loop.invariant.2 k m l)))
+    (λ c. (search rules, search rules, below_more _ _ c.loop-place.invariant.2 (λ l. c.if-hashes-place.false)))
+    (λ c. (search rules, search rules, λ k l m. c.loop-place.invariant.2 k m l)))

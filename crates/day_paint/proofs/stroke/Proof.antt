@@ -27,7 +27,7 @@ add-result-2 c = search rules
 
 returns : tie.Need-returns
 returns c =
-    stroke-made _ _ _ _ _ c.before.before.u32_to_u64.ensures.0 c.before.start_of_lem.ensures c.end_of_lem.ensures
+    stroke-made _ _ _ _ _ c.u32_to_u64.ensures.0 c.start_of.ensures c.end_of.ensures
 
 pub stroke_spec : {M : Type 1} → statement M
 stroke_spec =

@@ -15,7 +15,7 @@ same-length-2 : tie.Need-shape_of-states-then-m-gt0
 same-length-2 c = search rules
 
 returns : tie.Need-returns-then-m-gt0
-returns c = c.before.before.before.before.before.write_rising-m.ensures c.if-m-gt0.true
+returns c = c.write_rising-m.ensures c.if-m-gt0.true
 
 write-pieces-requires : tie.Need-write_pieces-requires
 write-pieces-requires c κs = search rules
@@ -28,11 +28,9 @@ same-length-4 c = search rules
 
 returns-2 : tie.Need-returns-then-k-lt-MANY
 returns-2 c =
-    let pieces = c.before.before.before.before in
-    let rising = pieces.before.before.before.before.before.before.before.before in
-    let pre = rising.before.before.before.before.before.before.before.requires in
-    let kept = rising.write_rising-m.auto in
-    day-pieces _ _ _ _ _ _ _ pieces.write_pieces.ensures (omega (arith, kept.0, pre.2)) (omega (arith, kept.1.0, pre.3))
+    let pre = c.requires in
+    let kept = c.write_rising-m.auto in
+    day-pieces _ _ _ _ _ _ _ c.write_pieces.ensures (omega (arith, kept.0, pre.2)) (omega (arith, kept.1.0, pre.3))
 
 write-painted-requires : tie.Need-write_painted-requires
 write-painted-requires c κs = search rules

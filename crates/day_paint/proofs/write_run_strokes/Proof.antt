@@ -27,10 +27,10 @@ shared-slice-read-x : tie.Need-bounds-states-next invariant-loop decreases-loop
 shared-slice-read-x c = search rules
 
 same_length : tie.Need-shape_of-strokes-then-x-s invariant-loop decreases-loop
-same_length c = c.before.before.before.loop-next.invariant.1
+same_length c = c.loop-next.invariant.1
 
 returns : tie.Need-returns-then-x-s invariant-loop decreases-loop
-returns c = c.before.before.before.loop-next.invariant.2 _ _ (run-over _ _ _ [] _ 0 _ _ _ (omega arith) c.if-x-s.true)
+returns c = c.loop-next.invariant.2 _ _ (run-over _ _ _ [] _ 0 _ _ _ (omega arith) c.if-x-s.true)
 
 mul-p : tie.Need-offset_bounds-spans-next invariant-loop decreases-loop
 mul-p c = search rules
@@ -45,7 +45,7 @@ is-simple-requires : tie.Need-is_simple-requires invariant-loop decreases-loop
 is-simple-requires c κs = search rules
 
 stroke-requires : tie.Need-stroke-requires invariant-loop decreases-loop
-stroke-requires c κs = sym c.before.is_simple.ensures ∙ c.if-is_simple.true
+stroke-requires c κs = sym c.is_simple.ensures ∙ c.if-is_simple.true
 
 mul-strokes : tie.Need-offset_bounds-strokes-place invariant-loop decreases-loop
 mul-strokes c = search rules
@@ -61,17 +61,13 @@ loop-less c = search rules
 
 loop-again : tie.Need-loop-next-preserved-then-is_simple invariant-loop decreases-loop
 loop-again c =
-    let is-simple = c.before.before in
-    let if1 = is-simple.before.before in
-    let loop = if1.before.before.before in
-    let entry = loop.before.before.before.before in
-    let args = entry.args in (
+    let args = c.args in (
       simp length-set (omega arith),
-      simp length-set loop.loop-next.invariant.1,
+      simp length-set c.loop-next.invariant.1,
       λ t r l.
-          loop.loop-next.invariant.2 t r
-          (run-paints args.states.now args.spans.now loop.loop-next.strokes t loop.loop-next.place r loop.loop-next.next args.n args.s
-          (omega arith) if1.if-x-s.false (sym is-simple.is_simple.ensures ∙ c.before.if-is_simple.true) _ c.stroke.ensures l),
+          c.loop-next.invariant.2 t r
+          (run-paints args.states.now args.spans.now c.loop-next.strokes t c.loop-next.place r c.loop-next.next args.n args.s
+          (omega arith) c.if-x-s.false (sym c.is_simple.ensures ∙ c.if-is_simple.true) _ c.stroke.ensures l),
     )
 
 loop-less-2 : tie.Need-loop-next-smaller invariant-loop decreases-loop
@@ -79,23 +75,20 @@ loop-less-2 c = search rules
 
 loop-again-2 : tie.Need-loop-next-preserved invariant-loop decreases-loop
 loop-again-2 c =
-    let if1 = c.before.before.before in
-    let loop = if1.before.before.before in
-    let entry = loop.before.before.before.before in
-    let args = entry.args in (
+    let args = c.args in (
       omega arith,
-      loop.loop-next.invariant.1,
+      c.loop-next.invariant.1,
       λ t r l.
-          loop.loop-next.invariant.2 t r
-          (run-skips args.states.now args.spans.now loop.loop-next.strokes t loop.loop-next.place r loop.loop-next.next args.n args.s
-          (omega arith) if1.if-x-s.false (sym c.before.is_simple.ensures ∙ c.if-is_simple.false) l),
+          c.loop-next.invariant.2 t r
+          (run-skips args.states.now args.spans.now c.loop-next.strokes t c.loop-next.place r c.loop-next.next args.n args.s
+          (omega arith) c.if-x-s.false (sym c.is_simple.ensures ∙ c.if-is_simple.false) l),
     )
 
 same-length-2 : tie.Need-shape_of-strokes invariant-loop decreases-loop
-same-length-2 c = c.before.loop-next.invariant.1
+same-length-2 c = c.loop-next.invariant.1
 
 returns-2 : tie.Need-returns invariant-loop decreases-loop
-returns-2 c = c.before.loop-next.invariant.2 _ _ (run_ends _ _ _ [] _ 0 _ _ _ (omega arith))
+returns-2 c = c.loop-next.invariant.2 _ _ (run_ends _ _ _ [] _ 0 _ _ _ (omega arith))
 
 pub write_run_strokes_spec : {M : Type 1} → statement M
 write_run_strokes_spec =

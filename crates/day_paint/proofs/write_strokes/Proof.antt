@@ -40,7 +40,7 @@ is-simple-requires : tie.Need-is_simple-requires invariant-loop decreases-loop
 is-simple-requires c κs = search rules
 
 stroke-requires : tie.Need-stroke-requires invariant-loop decreases-loop
-stroke-requires c κs = sym c.before.is_simple.ensures ∙ c.if-is_simple.true
+stroke-requires c κs = sym c.is_simple.ensures ∙ c.if-is_simple.true
 
 mul-strokes : tie.Need-offset_bounds-strokes-place invariant-loop decreases-loop
 mul-strokes c = search rules
@@ -56,17 +56,14 @@ loop-less c = search rules
 
 loop-again : tie.Need-loop-next-preserved invariant-loop decreases-loop
 loop-again c =
-    let is-simple = c.before.before in
-    let loop = is-simple.before.before.before.before in
-    let start = loop.before.before.before.before in
-    let args = start.args in
-    let on = loop.loop-next in (
+    let args = c.args in
+    let on = c.loop-next in (
       simp length-set (omega arith),
       simp length-set on.invariant.1,
       λ t r l.
           on.invariant.2 t r
           (list-paints args.states.now args.spans.now on.strokes t on.place r on.next args.n (omega arith)
-          (sym is-simple.is_simple.ensures ∙ c.before.if-is_simple.true) _ c.stroke.ensures l),
+          (sym c.is_simple.ensures ∙ c.if-is_simple.true) _ c.stroke.ensures l),
     )
 
 write-run-strokes-requires : tie.Need-write_run_strokes-requires invariant-loop decreases-loop
@@ -74,25 +71,19 @@ write-run-strokes-requires c κs = search rules
 
 same_length : tie.Need-shape_of-strokes-in-loop-next invariant-loop decreases-loop
 same_length c =
-    let write-run-strokes = c.before.before in
-    let loop = write-run-strokes.before.before.before.before.before.before.before in
-    write-run-strokes.write_run_strokes.auto.0 ∙ loop.loop-next.invariant.1
+    c.write_run_strokes.auto.0 ∙ c.loop-next.invariant.1
 
 returns : tie.Need-returns-in-loop-next invariant-loop decreases-loop
 returns c =
-    let written = c.before.before in
-    let other = written.before.before in
-    let is-simple = other.before in
-    let loop = is-simple.before.before.before.before in
-    let found = sym is-simple.is_simple.ensures ∙ other.if-is_simple.false in
-    let laid = loop.loop-next.invariant.2 _ _ (list-runs _ _ _ _ _ _ _ _ (omega arith) found written.write_run_strokes.ensures) in
+    let found = sym c.is_simple.ensures ∙ c.if-is_simple.false in
+    let laid = c.loop-next.invariant.2 _ _ (list-runs _ _ _ _ _ _ _ _ (omega arith) found c.write_run_strokes.ensures) in
     (laid.0, omega (arith, laid.1))
 
 same-length-2 : tie.Need-shape_of-strokes invariant-loop decreases-loop
-same-length-2 c = c.before.loop-next.invariant.1
+same-length-2 c = c.loop-next.invariant.1
 
 returns-2 : tie.Need-returns invariant-loop decreases-loop
-returns-2 c = let laid = c.before.loop-next.invariant.2 _ _ (list-ends _ _ _ [] _ 0 _ _ (omega arith)) in (laid.0, omega (arith, laid.1))
+returns-2 c = let laid = c.loop-next.invariant.2 _ _ (list-ends _ _ _ [] _ 0 _ _ (omega arith)) in (laid.0, omega (arith, laid.1))
 
 pub write_strokes_spec : {M : Type 1} → statement M
 write_strokes_spec =

@@ -24,7 +24,7 @@ shared-slice-read-if1 : tie.Need-bounds-interval_states-i invariant-loop decreas
 shared-slice-read-if1 c = search rules
 
 returns : tie.Need-returns-then-interval_states-i-ne-CLOSED invariant-loop decreases-loop
-returns c = closed-not _ _ _ c.before.before.loop-i-test.true c.if-interval_states-i-ne-CLOSED.true ∙ c.before.before.before.loop-i.invariant.1
+returns c = closed-not _ _ _ c.loop-i-test.true c.if-interval_states-i-ne-CLOSED.true ∙ c.loop-i.invariant.1
 
 add-i : tie.Need-overflow_add-i invariant-loop decreases-loop
 add-i c = search rules
@@ -33,10 +33,10 @@ loop-less : tie.Need-loop-i-smaller invariant-loop decreases-loop
 loop-less c = search rules
 
 loop-again : tie.Need-loop-i-preserved invariant-loop decreases-loop
-loop-again c = (omega arith, closed_on _ _ _ c.before.before.loop-i-test.true c.if-interval_states-i-ne-CLOSED.false ∙ c.before.before.before.loop-i.invariant.1)
+loop-again c = (omega arith, closed_on _ _ _ c.loop-i-test.true c.if-interval_states-i-ne-CLOSED.false ∙ c.loop-i.invariant.1)
 
 returns-2 : tie.Need-returns invariant-loop decreases-loop
-returns-2 c = closed-end _ _ _ (omega arith) ∙ c.before.loop-i.invariant.1
+returns-2 c = closed-end _ _ _ (omega arith) ∙ c.loop-i.invariant.1
 
 pub all_closed_spec : {M : Type 1} → statement M
 all_closed_spec =

@@ -24,12 +24,11 @@ slice-read-if1 : tie.Need-bounds-interval_states-next invariant-loop decreases-l
 slice-read-if1 c = search rules
 
 same_length : tie.Need-shape_of-interval_states-then-interval_states-next invariant-loop decreases-loop
-same_length c = c.before.before.before.loop-next.invariant.0
+same_length c = c.loop-next.invariant.0
 
 returns : tie.Need-returns-then-interval_states-next invariant-loop decreases-loop
 returns c =
-    let loop = c.before.before.before in
-    let g = loop.loop-next.invariant.1 in
+    let g = c.loop-next.invariant.1 in
     (g.from, g.up_to, g.cells, g.own, λ l e. c.if-interval_states-next.true (emptying-next _ _ _ _ _ _ g ∙ e))
 
 mul-interval-states : tie.Need-offset_bounds-interval_states-next-in-loop-next invariant-loop decreases-loop
@@ -46,14 +45,13 @@ loop-less c = search rules
 
 loop-again : tie.Need-loop-next-preserved invariant-loop decreases-loop
 loop-again c =
-    let loop = c.before.before.before in
-    (simp length-set loop.loop-next.invariant.0, emptying-on _ _ _ _ _ _ loop.loop-next.invariant.1 (omega arith) c.if-interval_states-next.false)
+    (simp length-set c.loop-next.invariant.0, emptying-on _ _ _ _ _ _ c.loop-next.invariant.1 (omega arith) c.if-interval_states-next.false)
 
 same-length-2 : tie.Need-shape_of-interval_states invariant-loop decreases-loop
-same-length-2 c = c.before.loop-next.invariant.0
+same-length-2 c = c.loop-next.invariant.0
 
 returns-2 : tie.Need-returns invariant-loop decreases-loop
-returns-2 c = let g = c.before.loop-next.invariant.1 in (g.from, g.up_to, g.cells, g.own, λ l e. omega arith)
+returns-2 c = let g = c.loop-next.invariant.1 in (g.from, g.up_to, g.cells, g.own, λ l e. omega arith)
 
 pub clear_run_spec : {M : Type 1} → statement M
 clear_run_spec =

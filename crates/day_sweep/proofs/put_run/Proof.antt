@@ -18,8 +18,7 @@ same_length c = search rules
 
 returns : tie.Need-returns-then-a-c
 returns c =
-    let put = c.before.before in
-    run-there _ _ _ _ _ _ put.before.before.before.if-a-c.true put.before.span.ensures put.put.ensures
+    run-there _ _ _ _ _ _ c.if-a-c.true c.span.ensures c.put.ensures
 
 returns-2 : tie.Need-returns
 returns-2 c = run_none _ _ _ _ c.if-a-c.false

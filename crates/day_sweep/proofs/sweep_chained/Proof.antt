@@ -17,34 +17,29 @@ decreases-loop out₀ chain minute-cuts interval-states₀ n class₀ place₀ o
 
 loop-holds : tie.Need-loop-class-init invariant-loop decreases-loop
 loop-holds c =
-    let entry = c.before.before.before.before in
-    (record { between = (omega arith, omega arith); room = omega arith; lengths = (refl, refl); finishes = λ t r h. h }, entry.requires.1.1)
+    (record { between = (omega arith, omega arith); room = omega arith; lengths = (refl, refl); finishes = λ t r h. h }, c.requires.1.1)
 
 all-closed-requires : tie.Need-all_closed-requires invariant-loop decreases-loop
 all-closed-requires c κs =
-    let loop = c.before.before in
-    let entry = loop.before.before.before.before.before in
-    omega (arith, loop.loop.invariant.0.lengths.1, entry.requires.0)
+    omega (arith, c.loop.invariant.0.lengths.1, c.requires.0)
 
 same_length : tie.Need-shape_of-out-then-all_closed invariant-loop decreases-loop
-same_length c = c.before.before.before.before.loop.invariant.0.lengths.0
+same_length c = c.loop-class.invariant.0.lengths.0
 
 same-length-2 : tie.Need-shape_of-interval_states-then-all_closed invariant-loop decreases-loop
-same-length-2 c = c.before.before.before.before.loop.invariant.0.lengths.1
+same-length-2 c = c.loop-class.invariant.0.lengths.1
 
 returns : tie.Need-returns-then-all_closed invariant-loop decreases-loop
 returns c =
-    classes-closed _ _ _ _ _ _ _ _ c.before.before.before.before.loop.invariant.0 (sym c.before.all_closed.ensures ∙ c.if-all_closed.true)
+    classes-closed _ _ _ _ _ _ _ _ c.loop-class.invariant.0 (sym c.all_closed.ensures ∙ c.if-all_closed.true)
 
 sweep-class-requires : tie.Need-sweep_class-place-requires invariant-loop decreases-loop
 sweep-class-requires c κs =
-    let turn = c.before.before.before.before.before in
-    let loop = turn.before in
-    let pre = loop.before.before.before.before.before.requires in
-    let on = loop.loop.invariant.0 in
-    let more = turn.loop-test.true in (
+    let pre = c.requires in
+    let on = c.loop.invariant.0 in
+    let more = c.loop-test.true in (
       (on.between.0, omega (arith, pre.0), omega (arith, pre.0, on.room, on.between, more)),
-      ((omega (arith, pre.0), omega (arith, pre.0), omega (arith, pre.0, on.lengths)), (pre.1.0, loop.loop.invariant.1)),
+      ((omega (arith, pre.0), omega (arith, pre.0), omega (arith, pre.0, on.lengths)), (pre.1.0, c.loop.invariant.1)),
     )
 
 add-class : tie.Need-overflow_add-class invariant-loop decreases-loop
@@ -55,25 +50,22 @@ loop-less c = search rules
 
 loop-again : tie.Need-loop-class-preserved invariant-loop decreases-loop
 loop-again c =
-    let sweep-class = c.before.before.before.before in
-    let turn = sweep-class.before.before.before.before.before.before in
-    let loop = turn.before in
-    let few = loop.before.before.before.before.before.requires.0.0 in
-    let swept = sweep-class.sweep_class-place.ensures in
-    let kept = sweep-class.sweep_class-place.auto in (
-      classes-on _ _ _ _ _ _ _ _ loop.loop.invariant.0 turn.loop-test.true (omega (arith, few)) _ _ _ (swept.0, swept.1, swept.2) swept.3
+    let few = c.requires.0.0 in
+    let swept = c.sweep_class-place.ensures in
+    let kept = c.sweep_class-place.auto in (
+      classes-on _ _ _ _ _ _ _ _ c.loop.invariant.0 c.loop-test.true (omega (arith, few)) _ _ _ (swept.0, swept.1, swept.2) swept.3
           (kept.0, kept.1.1.1.1.0),
       swept.4,
     )
 
 same-length-3 : tie.Need-shape_of-out invariant-loop decreases-loop
-same-length-3 c = c.before.loop-class.invariant.0.lengths.0
+same-length-3 c = c.loop-class.invariant.0.lengths.0
 
 same-length-4 : tie.Need-shape_of-interval_states invariant-loop decreases-loop
-same-length-4 c = c.before.loop-class.invariant.0.lengths.1
+same-length-4 c = c.loop-class.invariant.0.lengths.1
 
 returns-2 : tie.Need-returns invariant-loop decreases-loop
-returns-2 c = classes-done _ _ _ _ _ _ _ _ c.before.loop-class.invariant.0 (omega arith)
+returns-2 c = classes-done _ _ _ _ _ _ _ _ c.loop-class.invariant.0 (omega arith)
 
 pub sweep_chained_spec : {M : Type 1} → statement M
 sweep_chained_spec =

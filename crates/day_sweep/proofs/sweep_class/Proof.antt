@@ -22,17 +22,14 @@ decreases-loop out₀ at chain minute-cuts interval-states₀ class n i₀ place
 
 loop-holds : tie.Need-loop-i-init invariant-loop decreases-loop
 loop-holds c =
-    let entry = c.before.before.before.before in
-    ((omega arith, omega arith), (refl, refl), sweeping-start _ _ _ _ _ _, entry.requires.1.1.1)
+    ((omega arith, omega arith), (refl, refl), sweeping-start _ _ _ _ _ _, c.requires.1.1.1)
 
 mul-s : tie.Need-offset_bounds-interval_states-i invariant-loop decreases-loop
 mul-s c = search rules
 
 slice-read-s : tie.Need-bounds-interval_states-i invariant-loop decreases-loop
 slice-read-s c =
-    let loop = c.before.before in
-    let entry = loop.before.before.before.before.before in
-    omega (arith, c.before.loop-i-test.true, loop.loop-i.invariant.1.1, entry.requires.1.0)
+    omega (arith, c.loop-i-test.true, c.loop-i.invariant.1.1, c.requires.1.0)
 
 state-class-requires : tie.Need-state_class-requires invariant-loop decreases-loop
 state-class-requires c κs = search rules
@@ -45,25 +42,20 @@ loop-less c = search rules
 
 loop-again : tie.Need-loop-i-preserved-then-state_class-class invariant-loop decreases-loop
 loop-again c =
-    let turn = c.before.before.before in
-    let loop = turn.before in
-    let inv = loop.loop-i.invariant in (
-      (omega (arith, turn.loop-i-test.true), omega (arith, inv.0, turn.loop-i-test.true)),
+    let inv = c.loop-i.invariant in (
+      (omega (arith, c.loop-i-test.true), omega (arith, inv.0, c.loop-i-test.true)),
       inv.1,
-      sweeping-skips _ _ _ _ _ _ _ _ _ _ inv.2 turn.loop-i-test.true _ c.before.state_class.ensures c.if-state_class-class.true,
+      sweeping-skips _ _ _ _ _ _ _ _ _ _ inv.2 c.loop-i-test.true _ c.state_class.ensures c.if-state_class-class.true,
       inv.3,
     )
 
 take-state-requires : tie.Need-take_state-place-requires invariant-loop decreases-loop
 take-state-requires c κs =
-    let if1 = c.before.before in
-    let turn = if1.before.before.before in
-    let loop = turn.before in
-    let inv = loop.loop-i.invariant in
-    let pre = loop.before.before.before.before.before.requires in
-    let more = turn.loop-i-test.true in (
+    let inv = c.loop-i.invariant in
+    let pre = c.requires in
+    let more = c.loop-i-test.true in (
       (more, omega (arith, inv.0, more, pre.0), omega (arith, pre.1.0), omega (arith, pre.1.0), omega (arith, pre.1.0, inv.1)),
-      (pre.1.1.0, (refl, not_plain _ _ _ pre.0.0 if1.before.state_class.ensures if1.if-state_class-class.false, inv.3)),
+      (pre.1.1.0, (refl, not_plain _ _ _ pre.0.0 c.state_class.ensures c.if-state_class-class.false, inv.3)),
     )
 
 add-i-2 : tie.Need-overflow_add-i-in-loop-i invariant-loop decreases-loop
@@ -71,36 +63,30 @@ add-i-2 c = search rules
 
 loop-less-2 : tie.Need-loop-i-smaller invariant-loop decreases-loop
 loop-less-2 c =
-    let turn = c.before.before.before.before.before.before.before.before.before.before in
-    omega (arith, turn.loop-i-test.true)
+    omega (arith, c.loop-i-test.true)
 
 loop-again-2 : tie.Need-loop-i-preserved invariant-loop decreases-loop
 loop-again-2 c =
-    let take-state = c.before.before.before.before in
-    let if1 = take-state.before.before.before in
-    let state-class = if1.before in
-    let turn = state-class.before.before in
-    let loop = turn.before in
-    let inv = loop.loop-i.invariant in
-    let more = turn.loop-i-test.true in
-    let pre = loop.before.before.before.before.before.requires in
-    let taken = take-state.take_state-place.ensures in
-    let kept = take-state.take_state-place.auto in (
+    let inv = c.loop-i.invariant in
+    let more = c.loop-i-test.true in
+    let pre = c.requires in
+    let taken = c.take_state-place.ensures in
+    let kept = c.take_state-place.auto in (
       (omega (arith, more), omega (arith, more, inv.0, taken.3, pre.0)),
       (kept.0 ∙ inv.1.0, kept.1.1.1.1.0 ∙ inv.1.1),
-      sweeping-takes _ _ _ _ _ _ _ _ _ _ inv.2 more _ state-class.state_class.ensures if1.if-state_class-class.false _ _ (taken.0, taken.1) _ taken.2,
+      sweeping-takes _ _ _ _ _ _ _ _ _ _ inv.2 more _ c.state_class.ensures c.if-state_class-class.false _ _ (taken.0, taken.1) _ taken.2,
       chained-clear _ _ _ _ _ _ (omega (arith, more, inv.1, pre.1.0)) _ taken.2 inv.3,
     )
 
 same_length : tie.Need-shape_of-out invariant-loop decreases-loop
-same_length c = c.before.loop-i.invariant.1.0
+same_length c = c.loop-i.invariant.1.0
 
 same-length-2 : tie.Need-shape_of-interval_states invariant-loop decreases-loop
-same-length-2 c = c.before.loop-i.invariant.1.1
+same-length-2 c = c.loop-i.invariant.1.1
 
 returns : tie.Need-returns invariant-loop decreases-loop
 returns c =
-    let inv = c.before.loop-i.invariant in
+    let inv = c.loop-i.invariant in
     let h = sweeping-ends _ _ _ _ _ _ _ _ _ _ inv.2 (omega (arith, c.loop-i-test.false)) in
     (h.0, h.1, h.2, omega (arith, inv.0), inv.3)
 

@@ -15,9 +15,8 @@ link-requires c κs = search rules
 
 sweep-chained-requires : tie.Need-sweep_chained-requires
 sweep-chained-requires c κs =
-    let link = c.before.before.before.before.before.before in
-    let pre = link.before.before.before.before.before.before.before.before.before.requires in
-    ((pre.0.0, omega (arith, link.link.auto.0, pre.0.1), pre.0.2, pre.0.3), (pre.1, link.link.ensures))
+    let pre = c.requires in
+    ((pre.0.0, omega (arith, c.link.auto.0, pre.0.1), pre.0.2, pre.0.3), (pre.1, c.link.ensures))
 
 same_length : tie.Need-shape_of-out
 same_length c = search rules

@@ -20,60 +20,44 @@ decreases-loop out₀ at chain minute-cuts interval-states₀ s j n i₀ place�
 
 loop-holds : tie.Need-loop-i-init invariant-loop decreases-loop
 loop-holds c =
-    let pre = c.before.before.before.before.requires in
+    let pre = c.requires in
     (refl, refl, pre.1.1.2, taking-start _ _ _ _ _ _ _ pre.0.0 pre.1.1.0)
 
 clear-run-requires : tie.Need-clear_run-end-requires invariant-loop decreases-loop
 clear-run-requires c κs =
-    let loop = c.before.before in
-    let entry = loop.before.before.before.before.before in
-    (loop.loop-i.invariant.3.up_to, omega (arith, loop.loop-i.invariant.1, entry.requires.0.4))
+    (c.loop-i.invariant.3.up_to, omega (arith, c.loop-i.invariant.1, c.requires.0.4))
 
 mul-put-run : tie.Need-offset_bounds-minute_cuts-i invariant-loop decreases-loop
 mul-put-run c = search rules
 
 shared-slice-read-put-run : tie.Need-bounds-minute_cuts-i invariant-loop decreases-loop
 shared-slice-read-put-run c =
-    let loop = c.before.before.before.before.before.before.before in
-    let entry = loop.before.before.before.before.before in
-    omega (arith, loop.loop-i.invariant.3.up_to, entry.requires.0.3)
+    omega (arith, c.loop-i.invariant.3.up_to, c.requires.0.3)
 
 mul-put-run-2 : tie.Need-offset_bounds-minute_cuts-end invariant-loop decreases-loop
 mul-put-run-2 c = search rules
 
 shared-slice-read-put-run-2 : tie.Need-bounds-minute_cuts-end invariant-loop decreases-loop
 shared-slice-read-put-run-2 c =
-    let clear-run = c.before.before.before.before.before in
-    let entry = clear-run.before.before.before.before.before.before.before.before in
-    omega (arith, clear-run.clear_run-end.ensures.1, entry.requires.0.3)
+    omega (arith, c.clear_run-end.ensures.1, c.requires.0.3)
 
 put-run-requires : tie.Need-put_run-place-requires invariant-loop decreases-loop
 put-run-requires c κs =
-    let clear-run = c.before.before.before.before.before in
-    let loop = clear-run.before.before.before in
-    let entry = loop.before.before.before.before.before in
-    let taking = loop.loop-i.invariant.3 in
-    let small = entry.requires.1.0 in
-    (omega (arith, taking.room, entry.requires.0.1), small loop.loop-i.i taking.up_to, small clear-run.clear_run-end.result clear-run.clear_run-end.ensures.1)
+    let taking = c.loop-i.invariant.3 in
+    let small = c.requires.1.0 in
+    (omega (arith, taking.room, c.requires.0.1), small c.loop-i.i taking.up_to, small c.clear_run-end.result c.clear_run-end.ensures.1)
 
 sub-next-of : tie.Need-overflow_sub-end invariant-loop decreases-loop
 sub-next-of c =
-    let clear-run = c.before.before.before.before.before.before.before.before.before in
-    let turn = clear-run.before.before in
-    let loop = turn.before in
-    omega (arith, run_on _ _ _ _ _ _ _ _ _ _ _ loop.loop.invariant.3 turn.loop-test.true _ _ clear-run.clear-run.ensures)
+    omega (arith, run_on _ _ _ _ _ _ _ _ _ _ _ c.loop.invariant.3 c.loop-test.true _ _ c.clear_run.ensures)
 
 next-of-requires : tie.Need-next_of-i-requires invariant-loop decreases-loop
 next-of-requires c κs =
-    let clear-run = c.before.before.before.before.before.before.before.before.before in
-    let turn = clear-run.before.before in
-    let loop = turn.before in
-    let entry = loop.before.before.before.before.before in
-    let pre = entry.requires in
-    let run = clear-run.clear-run.ensures in
-    let inv = loop.loop.invariant in
-    let up = run_on _ _ _ _ _ _ _ _ _ _ _ inv.3 turn.loop-test.true _ _ run in (
-      (omega (arith, run.1, up), omega (arith, clear-run.clear-run.auto.0, inv.1, pre.0.4), pre.0.2),
+    let pre = c.requires in
+    let run = c.clear_run.ensures in
+    let inv = c.loop.invariant in
+    let up = run_on _ _ _ _ _ _ _ _ _ _ _ inv.3 c.loop-test.true _ _ run in (
+      (omega (arith, run.1, up), omega (arith, c.clear_run.auto.0, inv.1, pre.0.4), pre.0.2),
       (
         pre.1.1.1,
         cleared-on _ _ _ _ _ _ (omega (arith, run.0, run.1, inv.1, pre.0.4)) _ run.2 inv.2 pre.1.1.1 _ (λ l. run.3 _ (omega arith) (omega arith)),
@@ -82,35 +66,27 @@ next-of-requires c κs =
 
 loop-less : tie.Need-loop-i-smaller invariant-loop decreases-loop
 loop-less c =
-    let clear-run = c.before.before.before.before.before.before.before.before.before.before in
-    let turn = clear-run.before.before in
-    let loop = turn.before in
-    let up = run_on _ _ _ _ _ _ _ _ _ _ _ loop.loop.invariant.3 turn.loop-test.true _ _ clear-run.clear-run.ensures in
-    omega (arith, up, turn.loop-test.true, c.next_of-i.ensures.0)
+    let up = run_on _ _ _ _ _ _ _ _ _ _ _ c.loop.invariant.3 c.loop-test.true _ _ c.clear_run.ensures in
+    omega (arith, up, c.loop-test.true, c.next_of-i.ensures.0)
 
 loop-again : tie.Need-loop-i-preserved invariant-loop decreases-loop
 loop-again c =
-    let put-run = c.before.before.before.before in
-    let clear-run = put-run.before.before.before.before.before.before in
-    let turn = clear-run.before.before in
-    let loop = turn.before in
-    let entry = loop.before.before.before.before.before in
-    let run = clear-run.clear-run.ensures in
-    let inv = loop.loop.invariant in (
-      put-run.put-run.auto.0 ∙ inv.0,
-      clear-run.clear-run.auto.0 ∙ inv.1,
-      chained-clear _ _ _ _ _ _ (omega (arith, run.0, run.1, inv.1, entry.requires.0.4)) _ run.2 inv.2,
-      taking-on _ _ _ _ _ _ _ _ _ _ _ inv.3 turn.loop-test.true _ _ run _ _ put-run.put-run.ensures _ c.next_of-i.ensures,
+    let run = c.clear_run.ensures in
+    let inv = c.loop.invariant in (
+      c.put_run.auto.0 ∙ inv.0,
+      c.clear_run.auto.0 ∙ inv.1,
+      chained-clear _ _ _ _ _ _ (omega (arith, run.0, run.1, inv.1, c.requires.0.4)) _ run.2 inv.2,
+      taking-on _ _ _ _ _ _ _ _ _ _ _ inv.3 c.loop-test.true _ _ run _ _ c.put_run.ensures _ c.next_of-i.ensures,
     )
 
 same_length : tie.Need-shape_of-out invariant-loop decreases-loop
-same_length c = c.before.loop-i.invariant.0
+same_length c = c.loop-i.invariant.0
 
 same-length-2 : tie.Need-shape_of-interval_states invariant-loop decreases-loop
-same-length-2 c = c.before.loop-i.invariant.1
+same-length-2 c = c.loop-i.invariant.1
 
 returns : tie.Need-returns invariant-loop decreases-loop
-returns c = taking-ends _ _ _ _ _ _ _ _ _ _ _ c.before.loop-i.invariant.3 (omega (arith, c.loop-i-test.false))
+returns c = taking-ends _ _ _ _ _ _ _ _ _ _ _ c.loop-i.invariant.3 (omega (arith, c.loop-i-test.false))
 
 pub take_runs_spec : {M : Type 1} → statement M
 take_runs_spec =

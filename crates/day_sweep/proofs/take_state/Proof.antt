@@ -10,7 +10,7 @@ add-take-runs c = search rules
 
 take-runs-requires : tie.Need-take_runs-next-requires
 take-runs-requires c κs =
-    let pre = c.before.before.before.before.before.before.requires in
+    let pre = c.requires in
     ((pre.0.0, omega (arith, pre.0.1), pre.0.2, pre.0.3, pre.0.4), (pre.1.0, pre.1.1))
 
 add-write-head : tie.Need-overflow_add-at-2
@@ -30,10 +30,8 @@ same-length-2 c = search rules
 
 returns : tie.Need-returns
 returns c =
-    let head = c.before.before in
-    let runs = head.before.before.before.before.before.before in
-    let taken = runs.Take-runs.ensures in (
-      head-before _ _ _ _ _ _ _ taken.0 (omega (arith, taken.1)) head.write_head.ensures,
+    let taken = c.Take-runs.ensures in (
+      head-before _ _ _ _ _ _ _ taken.0 (omega (arith, taken.1)) c.write_head.ensures,
       taken.1,
       taken.2,
       taken.3,

@@ -30,85 +30,59 @@ pub +measure_entries_spec : {M : Type 1} → statement M
     (measure-entries-at t)
     measure-entries.Post
     (λ c.
-    let entry = c.before.before.before in
-    let args = entry.args in (
-      λ operator ends h. no_size _ operator ends args.item-counts.now args.words.now args.at args.words_left c.if1.true,
+    let args = c.args in (
+      λ operator ends h. no_size _ operator ends args.item_counts.now args.words.now args.at args.words_left c.if-words_left-eq0.true,
       omega arith,
       omega arith,
     ))
     (λ c.
-    let entry = c.before.before.before in
-    let pre = entry.requires in
-    let s = step _ _ _ _ _ c.if1.false refl pre.1.1.0 in
+    let pre = c.requires in
+    let s = step _ _ _ _ _ c.if-words_left-eq0.false refl pre.1.1.0 in
     omega (arith, s.within, pre.1.1.0.inside))
     (λ c. search rules)
     (λ c.
-    let entry = c.before.before.before.before in
-    let pre = entry.requires in
-    let s = step _ _ _ _ _ c.before.if1.false refl pre.1.1.0 in
+    let pre = c.requires in
+    let s = step _ _ _ _ _ c.if-words_left-eq0.false refl pre.1.1.0 in
     omega (arith, s.within, pre.1.1.0.inside))
     (λ c κs. search rules)
     (λ c.
-    let if1 = c.before.before in
-    let entry = if1.before.before.before in
-    let pre = entry.requires in
-    let s = step _ _ _ _ _ if1.if1.false c.u64-to-usize.ensures pre.1.1.0 in
+    let pre = c.requires in
+    let s = step _ _ _ _ _ c.if-words_left-eq0.false c.u64_to_usize-span_count.ensures pre.1.1.0 in
     omega (arith, s.within, pre.1.1.0.inside))
     (λ c κs.
-    let if1 = c.before.before in
-    let entry = if1.before.before.before in
-    let pre = entry.requires in
-    let s = step _ _ _ _ _ if1.if1.false c.u64-to-usize.ensures pre.1.1.0 in
+    let pre = c.requires in
+    let s = step _ _ _ _ _ c.if-words_left-eq0.false c.u64_to_usize-span_count.ensures pre.1.1.0 in
     (pre.1.0, (omega (arith, s.within, pre.1.1.0.inside), s.few)))
     (λ c.
-    let if1 = c.before.before.before in
-    let entry = if1.before.before.before in
-    let pre = entry.requires in
-    let s = step _ _ _ _ _ if1.if1.false c.before.u64-to-usize.ensures pre.1.1.0 in
+    let pre = c.requires in
+    let s = step _ _ _ _ _ c.if-words_left-eq0.false c.u64_to_usize-span_count.ensures pre.1.1.0 in
     omega (arith, s.within, pre.1.1.0.inside))
     (λ c.
-    let if1 = c.before.before.before in
-    let entry = if1.before.before.before in
-    let pre = entry.requires in
-    let s = step _ _ _ _ _ if1.if1.false c.before.u64-to-usize.ensures pre.1.1.0 in
+    let pre = c.requires in
+    let s = step _ _ _ _ _ c.if-words_left-eq0.false c.u64_to_usize-span_count.ensures pre.1.1.0 in
     omega (arith, s.within, pre.1.1.0.inside))
     (λ c.
-    let if1 = c.before.before.before in
-    let entry = if1.before.before.before in
-    let s = step _ _ _ _ _ if1.if1.false c.before.u64-to-usize.ensures entry.requires.1.1.0 in
+    let s = step _ _ _ _ _ c.if-words_left-eq0.false c.u64_to_usize-span_count.ensures c.requires.1.1.0 in
     omega (arith, s.within))
     (λ c.
-    let if1 = c.before.before.before in
-    let entry = if1.before.before.before in
-    let s = step _ _ _ _ _ if1.if1.false c.before.u64-to-usize.ensures entry.requires.1.1.0 in
+    let s = step _ _ _ _ _ c.if-words_left-eq0.false c.u64_to_usize-span_count.ensures c.requires.1.1.0 in
     omega (arith, s.within))
     (λ c κs.
-    let if1 = c.before.before.before in
-    let entry = if1.before.before.before in
-    let pre = entry.requires in
-    let s = step _ _ _ _ _ if1.if1.false c.before.u64-to-usize.ensures pre.1.1.0 in
+    let pre = c.requires in
+    let s = step _ _ _ _ _ c.if-words_left-eq0.false c.u64_to_usize-span_count.ensures pre.1.1.0 in
     (omega (arith, pre.0, s.within), (pre.1.0, (s.behind, omega (arith, pre.1.1.1)))))
     (λ c.
-    let entry = c.before.before.before.before.before.before.before.before in
-    omega (arith, c.before.measure-entries.ensures.1, entry.requires.1.1.1))
+    omega (arith, c.measure_entries-behind.ensures.1, c.requires.1.1.1))
     (λ c.
-    let at-measure-entries = c.before.before in
-    let rule-bits = at-measure-entries.before in
-    let entry = rule-bits.before.before.before.before.before.before in
-    omega (arith, at-measure-entries.measure-entries.ensures.2, rule-bits.rule-bits.ensures.1, entry.requires.1.1.1))
+    omega (arith, c.measure_entries-behind.ensures.2, c.rule_bits-first.ensures.1, c.requires.1.1.1))
     (λ c.
-    let at-measure-entries = c.before.before in
-    let rule-bits = at-measure-entries.before in
-    let cast = rule-bits.before in
-    let if1 = cast.before.before in
-    let entry = if1.before.before.before in
-    let a = entry.args in
-    let s = step _ _ _ _ _ if1.if1.false cast.u64-to-usize.ensures entry.requires.1.1.0 in (
+    let a = c.args in
+    let s = step _ _ _ _ _ c.if-words_left-eq0.false c.u64_to_usize-span_count.ensures c.requires.1.1.0 in (
       λ operator ends h. (
-        entries-count _ operator ends a.item-counts.now a.words.now a.at a.words_left _ s _ (at-measure-entries.measure-entries.ensures.0 1 ends h).0,
-        entries-size _ operator ends a.item-counts.now a.words.now a.at a.words_left _ s _ _ (rule-bits.rule-bits.ensures.0 operator _ ends h)
-            (at-measure-entries.measure-entries.ensures.0 1 ends h).1,
+        entries-count _ operator ends a.item_counts.now a.words.now a.at a.words_left _ s _ (c.measure_entries-behind.ensures.0 1 ends h).0,
+        entries-size _ operator ends a.item_counts.now a.words.now a.at a.words_left _ s _ _ (c.rule_bits-first.ensures.0 operator _ ends h)
+            (c.measure_entries-behind.ensures.0 1 ends h).1,
       ),
-      omega (arith, s.within, at-measure-entries.measure-entries.ensures.1),
-      omega (arith, s.within, at-measure-entries.measure-entries.ensures.2, rule-bits.rule-bits.ensures.1),
+      omega (arith, s.within, c.measure_entries-behind.ensures.1),
+      omega (arith, s.within, c.measure_entries-behind.ensures.2, c.rule_bits-first.ensures.1),
     ))

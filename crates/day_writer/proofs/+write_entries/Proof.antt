@@ -32,99 +32,66 @@ pub +write_entries_spec : {M : Type 1} → statement M
     (write-entries-at t)
     write-entries.Post
     (λ c.
-    let entry = c.before.before.before.before.before in
-    let args = entry.args in
-    wrote_none (no_bits _ args.operator args.ends.now args.item-counts.now args.words.now args.next args.words_left c.if1.true))
+    let args = c.args in
+    wrote_none (no_bits _ args.operator args.ends.now args.item_counts.now args.words.now args.next args.words_left c.if-words_left-eq0.true))
     (λ c.
-    let entry = c.before.before.before.before.before in
-    let pre = entry.requires in
-    let s = step _ _ _ _ _ c.if1.false refl pre.1.1.0 in
+    let pre = c.requires in
+    let s = step _ _ _ _ _ c.if-words_left-eq0.false refl pre.1.1.0 in
     omega (arith, s.within, pre.1.1.0.inside))
     (λ c. search rules)
     (λ c.
-    let entry = c.before.before.before.before.before.before in
-    let pre = entry.requires in
-    let s = step _ _ _ _ _ c.before.if1.false refl pre.1.1.0 in
+    let pre = c.requires in
+    let s = step _ _ _ _ _ c.if-words_left-eq0.false refl pre.1.1.0 in
     omega (arith, s.within, pre.1.1.0.inside))
     (λ c κs. search rules)
     (λ c. search rules)
     (λ c.
-    let cast = c.before.before in
-    let if1 = cast.before.before in
-    let entry = if1.before.before.before.before.before in
-    let pre = entry.requires in
-    let s = step _ _ _ _ _ if1.if1.false cast.u64-to-usize.ensures pre.1.1.0 in
+    let pre = c.requires in
+    let s = step _ _ _ _ _ c.if-words_left-eq0.false c.u64_to_usize-span_count.ensures pre.1.1.0 in
     omega (arith, s.within, pre.1.1.0.inside))
     (λ c.
-    let cast = c.before.before in
-    let if1 = cast.before.before in
-    let entry = if1.before.before.before.before.before in
-    let pre = entry.requires in
-    let s = step _ _ _ _ _ if1.if1.false cast.u64-to-usize.ensures pre.1.1.0 in
+    let pre = c.requires in
+    let s = step _ _ _ _ _ c.if-words_left-eq0.false c.u64_to_usize-span_count.ensures pre.1.1.0 in
     omega (arith, s.within, pre.1.1.0.inside))
     (λ c κs.
-    let cast = c.before.before in
-    let if1 = cast.before.before in
-    let entry = if1.before.before.before.before.before in
-    let args = entry.args in
-    let pre = entry.requires in
-    let s = step _ _ _ _ _ if1.if1.false cast.u64-to-usize.ensures pre.1.1.0 in
-    let bits = entries-bits _ args.operator args.ends.now args.item-counts.now args.words.now args.next args.words_left _ s in (
+    let args = c.args in
+    let pre = c.requires in
+    let s = step _ _ _ _ _ c.if-words_left-eq0.false c.u64_to_usize-span_count.ensures pre.1.1.0 in
+    let bits = entries-bits _ args.operator args.ends.now args.item_counts.now args.words.now args.next args.words_left _ s in (
       (pre.1.0, s.first.commented),
       (
-        (pre.1.1.1.0, (entry-countable _ args.ends.now args.item-counts.now pre.1.1.1.0.inside args.operator args.words.now args.next args.words_left _ s pre.1.1.1.1.0).0),
+        (pre.1.1.1.0, (entry-countable _ args.ends.now args.item_counts.now pre.1.1.1.0.inside args.operator args.words.now args.next args.words_left _ s pre.1.1.1.1.0).0),
         ((omega (arith, s.within, pre.1.1.0.inside), s.few, s.first.spanned), room-first _ _ (room_as bits pre.1.1.1.1.1)),
       ),
     ))
     (λ c.
-    let cast = c.before.before.before.before.before.before in
-    let if1 = cast.before.before in
-    let entry = if1.before.before.before.before.before in
-    let pre = entry.requires in
-    let s = step _ _ _ _ _ if1.if1.false cast.u64-to-usize.ensures pre.1.1.0 in
+    let pre = c.requires in
+    let s = step _ _ _ _ _ c.if-words_left-eq0.false c.u64_to_usize-span_count.ensures pre.1.1.0 in
     omega (arith, s.within, pre.1.1.0.inside))
     (λ c.
-    let cast = c.before.before.before.before.before.before in
-    let if1 = cast.before.before in
-    let entry = if1.before.before.before.before.before in
-    let pre = entry.requires in
-    let s = step _ _ _ _ _ if1.if1.false cast.u64-to-usize.ensures pre.1.1.0 in
+    let pre = c.requires in
+    let s = step _ _ _ _ _ c.if-words_left-eq0.false c.u64_to_usize-span_count.ensures pre.1.1.0 in
     omega (arith, s.within, pre.1.1.0.inside))
     (λ c.
-    let cast = c.before.before.before.before.before.before in
-    let if1 = cast.before.before in
-    let entry = if1.before.before.before.before.before in
-    let s = step _ _ _ _ _ if1.if1.false cast.u64-to-usize.ensures entry.requires.1.1.0 in
+    let s = step _ _ _ _ _ c.if-words_left-eq0.false c.u64_to_usize-span_count.ensures c.requires.1.1.0 in
     omega (arith, s.within))
     (λ c.
-    let cast = c.before.before.before.before.before.before in
-    let if1 = cast.before.before in
-    let entry = if1.before.before.before.before.before in
-    let s = step _ _ _ _ _ if1.if1.false cast.u64-to-usize.ensures entry.requires.1.1.0 in
+    let s = step _ _ _ _ _ c.if-words_left-eq0.false c.u64_to_usize-span_count.ensures c.requires.1.1.0 in
     omega (arith, s.within))
     (λ c κs.
-    let put-rule = c.before.before.before in
-    let cast = put-rule.before.before.before in
-    let if1 = cast.before.before in
-    let entry = if1.before.before.before.before.before in
-    let args = entry.args in
-    let pre = entry.requires in
-    let s = step _ _ _ _ _ if1.if1.false cast.u64-to-usize.ensures pre.1.1.0 in
-    let bits = entries-bits _ args.operator args.ends.now args.item-counts.now args.words.now args.next args.words_left _ s in (
+    let args = c.args in
+    let pre = c.requires in
+    let s = step _ _ _ _ _ c.if-words_left-eq0.false c.u64_to_usize-span_count.ensures pre.1.1.0 in
+    let bits = entries-bits _ args.operator args.ends.now args.item_counts.now args.words.now args.next args.words_left _ s in (
       omega (arith, pre.0, s.within),
       (
         omega arith,
-        (s.behind, (pre.1.1.1.0, ((entry-countable _ args.ends.now args.item-counts.now pre.1.1.1.0.inside args.operator args.words.now args.next args.words_left _ s pre.1.1.1.1.0).1, room-rest put-rule.put-rule.ensures _ (room_as bits pre.1.1.1.1.1)))),
+        (s.behind, (pre.1.1.1.0, ((entry-countable _ args.ends.now args.item_counts.now pre.1.1.1.0.inside args.operator args.words.now args.next args.words_left _ s pre.1.1.1.1.0).1, room-rest c.put_rule-behind.ensures _ (room_as bits pre.1.1.1.1.1)))),
       ),
     ))
     (λ c. search rules)
     (λ c.
-    let at-write-entries = c.before.before in
-    let put-rule = at-write-entries.before.before.before.before in
-    let cast = put-rule.before.before.before in
-    let if1 = cast.before.before in
-    let entry = if1.before.before.before.before.before in
-    let args = entry.args in
-    let s = step _ _ _ _ _ if1.if1.false cast.u64-to-usize.ensures entry.requires.1.1.0 in
-    wrote_as (entries-bits _ args.operator args.ends.now args.item-counts.now args.words.now args.next args.words_left _ s)
-    (wrote_then put-rule.put-rule.ensures at-write-entries.write-entries.ensures))
+    let args = c.args in
+    let s = step _ _ _ _ _ c.if-words_left-eq0.false c.u64_to_usize-span_count.ensures c.requires.1.1.0 in
+    wrote_as (entries-bits _ args.operator args.ends.now args.item_counts.now args.words.now args.next args.words_left _ s)
+    (wrote_then c.put_rule-behind.ensures c.write_entries.ensures))

@@ -16,27 +16,24 @@ decreases-loop item-counts most sort₀ sort = 4 - sort
 
 returns : tie.Need-returns-then-item_counts-sort invariant-loop decreases-loop
 returns c =
-    let loop = c.before.before.before in
-    let args = loop.before.before.before.args in
-    let counts = args.item-counts.now in
-    sym (many-here _ counts loop.loop-sort.sort (omega arith) c.if-item_counts-sort.true) ∙ loop.loop-sort.invariant.1 ∙ many-asked (as_form args.form) _ counts loop.before.most_items-most.ensures
+    let args = c.args in
+    let counts = args.item_counts.now in
+    sym (many-here _ counts c.loop-sort.sort (omega arith) c.if-item_counts-sort.true) ∙ c.loop-sort.invariant.1 ∙ many-asked (as_form args.form) _ counts c.most_items-most.ensures
 
 loop-again : tie.Need-loop-sort-preserved invariant-loop decreases-loop
 loop-again c =
-    let loop = c.before.before.before in
-    let args = loop.before.before.before.args in
-    let counts = args.item-counts.now in
-    (omega arith, sym (many-later _ counts loop.loop-sort.sort (omega arith) c.if-item_counts-sort.false) ∙ loop.loop-sort.invariant.1)
+    let args = c.args in
+    let counts = args.item_counts.now in
+    (omega arith, sym (many-later _ counts c.loop-sort.sort (omega arith) c.if-item_counts-sort.false) ∙ c.loop-sort.invariant.1)
 
 returns-2 : tie.Need-returns invariant-loop decreases-loop
 returns-2 c =
-    let loop = c.before in
-    let args = loop.before.before.before.args in
-    let counts = args.item-counts.now in
-    sym (many-ends _ counts loop.loop-sort.sort (omega arith)) ∙ loop.loop-sort.invariant.1 ∙ many-asked (as_form args.form) _ counts loop.before.most_items-most.ensures
+    let args = c.args in
+    let counts = args.item_counts.now in
+    sym (many-ends _ counts c.loop-sort.sort (omega arith)) ∙ c.loop-sort.invariant.1 ∙ many-asked (as_form args.form) _ counts c.most_items-most.ensures
 
 pub many_items_spec : {M : Type 1} → statement M
 many_items_spec =
     tie.close
-    (tie.spec invariant-loop decreases-loop (λ c κs. search rules) (λ c. (omega arith, refl)) (λ c. omega arith) (λ c. omega (arith, c.before.before.before.before.before.requires))
+    (tie.spec invariant-loop decreases-loop (λ c κs. search rules) (λ c. (omega arith, refl)) (λ c. omega arith) (λ c. omega (arith, c.requires))
     returns (λ c. omega arith) (λ c. omega arith) loop-again returns-2)

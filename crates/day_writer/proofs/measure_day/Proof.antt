@@ -18,45 +18,41 @@ use Rattle.day_writer.proofs.measure_day.Statement.{statement}
 use Rattle.day_writer.proofs.measure_day.Tie as tie
 
 -- the entries from the first word on, the first Normal
-sized : (c : tie.After-measure-entries) → let a = c.before.before.before.args in let m = c.measure-entries.result in
-    (ends : List ℕ) → row_place a.item-counts.now 4 ≤ length ends
-    → (length (day_rules (rows_below ends a.item-counts.now 4) (day_in a.words.now 0 a.count)) ≡ m.rules)
-    × (length (rules_bits (as_form a.form) (day_rules (rows_below ends a.item-counts.now 4) (day_in a.words.now 0 a.count))) ≡ m.bits)
+sized : (c : tie.After-measure-entries) → let a = c.before.before.before.args in let m = c.measure_entries.result in
+    (ends : List ℕ) → row_place a.item_counts.now 4 ≤ length ends
+    → (length (day_rules (rows_below ends a.item_counts.now 4) (day_in a.words.now 0 a.count)) ≡ m.rules)
+    × (length (rules_bits (as_form a.form) (day_rules (rows_below ends a.item_counts.now 4) (day_in a.words.now 0 a.count))) ≡ m.bits)
 sized c ends h =
     let a = c.before.before.before.args in
-    let same = sym (entries-day (rows_below ends a.item-counts.now 4) (day_in a.words.now 0 a.count)) in
-    let measured = c.measure-entries.ensures.0 0 ends h in
+    let same = sym (entries-day (rows_below ends a.item_counts.now 4) (day_in a.words.now 0 a.count)) in
+    let measured = c.measure_entries.ensures.0 0 ends h in
     (ap length same ∙ measured.0, ap (λ rs. length (rules_bits (as_form a.form) rs)) same ∙ measured.1)
 
 returns : tie.Need-returns-then-size-gt0
 returns c =
-    let measured = c.before.before in
-    let entry = measured.before.before.before in
-    let a = entry.args in (
+    let a = c.args in (
       λ ends h.
-          let size = sized measured ends h in (
+          let size = sized c ends h in (
             size.0,
             size.1,
-            some-counted (as_form a.form) ends a.item-counts.now h (items-wide a.form) _ entry.requires.1.0.carried _ size.0 c.before.if-size-gt0.true ∙ sym c.many_items.ensures,
+            some-counted (as_form a.form) ends a.item_counts.now h (items-wide a.form) _ c.requires.1.0.carried _ size.0 c.if-size-gt0.true ∙ sym c.many_items.ensures,
           ),
-      measured.measure_entries-size.ensures.1,
-      measured.measure_entries-size.ensures.2,
+      c.measure_entries-size.ensures.1,
+      c.measure_entries-size.ensures.2,
     )
 
 returns-2 : tie.Need-returns-else-size-gt0
 returns-2 c =
-    let measured = c.before in
-    let entry = measured.before.before.before in
-    let a = entry.args in (
+    let a = c.args in (
       λ ends h.
-          let size = sized measured ends h in (
+          let size = sized c ends h in (
             size.0,
             size.1,
-            none-counted (as_form a.form) ends a.item-counts.now h (items-wide a.form) _ entry.requires.1.0.carried _ size.0 (omega (arith, c.if-size-gt0.false))
-                ∙ sym (le-ltb 0 measured.measure_entries-size.result.rules (omega (arith, c.if-size-gt0.false))),
+            none-counted (as_form a.form) ends a.item_counts.now h (items-wide a.form) _ c.requires.1.0.carried _ size.0 (omega (arith, c.if-size-gt0.false))
+                ∙ sym (le-ltb 0 c.measure_entries-size.result.rules (omega (arith, c.if-size-gt0.false))),
           ),
-      measured.measure_entries-size.ensures.1,
-      measured.measure_entries-size.ensures.2,
+      c.measure_entries-size.ensures.1,
+      c.measure_entries-size.ensures.2,
     )
 
 pub measure_day_spec : {M : Type 1} → statement M

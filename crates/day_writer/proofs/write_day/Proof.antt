@@ -14,17 +14,16 @@ use Rattle.day_writer.proofs.write_day.Tie as tie
 
 write-entries-requires : tie.Need-write_entries-requires
 write-entries-requires c κs =
-    let entry = c.before.before.before.before.before in
-    let a = entry.args in
-    let pre = entry.requires in (
+    let a = c.args in
+    let pre = c.requires in (
       omega arith,
       (
         pre.0,
         (
           pre.1.0,
           (
-            ap (any_of (many_items (as_form a.form))) (entries-day (rows_below a.ends.now a.item-counts.now 4) (day_in a.words.now 0 a.count)) ∙ pre.1.1.0,
-            room_as (ap (rules_bits (as_form a.form)) (sym (entries-day (rows_below a.ends.now a.item-counts.now 4) (day_in a.words.now 0 a.count)))) pre.1.1.1,
+            ap (any_of (many_items (as_form a.form))) (entries-day (rows_below a.ends.now a.item_counts.now 4) (day_in a.words.now 0 a.count)) ∙ pre.1.1.0,
+            room_as (ap (rules_bits (as_form a.form)) (sym (entries-day (rows_below a.ends.now a.item_counts.now 4) (day_in a.words.now 0 a.count)))) pre.1.1.1,
           ),
         ),
       ),
@@ -32,11 +31,9 @@ write-entries-requires c κs =
 
 returns : tie.Need-returns
 returns c =
-    let write_entries = c.before.before in
-    let entry = write_entries.before.before.before.before.before.before in
-    let a = entry.args in
-    wrote_as (ap (rules_bits (as_form a.form)) (sym (entries-day (rows_below a.ends.now a.item-counts.now 4) (day_in a.words.now 0 a.count))))
-    write_entries.write_entries.ensures
+    let a = c.args in
+    wrote_as (ap (rules_bits (as_form a.form)) (sym (entries-day (rows_below a.ends.now a.item_counts.now 4) (day_in a.words.now 0 a.count))))
+    c.write_entries.ensures
 
 pub write_day_spec : {M : Type 1} → statement M
 write_day_spec = tie.close (tie.spec write-entries-requires (λ c. search rules) returns)

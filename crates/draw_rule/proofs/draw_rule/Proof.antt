@@ -14,14 +14,10 @@ draw_rule_spec =
     (tie.spec
     (λ c κs. search rules) (λ c. search rules) (λ c κs. search rules) (λ c. search rules)
     (λ c κs.
-    let found = c.before.before.before.before.before in
-    let table = found.before.before in
-    let pre = table.before.before.before.before.before.before.before.before.before.requires in
-    let planned = runs-planned pre.1.0 pre.1.1.dims (omega (arith, found.find_runs.auto.0, table.no-runs.ensures)) found.find_runs.ensures in
+    let pre = c.requires in
+    let planned = runs-planned pre.1.0 pre.1.1.dims (omega (arith, c.find_runs.auto.0, c.no_runs-runs.ensures)) c.find_runs.ensures in
     (making-start pre.0, (planned, (nodes-all pre.1.1, omega arith))))
     (λ c. search rules) (λ c. search rules) (λ c. search rules)
     (λ c.
-    let walk = c.before.before.before.before.before.before in
-    let found = walk.before.before.before.before.before.before in
-    let pre = found.before.before.before.before.before.before.before.before.before.before.before.requires in
-    rule-drawn _ _ _ _ _ _ found.find_runs.ensures pre.1.1 pre.0 walk.draw-weekdays.auto.0 walk.draw-weekdays.auto.1.0 walk.draw-weekdays.ensures))
+    let pre = c.requires in
+    rule-drawn _ _ _ _ _ _ c.find_runs.ensures pre.1.1 pre.0 c.draw_weekdays.auto.0 c.draw_weekdays.auto.1.0 c.draw_weekdays.ensures))

@@ -6,16 +6,14 @@ use Rattle.draw_rules.proofs.draw_row.Tie as tie
 
 draw-rule-requires : tie.Need-draw_rule-requires
 draw-rule-requires c κs =
-    let entry = c.before.before.before.before.before.before.before.before.before.before.before.before.before in
-    let a = entry.args in
-    let pre = entry.pre in
+    let a = c.args in
+    let pre = c.pre in
     (pre.1.1.0, (lent-lawful _ _ _ _ _ a.rule pre.1.0, pre.1.1.1))
 
 returns : tie.Need-returns
 returns c =
-    let drawing = c.before.before.before.before.before.before in
-    let a = drawing.before.before.before.before.before.before.before.before.before.before.before.before.before.before.args in
-    lent-drew a.sizes.now a.range-counts.now a.row-starts.now a.cuts.now a.ranges.now a.rule _ _ _ _ _ _ _ _ _ drawing.draw_rule.ensures
+    let a = c.args in
+    lent-drew a.sizes.now a.range_counts.now a.row_starts.now a.cuts.now a.ranges.now a.rule _ _ _ _ _ _ _ _ _ c.draw_rule.ensures
 
 pub draw_row_spec : {M : Type 1} → statement M
 draw_row_spec =

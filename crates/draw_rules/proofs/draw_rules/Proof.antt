@@ -39,50 +39,48 @@ settling c = c.before.before.before.before.before.before.before
 
 draw-row-requires : tie.Need-draw_row-drawn-requires invariant-loop decreases-loop
 draw-row-requires c κs =
-    let loop-test = c.before.before.before.before in
-    let loop = loop-test.before in
-    let pre = (start loop).requires in
-    let inv = loop.loop-rule.invariant in
+    let pre = (start c).requires in
+    let inv = c.loop-rule.invariant in
     let t = pre.0.1 in
-    let here = loop-test.loop-rule-test.true in
+    let here = c.loop-rule-test.true in
     let places = places-kept _ _ inv.1 inv.2 inv.3 pre.1.places in (
       rule-there _ _ _ _ _ _ _ _ t _ here,
       (
         tables-lawful _ _ _ _ _ _ _ _ t _ here,
-        (going-ready _ _ _ _ _ _ _ _ _ _ _ _ _ places inv.4 inv.5 inv.6 _ t, going-node _ _ _ _ _ _ _ _ _ loop.loop-rule.memo _ _ _ places inv.4 inv.5 inv.6 _ t),
+        (going-ready _ _ _ _ _ _ _ _ _ _ _ _ _ places inv.4 inv.5 inv.6 _ t, going-node _ _ _ _ _ _ _ _ _ c.loop-rule.memo _ _ _ places inv.4 inv.5 inv.6 _ t),
       ),
     )
 
 -- 6
 returns : tie.Need-returns-then-drawn invariant-loop decreases-loop
 returns c =
-    let draws = drawing c.before in
+    let draws = drawing c in
     let loop-test = turn draws in
     let loop = loop-test.before in
     let pre = (start loop).pre in
     let inv = loop.loop.inv in
     let places = places-kept _ _ inv.1 inv.2 inv.3 pre.1.places in
     λ rs t. going-long _ _ _ _ _ _ _ _ _ loop.loop.memo _ _ _ places inv.4 inv.5 inv.6 loop-test.loop-test.taken
-    _ _ _ _ _ draws.draw-row.ensures c.if-drawn.true _ _ rs t
+    _ _ _ _ _ draws.draw_row.ensures c.if-drawn.true _ _ rs t
 
 settle-requires : tie.Need-settle-used-requires invariant-loop decreases-loop
 settle-requires c κs =
-    let draws = drawing c.before.before.before.before in
+    let draws = drawing c in
     let loop-test = turn draws in
     let loop = loop-test.before in
     let pre = (start loop).pre in
     let inv = loop.loop.inv in
     let places = places-kept _ _ inv.1 inv.2 inv.3 pre.1.places in
-    let after = places-kept _ _ draws.draw-row.kept.0 draws.draw-row.kept.1.0 draws.draw-row.kept.1.1.0 places in (
+    let after = places-kept _ _ draws.draw_row.kept.0 draws.draw_row.kept.1.0 draws.draw_row.kept.1.1.0 places in (
       going-settles _ _ _ _ _ _ _ _ _ loop.loop.memo _ _ _ places inv.4 inv.5 inv.6 loop-test.loop-test.taken
-          _ _ _ _ _ draws.draw-row.ensures draws.draw-row.kept.1.1.0,
+          _ _ _ _ _ draws.draw_row.ensures draws.draw_row.kept.1.1.0,
       (places.few, after.enough),
     )
 
 -- 14
 returns-2 : tie.Need-returns-then-lists_over invariant-loop decreases-loop
 returns-2 c =
-    let settles = settling c.before in
+    let settles = settling c in
     let draws = drawn settles in
     let loop-test = turn draws in
     let loop = loop-test.before in
@@ -90,76 +88,71 @@ returns-2 c =
     let inv = loop.loop.inv in
     let places = places-kept _ _ inv.1 inv.2 inv.3 pre.1.places in
     λ rs t. going-many _ _ _ _ _ _ _ _ _ loop.loop.memo _ _ _ places inv.4 inv.5 inv.6 loop-test.loop-test.taken
-    _ _ _ _ _ draws.draw-row.ensures draws.draw-row.kept.0
-    settles.before.before.before.before.if1.left _ _ _ _ settles.settle.ensures (sym c.before.lists_over.ensures ∙ c.if-lists_over.true) rs t
+    _ _ _ _ _ draws.draw_row.ensures draws.draw_row.kept.0
+    settles.before.before.before.before.if1.left _ _ _ _ settles.settle.ensures (sym c.lists_over.ensures ∙ c.if-lists_over.true) rs t
 
 loop-again : tie.Need-loop-rule-preserved invariant-loop decreases-loop
 loop-again c =
-    let settles = settling c.before in
+    let settles = settling c in
     let draws = drawn settles in
     let loop-test = turn draws in
     let loop = loop-test.before in
     let pre = (start loop).pre in
     let inv = loop.loop.inv in
     let places = places-kept _ _ inv.1 inv.2 inv.3 pre.1.places in
-    let few = sym c.before.lists_over.ensures ∙ c.if-lists_over.false in (
+    let few = sym c.lists_over.ensures ∙ c.if-lists_over.false in (
       omega (arith, loop-test.loop-test.taken),
-      settles.settle.kept.0 ∙ draws.draw-row.kept.0 ∙ inv.1,
-      settles.settle.kept.1.0 ∙ draws.draw-row.kept.1.0 ∙ inv.2,
-      settles.settle.kept.1.1.0 ∙ draws.draw-row.kept.1.1.0 ∙ inv.3,
+      settles.settle.kept.0 ∙ draws.draw_row.kept.0 ∙ inv.1,
+      settles.settle.kept.1.0 ∙ draws.draw_row.kept.1.0 ∙ inv.2,
+      settles.settle.kept.1.1.0 ∙ draws.draw_row.kept.1.1.0 ∙ inv.3,
       settles.settle.ensures.few (ltb-false _ _ few),
       settles.settle.ensures.memoed,
       going_next _ _ _ _ _ _ _ _ _ loop.loop.memo _ _ _ places inv.4 inv.5 inv.6 loop-test.loop-test.taken
-          _ _ _ _ _ draws.draw-row.ensures draws.draw-row.kept.0
+          _ _ _ _ _ draws.draw_row.ensures draws.draw_row.kept.0
           settles.before.before.before.before.if1.left _ _ _ _ settles.settle.ensures few,
     )
 
 reclaim-requires : tie.Need-reclaim-requires invariant-loop decreases-loop
 reclaim-requires c κs =
-    let loop = c.before.before.before.before in
-    let pre = (start loop).requires in
-    let inv = loop.loop-rule.invariant in
+    let pre = (start c).requires in
+    let inv = c.loop-rule.invariant in
     let places = places-kept _ _ inv.1 inv.2 inv.3 pre.1.places in
-    let ready = going-ready _ _ _ _ _ _ _ _ _ loop.loop-rule.memo _ _ _ places inv.4 inv.5 inv.6 _ pre.0.1 in
+    let ready = going-ready _ _ _ _ _ _ _ _ _ c.loop-rule.memo _ _ _ places inv.4 inv.5 inv.6 _ pre.0.1 in
     (ready.store, ready.many, omega (arith, ready.few))
 
 returns-3 : tie.Need-returns invariant-loop decreases-loop
 returns-3 c =
-    let reclaiming = c.before.before.before.before.before.before in
-    let loop-test = reclaiming.before.before.before.before in
-    let loop = loop-test.before in
-    let pre = (start loop).requires in
-    let inv = loop.loop-rule.invariant in
+    let pre = (start c).requires in
+    let inv = c.loop-rule.invariant in
     let places = places-kept _ _ inv.1 inv.2 inv.3 pre.1.places in
-    λ rs t. going_end _ _ _ _ _ _ _ _ _ loop.loop-rule.memo _ _ _ places inv.6 loop-test.loop-rule-test.false inv.0
-    _ _ _ _ reclaiming.reclaim.auto.0 reclaiming.reclaim.ensures rs t
+    λ rs t. going_end _ _ _ _ _ _ _ _ _ c.loop-rule.memo _ _ _ places inv.6 c.loop-rule-test.false inv.0
+    _ _ _ _ c.reclaim.auto.0 c.reclaim.ensures rs t
 
 pub draw_rules_spec : {M : Type 1} → statement M
 draw_rules_spec =
     tie.close
     (tie.spec
     invariant-loop decreases-loop
-    (λ c. let pre = c.before.before.before.before.before.before.before.before.before.requires in omega (arith, pre.1.places.some))
+    (λ c. let pre = c.requires in omega (arith, pre.1.places.some))
     (λ c.
-    let pre = c.before.before.before.before.before.before.before.before.before.requires in
+    let pre = c.requires in
     (omega arith, refl, refl, refl, omega arith, λ k. omega (arith, pre.1.unmade k), going_start _ _ _ _ _ _ _ _ _ pre.1.unnamed))
     (λ c.
-    let loop-test = c.before.before.before.before in
-    let t = (start loop-test.before).pre.0.1 in
-    omega (arith, loop-test.loop-test.true, t.0.0.many, t.0.1.all-replacing))
+    let t = (start c).pre.0.1 in
+    omega (arith, c.loop-rule-test.true, t.0.0.many, t.0.1.all-replacing))
     draw-row-requires
-    (λ c. let draws = drawing c.before in draws.draw-row.kept.0 ∙ (turn draws).before.loop.inv.1)
-    (λ c. let draws = drawing c.before in draws.draw-row.kept.1.0 ∙ (turn draws).before.loop.inv.2)
-    (λ c. let draws = drawing c.before in draws.draw-row.kept.1.1.0 ∙ (turn draws).before.loop.inv.3)
+    (λ c. let draws = drawing c in draws.draw_row.kept.0 ∙ (turn draws).before.loop.inv.1)
+    (λ c. let draws = drawing c in draws.draw_row.kept.1.0 ∙ (turn draws).before.loop.inv.2)
+    (λ c. let draws = drawing c in draws.draw_row.kept.1.1.0 ∙ (turn draws).before.loop.inv.3)
     returns settle-requires (λ c κs. search rules)
-    (λ c. let settles = settling c.before in settles.settle.kept.0 ∙ (drawn settles).draw-row.kept.0 ∙ (turn (drawn settles)).before.loop.inv.1)
-    (λ c. let settles = settling c.before in settles.settle.kept.1.0 ∙ (drawn settles).draw-row.kept.1.0 ∙ (turn (drawn settles)).before.loop.inv.2)
-    (λ c. let settles = settling c.before in settles.settle.kept.1.1.0 ∙ (drawn settles).draw-row.kept.1.1.0 ∙ (turn (drawn settles)).before.loop.inv.3)
+    (λ c. let settles = settling c in settles.settle.kept.0 ∙ (drawn settles).draw_row.kept.0 ∙ (turn (drawn settles)).before.loop.inv.1)
+    (λ c. let settles = settling c in settles.settle.kept.1.0 ∙ (drawn settles).draw_row.kept.1.0 ∙ (turn (drawn settles)).before.loop.inv.2)
+    (λ c. let settles = settling c in settles.settle.kept.1.1.0 ∙ (drawn settles).draw_row.kept.1.1.0 ∙ (turn (drawn settles)).before.loop.inv.3)
     returns-2
-    (λ c. let loop-test = turn (drawn (settling c.before)) in omega (arith, loop-test.loop-test.taken, (start loop-test.before).pre.0.1.0.0.few-rules))
-    (λ c. omega (arith, (turn (drawn (settling c.before))).loop-test.taken))
+    (λ c. let loop-test = turn (drawn (settling c)) in omega (arith, loop-test.loop-test.taken, (start loop-test.before).pre.0.1.0.0.few-rules))
+    (λ c. omega (arith, (turn (drawn (settling c))).loop-test.taken))
     loop-again reclaim-requires
-    (λ c. let reclaims = c.before.before.before.before.before.before in reclaims.reclaim.auto.0 ∙ reclaims.before.before.before.before.before.loop.invariant.1)
-    (λ c. let reclaims = c.before.before.before.before.before.before in reclaims.reclaim.auto.1.0 ∙ reclaims.before.before.before.before.before.loop.invariant.2)
-    (λ c. let reclaims = c.before.before.before.before.before.before in reclaims.reclaim.auto.1.1.0 ∙ reclaims.before.before.before.before.before.loop.invariant.3)
+    (λ c. c.reclaim.auto.0 ∙ c.loop-rule.invariant.1)
+    (λ c. c.reclaim.auto.1.0 ∙ c.loop-rule.invariant.2)
+    (λ c. c.reclaim.auto.1.1.0 ∙ c.loop-rule.invariant.3)
     returns-3)

@@ -18,35 +18,28 @@ decreases-loop sheet first past number₀ index₀ number index = past - index
 
 loop-holds : tie.Need-loop-index-init invariant-loop decreases-loop
 loop-holds c =
-    let first = c.before.args.first in
+    let first = c.args.first in
     let none : 8 * (first - first) ≡ 0 = omega arith in
     (omega arith, omega arith, sym (ap (field_at _ (8 * first)) none ∙ field-none _ (8 * first)))
 
 mul-number : tie.Need-overflow_mul-number invariant-loop decreases-loop
 mul-number c =
-    let start = c.before.before.before in
-    let loop = c.before.loop-index in
-    let bytes = known_bytes start.args.sheet.now (λ j. omega (arith, c.before.before.shared_slice_known-1.given j)) in
-    omega (arith, bytes_below start.args.sheet.now bytes start.args.first (loop.index - start.args.first) 7 (omega arith) (omega arith))
+    let loop = c.loop-index in
+    let bytes = known_bytes c.args.sheet.now (λ j. omega (arith, c.shared_slice_known-1.given j)) in
+    omega (arith, bytes_below c.args.sheet.now bytes c.args.first (loop.index - c.args.first) 7 (omega arith) (omega arith))
 
 add-number : tie.Need-overflow_add-number invariant-loop decreases-loop
 add-number c =
-    let at-loop = c.before.before.before in
-    let known = at-loop.before in
-    let start = known.before in
-    let args = start.args in
-    let loop = at-loop.loop-index in
-    let bytes = known_bytes args.sheet.now (λ j. omega (arith, known.shared_slice_known-1.given j)) in
+    let args = c.args in
+    let loop = c.loop-index in
+    let bytes = known_bytes args.sheet.now (λ j. omega (arith, c.shared_slice_known-1.given j)) in
     omega (arith, bytes_below args.sheet.now bytes args.first (loop.index - args.first) 7 (omega arith) (omega arith), c.u8_to_u64.ensures.1)
 
 loop-again : tie.Need-loop-index-preserved invariant-loop decreases-loop
 loop-again c =
-    let at-loop = c.before.before.before in
-    let known = at-loop.before in
-    let start = known.before in
-    let args = start.args in
-    let loop = at-loop.loop-index in
-    let bytes = known_bytes args.sheet.now (λ j. omega (arith, known.shared_slice_known-1.given j)) in (
+    let args = c.args in
+    let loop = c.loop-index in
+    let bytes = known_bytes args.sheet.now (λ j. omega (arith, c.shared_slice_known-1.given j)) in (
       omega arith,
       omega arith,
       omega (arith, bytes-more args.sheet.now bytes args.first loop.index (omega arith) (omega arith), loop.invariant.2, c.u8_to_u64.ensures.0),
@@ -54,10 +47,9 @@ loop-again c =
 
 returns : tie.Need-returns invariant-loop decreases-loop
 returns c =
-    let start = c.before.before.before in
-    let loop = c.before.loop-index in
-    let all : loop.index ≡ start.args.past = omega arith in
-    loop.invariant.2 ∙ ap (λ k. field_at (sheet_bits start.args.sheet.now) (8 * start.args.first) (8 * (k - start.args.first))) all
+    let loop = c.loop-index in
+    let all : loop.index ≡ c.args.past = omega arith in
+    loop.invariant.2 ∙ ap (λ k. field_at (sheet_bits c.args.sheet.now) (8 * c.args.first) (8 * (k - c.args.first))) all
 
 pub bytes_at_spec : {M : Type 1} → statement M
 bytes_at_spec =

@@ -6,4 +6,4 @@ use Rattle.field.proofs.comment_at.Tie as tie
 
 pub comment_at_spec : {M : Type 1} → statement M
 comment_at_spec =
-    tie.close (tie.spec (λ c κs. search rules) (λ c κs. search rules) (λ c. rw (sym c.before.comment-width.ensures.0) c.take_at.ensures))
+    tie.close (tie.spec (λ c κs. search rules) (λ c κs. search rules) (λ c. rw (sym c.comment_width.ensures.0) c.take_at.ensures))

@@ -10,21 +10,20 @@ use Rattle.field.proofs.field_at.Tie as tie
 
 first-of-many : tie.Need-returns-then-at-sheet
 first-of-many c =
-    let width = c.before.before.before.args.width in
+    let width = c.args.width in
     let all : width + (56 - width) ≡ 56 = omega arith in
     wide-front c.wide_at.ensures width (56 - width) all
 
 bytes-at-requires : tie.Need-bytes_at-spanned-requires
-bytes-at-requires c κs = let args = c.before.before.args in (omega arith, omega (arith, spanned args.at args.width), omega arith)
+bytes-at-requires c κs = let args = c.args in (omega arith, omega (arith, spanned args.at args.width), omega arith)
 
 spanned-bytes : tie.Need-returns
 spanned-bytes c =
-    let start = c.before.before.before.before in
-    let at = start.args.at in
-    let width = start.args.width in
-    let bytes = known_bytes start.args.sheet.now (λ j. omega (arith, c.before.before.before.shared_slice_known-1.given j)) in
-    c.low_bits.ensures ∙ ap (λ number. number / 2 ^ behind at width % 2 ^ width) c.before.bytes_at-spanned.ensures
-    ∙ spanned-field at width start.args.sheet.now bytes start.requires.2
+    let at = c.args.at in
+    let width = c.args.width in
+    let bytes = known_bytes c.args.sheet.now (λ j. omega (arith, c.shared_slice_known-1.given j)) in
+    c.low_bits.ensures ∙ ap (λ number. number / 2 ^ behind at width % 2 ^ width) c.bytes_at-spanned.ensures
+    ∙ spanned-field at width c.args.sheet.now bytes c.requires.2
 
 pub field_at_spec : {M : Type 1} → statement M
 field_at_spec =

@@ -10,12 +10,8 @@ pub step_at_spec : {M : Type 1} → statement M
 step_at_spec =
     tie.close
     (tie.spec (λ c κs. search rules) (λ c. search rules) (λ c. search rules)
-    (λ c. still-refused _ _ _ _ _ _ c.before.before.take_at.ensures _ _ c.enum_told.given.1)
+    (λ c. still-refused _ _ _ _ _ _ c.take_at-taken.ensures _ _ c.in_default.is)
     (λ c.
-    let taken = c.before.before in
-    let take = taken.before.before in
-    test-failed _ _ _ _ _ _ take.take_at.ensures _ _ taken.taken.given.1 (lt-leb 1 taken.taken.given.0.0 (omega arith)))
+    test-failed _ _ _ _ _ _ c.take_at-taken.ensures _ _ c.in-Value.is (lt-leb 1 c.in-Value.value (omega arith)))
     (λ c.
-    let taken = c.before.before in
-    let take = taken.before.before in
-    test-passed _ _ _ _ _ _ take.take_at.ensures _ _ taken.taken.given.1 (le-leb 1 taken.taken.given.0.0 (omega arith))))
+    test-passed _ _ _ _ _ _ c.take_at-taken.ensures _ _ c.in-Value.is (le-leb 1 c.in-Value.value (omega arith))))

@@ -4,4 +4,4 @@ use Rattle.field.proofs.week_at.Statement.{statement}
 use Rattle.field.proofs.week_at.Tie as tie
 
 pub week_at_spec : {M : Type 1} → statement M
-week_at_spec = tie.close (tie.spec (λ c κs. search rules) (λ c. c.within-at.ensures))
+week_at_spec = tie.close (tie.spec (λ c κs. search rules) (λ c. c.within_at.ensures))

@@ -11,11 +11,10 @@ use Rattle.field.proofs.wide_at.Tie as tie
 
 returns : tie.Need-returns
 returns c =
-    let known = c.before in
-    let args = known.before.args in
-    let bytes = known_bytes args.sheet.now (λ j. omega (arith, known.shared_slice_known-1.given j)) in
+    let args = c.args in
+    let bytes = known_bytes args.sheet.now (λ j. omega (arith, c.shared_slice_known-1.given j)) in
     let all : 8 * (args.at / 8 + 8 - args.at / 8) ≡ 64 = omega arith in
-    eight-bytes args.sheet.now bytes args.at c.bytes_at.result known.before.requires.1
+    eight-bytes args.sheet.now bytes args.at c.bytes_at.result c.requires.1
     (c.bytes_at.ensures ∙ ap (field_at (sheet_bits args.sheet.now) (8 * (args.at / 8))) all)
 
 pub wide_at_spec : {M : Type 1} → statement M

@@ -19,33 +19,24 @@ above v lowest upper l = not-true (holds v (lowest, upper)) (λ h. let k = holds
 
 too-low : tie.Need-returns-then-value-lowest
 too-low c =
-    let known = c.before.before in
-    let take = known.before.before in
-    let entry = take.before.before in
-    let args = entry.args in
-    test-failed _ _ _ _ _ _ take.take_at-taken.ensures _ _ known.taken-1.given.1
-    (below known.taken-1.given.0.0 args.lowest args.upper (omega arith))
+    let args = c.args in
+    test-failed _ _ _ _ _ _ c.take_at-taken.ensures _ _ c.in-Value.is
+    (below c.in-Value.value args.lowest args.upper (omega arith))
 
 within : tie.Need-returns-then-value-upper
 within c =
-    let known = c.before.before.before in
-    let take = known.before.before in
-    let entry = take.before.before in
-    let args = entry.args in
-    test-passed _ _ _ _ _ _ take.take_at-taken.ensures _ _ known.taken-1.given.1
-    (in-holds known.taken-1.given.0.0 (args.lowest, args.upper) (omega arith) (omega arith))
+    let args = c.args in
+    test-passed _ _ _ _ _ _ c.take_at-taken.ensures _ _ c.in-Value.is
+    (in-holds c.in-Value.value (args.lowest, args.upper) (omega arith) (omega arith))
 
 too-high : tie.Need-returns-else-value-upper
 too-high c =
-    let known = c.before.before.before in
-    let take = known.before.before in
-    let entry = take.before.before in
-    let args = entry.args in
-    test-failed _ _ _ _ _ _ take.take_at-taken.ensures _ _ known.taken-1.given.1
-    (above known.taken-1.given.0.0 args.lowest args.upper (omega arith))
+    let args = c.args in
+    test-failed _ _ _ _ _ _ c.take_at-taken.ensures _ _ c.in-Value.is
+    (above c.in-Value.value args.lowest args.upper (omega arith))
 
 pub within_at_spec : {M : Type 1} → statement M
 within_at_spec =
     tie.close
     (tie.spec (λ c κs. search rules) (λ c. search rules) (λ c. search rules)
-    (λ c. still-refused _ _ _ _ _ _ c.before.before.take_at.ensures _ _ c.enum_told.given.1) too-low within too-high)
+    (λ c. still-refused _ _ _ _ _ _ c.take_at-taken.ensures _ _ c.in_default.is) too-low within too-high)

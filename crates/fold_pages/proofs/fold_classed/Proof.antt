@@ -23,37 +23,34 @@ name c = c.before.before.before.before.before.before
 -- ## What is needed there
 number-lists-requires : tie.Need-number_lists-requires
 number-lists-requires c κs =
-    let entry = c.before.before.before.before.before.before.before.before.before.before.before.before.before.before in
-    let a = entry.args in
-    let given = entry.requires.0 in
-    let room = entry.requires.1 in (
-      list-ready a.states.now a.span_counts.now a.spans.now given.0 given.1 a.row-starts.now a.sizes.now a.cuts.now
+    let a = c.args in
+    let given = c.requires.0 in
+    let room = c.requires.1 in (
+      list-ready a.states.now a.span_counts.now a.spans.now given.0 given.1 a.row_starts.now a.sizes.now a.cuts.now
           a.cells.now a.lists.now a.used (store-names _ _ _ _ _ _ _ given.2),
       record { hashed = room.2; numbered = room.0; classed = room.1; few = omega (arith, given.2.stored.few) },
     )
 
 rename-requires : tie.Need-rename-requires
 rename-requires c κs =
-    let step = c.before.before.before.before.before.before.before.before in
-    let entry = start step in
-    λ box. omega (arith, entry.pre.0.2.stored.store.names box, entry.pre.1.0, step.number-lists.auto.1.1.1.1.1.1.0)
+    let entry = start c in
+    λ box. omega (arith, entry.pre.0.2.stored.store.names box, entry.pre.1.0, c.number_lists.auto.1.1.1.1.1.1.0)
 
 pop-groups-requires : tie.Need-pop_groups-stop-requires
 pop-groups-requires c κs =
-    let renamed = c.before.before.before.before.before in
-    let numbered = (number renamed).number-lists in
-    let entry = start (number renamed) in
+    let numbered = (number c).number_lists in
+    let entry = start (number c) in
     let a = entry.args in
     let given = entry.pre.0 in
     let cut = given.2.cut in
-    let one_Cell = renamed.rename.auto.0 ∙ given.2.one_Cell in (
-      (one_Cell, given.2.few-boxes, record { dims = omega (arith, cut.four); filled = cut.filled; below = omega (arith, one_Cell) }),
+    let one_Cell = c.rename.auto.0 ∙ given.2.one_Cell in (
+      (one_Cell, given.2.few_boxes, record { dims = omega (arith, cut.four); filled = cut.filled; below = omega (arith, one_Cell) }),
       (
-        rows_cut a.states.now a.span_counts.now a.spans.now given.0 given.1 a.row-starts.now a.sizes.now a.cuts.now
+        rows_cut a.states.now a.span_counts.now a.spans.now given.0 given.1 a.row_starts.now a.sizes.now a.cuts.now
             a.cells.now a.lists.now a.used (store-names _ _ _ _ _ _ _ given.2),
         (
-          empty-class a.states.now a.span_counts.now a.spans.now a.row-starts.now a.sizes.now a.cuts.now a.lists.now
-              a.cells.now _ _ _ a.used given.0 given.1 (store-names _ _ _ _ _ _ _ given.2) numbered.ensures renamed.rename.ensures,
+          empty-class a.states.now a.span_counts.now a.spans.now a.row_starts.now a.sizes.now a.cuts.now a.lists.now
+              a.cells.now _ _ _ a.used given.0 given.1 (store-names _ _ _ _ _ _ _ given.2) numbered.ensures c.rename.ensures,
           omega (arith, entry.pre.1.3, numbered.kept.1.1.1.1.1.0),
         ),
       ),
@@ -61,27 +58,25 @@ pop-groups-requires c κs =
 
 count-pages-requires : tie.Need-count_pages-requires
 count-pages-requires c κs =
-    let pop = c.before.before.before.before.before in
-    let popped = pop.pop-groups in
-    let renamed = name pop in
-    let numbered = (number renamed).number-lists in
+    let popped = c.pop_groups in
+    let renamed = name c in
+    let numbered = (number renamed).number_lists in
     let entry = start (number renamed) in
     let a = entry.args in
     let given = entry.pre.0 in
-    let ended = pages-end a.states.now a.span_counts.now a.spans.now a.row-starts.now a.sizes.now a.cuts.now a.lists.now
+    let ended = pages-end a.states.now a.span_counts.now a.spans.now a.row_starts.now a.sizes.now a.cuts.now a.lists.now
     a.cells.now _ _ _ a.used given.0 given.1 (store-names _ _ _ _ _ _ _ given.2) numbered.ensures renamed.rename.ensures numbered.last.1.1.1.1.1.0 _
     (omega (arith, entry.pre.1.3, numbered.kept.1.1.1.1.1.0)) popped.ensures.1 _ popped.ensures.0 in
     (ended.0, omega (arith, ended.1, popped.auto.1.1.1.1.1.0))
 
 returns : tie.Need-returns
 returns c =
-    let pop = c.before.before.before.before.before.before in
-    let popped = pop.pop-groups in
-    let renamed = name pop in
-    let numbered = (number renamed).number-lists in
+    let popped = c.pop_groups in
+    let renamed = name c in
+    let numbered = (number renamed).number_lists in
     let entry = start (number renamed) in
     let a = entry.args in
-    λ rs form tables boxed commented. pages-folded a.states.now a.span_counts.now a.spans.now a.row-starts.now a.sizes.now a.cuts.now
+    λ rs form tables boxed commented. pages-folded a.states.now a.span_counts.now a.spans.now a.row_starts.now a.sizes.now a.cuts.now
     a.lists.now a.cells.now _ _ _ a.used rs tables (store-names _ _ _ _ _ _ _ boxed) numbered.ensures renamed.rename.ensures numbered.last.1.1.1.1.1.0 _
     (omega (arith, entry.pre.1.3, numbered.kept.1.1.1.1.1.0)) popped.ensures.1 _ popped.ensures.0 form commented _ c.count_pages.ensures
 

@@ -10,11 +10,10 @@ fold_pages_spec =
     (tie.spec
     (λ c κs. search rules) (λ c. search rules)
     (λ c κs.
-    let branch = c.before.before.before.before.before in
-    let pre = branch.before.before.before.before.before.before.before.before.before.before.before.requires in
-    (pre.0, (pre.1.0, omega (arith, branch.if1.true, c.before.before.before.before.few-day-classes.ensures), pre.1.1, pre.1.2)))
+    let pre = c.requires in
+    (pre.0, (pre.1.0, omega (arith, c.if-used-le64.true, c.few_day_classes-classes.ensures), pre.1.1, pre.1.2)))
     (λ c. search rules) (λ c. search rules) (λ c. search rules) (λ c. search rules) (λ c κs. search rules) (λ c. search rules)
     (λ c κs.
-    let pre = c.before.before.before.before.before.before.before.before.before.before.before.before.before.before.before.before.requires in
-    (pre.0, (pre.1.0, omega (arith, pre.0.2.stored.few, c.before.before.before.before.day-classes.ensures), pre.1.1, pre.1.2)))
+    let pre = c.requires in
+    (pre.0, (pre.1.0, omega (arith, pre.0.2.stored.few, c.day_classes-classes.ensures), pre.1.1, pre.1.2)))
     (λ c. search rules) (λ c. search rules) (λ c. search rules) (λ c. search rules))

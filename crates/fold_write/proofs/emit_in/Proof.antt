@@ -32,28 +32,28 @@ asking c = c.before.before
 enough : (c : tie.Else2)
     → let measured = measuring (asking (counting c.before)) in
     let args = (start measured).args in
-    (c.before.before.before.opening-width.result + measured.measure-pages.result.bits + (args.left.end - args.left.start) + 7) / 8 ≤ length args.out.now
-enough c = ltb-false _ _ (sym c.before.lacks-room.ensures ∙ c.if2.false)
+    (c.before.before.before.opening_width.result + measured.measure_pages.result.bits + (args.left.end - args.left.start) + 7) / 8 ≤ length args.out.now
+enough c = ltb-false _ _ (sym c.before.lacks_room.ensures ∙ c.if2.false)
 
 add-rules : tie.Need-overflow-add-rules
-add-rules c = let measured = c.before.before.before.before.before.before in let pre = (start measured).requires.0 in omega (arith, measured.measure-pages.ensures.3, pre.1.few, pre.2.left-few)
+add-rules c = let measured = c.before.before.before.before.before.before in let pre = (start measured).requires.0 in omega (arith, measured.measure_pages.ensures.3, pre.1.few, pre.2.left-few)
 
 returns : tie.Need-returns
 returns c =
     let asked = c.before.before.before in
     let measured = measuring asked in
-    λ rs paged leaving. let m = measured.measure-pages.ensures in
-    let past = not-counted (start measured).args.form paged leaving m.0 m.2 asked.most-rules.ensures c.before.if1.true (start measured).args.out.now in
-    (c.fold-refused.ensures ∙ past.0, past.1)
+    λ rs paged leaving. let m = measured.measure_pages.ensures in
+    let past = not-counted (start measured).args.form paged leaving m.0 m.2 asked.most_rules.ensures c.before.if1.true (start measured).args.out.now in
+    (c.fold_refused.ensures ∙ past.0, past.1)
 
 returns-2 : tie.Need-returns-2
 returns-2 c =
     let room = c.before.before in
     let branch = counting room in
     let measured = measuring (asking branch) in
-    λ rs paged leaving. let m = measured.measure-pages.ensures in
-    let lacking = ltb-true _ _ (sym room.lacks-room.ensures ∙ c.before.if2.true) in
-    let full = no_room_lem (start measured).args.form paged leaving m.0 m.1 room.before.before.opening-width.ensures.0 m.2 (asking branch).most-rules.ensures
+    λ rs paged leaving. let m = measured.measure_pages.ensures in
+    let lacking = ltb-true _ _ (sym room.lacks_room.ensures ∙ c.before.if2.true) in
+    let full = no_room_lem (start measured).args.form paged leaving m.0 m.1 room.before.before.opening_width.ensures.0 m.2 (asking branch).most_rules.ensures
     branch.if1.left (start measured).args.out.now lacking in
     (c.fold-refused2.ensures ∙ full.0, full.1)
 
@@ -65,8 +65,8 @@ write-sheet-requires c κs =
     let measured = measuring asked in
     let paged = (start measured).pre.0.1 in
     let leaving = (start measured).pre.0.2 in
-    let m = measured.measure-pages.ensures in
-    let opened = fitting.before.before.before.opening-width.ensures in
+    let m = measured.measure_pages.ensures in
+    let opened = fitting.before.before.before.opening_width.ensures in
     let form = (start measured).args.form in
     let long = row-bits form paged leaving m.0 m.1 opened.0 in (
       (start measured).pre.1.0,
@@ -75,9 +75,9 @@ write-sheet-requires c κs =
         (
           (leaving.ordered, leaving.inside, omega (arith, leaving.low)),
           (
-            count_fits form paged leaving m.0 m.2 asked.most-rules.ensures branch.if1.left,
+            count_fits form paged leaving m.0 m.2 asked.most_rules.ensures branch.if1.left,
             (
-              countable form paged leaving m.0 m.2 asked.most-rules.ensures branch.if1.left,
+              countable form paged leaving m.0 m.2 asked.most_rules.ensures branch.if1.left,
               (omega (arith, long, enough fitting), omega (arith, long, m.4, paged.few, leaving.low, opened.1)),
             ),
           ),
@@ -91,19 +91,19 @@ returns-3 c =
     let fitting = wrote.before.before.before.before in
     let branch = counting fitting.before in
     let measured = measuring (asking branch) in
-    λ rs paged leaving. let m = measured.measure-pages.ensures in
-    with-room (start measured).args.form paged leaving m.0 m.1 fitting.before.before.before.opening-width.ensures.0 m.2 (asking branch).most-rules.ensures
-    branch.if1.left (start measured).args.out.now _ (enough fitting) wrote.write-sheet.ensures
+    λ rs paged leaving. let m = measured.measure_pages.ensures in
+    with-room (start measured).args.form paged leaving m.0 m.1 fitting.before.before.before.opening_width.ensures.0 m.2 (asking branch).most_rules.ensures
+    branch.if1.left (start measured).args.out.now _ (enough fitting) wrote.write_sheet.ensures
 
 -- what the result takes fits a machine word
 short : (c : tie.After-opening-width)
     → let measured = measuring (asking c.before) in
-    (c.opening-width.result + measured.measure-pages.result.bits < 2 ^ 50) × ((start measured).args.left.start ≤ (start measured).args.left.end)
+    (c.opening_width.result + measured.measure_pages.result.bits < 2 ^ 50) × ((start measured).args.left.start ≤ (start measured).args.left.end)
     × ((start measured).args.left.end < 2 ^ 32)
 short c =
     let measured = measuring (asking c.before) in
     let pre = (start measured).pre.0 in
-    (omega (arith, c.opening-width.ensures.1, measured.measure-pages.ensures.4, pre.1.few), pre.2.ordered, omega (arith, pre.2.low))
+    (omega (arith, c.opening_width.ensures.1, measured.measure_pages.ensures.4, pre.1.few), pre.2.ordered, omega (arith, pre.2.low))
 
 pub emit-in-spec : {M : Type 1} → statement M
 emit-in-spec =

@@ -24,7 +24,7 @@ write-pages-requires c κs =
     let page = paged_rules a.states.now a.span_counts.now a.spans.now a.lists.now a.pages.now a.count in
     let others = between a.sheet.now a.start a.end in
     let pre = entry.requires.1 in
-    let room = rules-room _ a.rules page others a.out.now pre.1.1.1.1.0 pre.1.1.1.1.1 c.before.before.before.before.before.put-opening.ensures in
+    let room = rules-room _ a.rules page others a.out.now pre.1.1.1.1.0 pre.1.1.1.1.1 c.before.before.before.before.before.put_opening.ensures in
     (entry.requires.0, (pre.0, (pre.1.1.1.0, room)))
 
 put-left-requires : tie.Need-put-left-requires
@@ -36,8 +36,8 @@ put-left-requires c κs =
     let page = paged_rules a.states.now a.span_counts.now a.spans.now a.lists.now a.pages.now a.count in
     let others = between a.sheet.now a.start a.end in
     let pre = entry.requires.1 in
-    let room = others-room _ a.rules page others a.out.now pre.1.1.1.1.0 pre.1.1.1.1.1 put-opening.put-opening.ensures
-    write-pages.write-pages.ensures in
+    let room = others-room _ a.rules page others a.out.now pre.1.1.1.1.0 pre.1.1.1.1.1 put-opening.put_opening.ensures
+    write-pages.write_pages.ensures in
     (pre.1.0, (omega (arith, room.0, between-length a.sheet.now a.start a.end pre.1.0.0 pre.1.0.1), room.1))
 
 returns : tie.Need-returns
@@ -51,8 +51,8 @@ returns c =
     let others = between a.sheet.now a.start a.end in
     let pre = entry.requires.1 in
     let long = between-length a.sheet.now a.start a.end pre.1.0.0 pre.1.0.1 in
-    sheet-written _ a.rules page others a.out.now pre.1.1.1.1.0 pre.1.1.1.1.1 put-opening.put-opening.ensures write-pages.write-pages.ensures
-    long c.before.before.put-left.ensures (λ j. omega (arith, slice-known.slice-known.given j)) (λ j. omega (arith, c.slice-known8.given j))
+    sheet-written _ a.rules page others a.out.now pre.1.1.1.1.0 pre.1.1.1.1.1 put-opening.put_opening.ensures write-pages.write_pages.ensures
+    long c.before.before.put_left.ensures (λ j. omega (arith, slice-known.slice-known.given j)) (λ j. omega (arith, c.slice-known8.given j))
 
 pub write-sheet-spec : {M : Type 1} → statement M
 write-sheet-spec = tie.close (tie.spec put-opening-requires write-pages-requires put-left-requires (λ c. search rules) (λ c. search rules) (λ c. search rules) returns)

@@ -22,5 +22,5 @@ pub comment_over_spec : {M : Type 1} → statement M
 comment_over_spec =
     tie.close
     (tie.spec (λ c. search rules) (λ c. search rules)
-    (λ c. above 65535 c.before.before.args.comment ∙ sym (ap (λ f. leb (2 ^ (as_form f).comment) c.before.before.args.comment) c.enum_told.given.1))
-    (λ c. above 16777215 c.before.before.args.comment ∙ sym (ap (λ f. leb (2 ^ (as_form f).comment) c.before.before.args.comment) c.enum-told2.given.1)))
+    (λ c. above 65535 c.args.comment ∙ sym (ap (λ f. leb (2 ^ (as_form f).comment) c.args.comment) c.in-One.is))
+    (λ c. above 16777215 c.args.comment ∙ sym (ap (λ f. leb (2 ^ (as_form f).comment) c.args.comment) c.in-Two.is)))

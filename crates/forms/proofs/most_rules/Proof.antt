@@ -10,5 +10,5 @@ pub most_rules_spec : {M : Type 1} → statement M
 most_rules_spec =
     tie.close
     (tie.spec (λ c. search rules) (λ c. search rules)
-    (λ c. sym (ap (λ f. most_rules (as_form f)) c.enum_told.given.1))
-    (λ c. sym (ap (λ f. most_rules (as_form f)) c.enum-told2.given.1)))
+    (λ c. sym (ap (λ f. most_rules (as_form f)) c.in-One.is))
+    (λ c. sym (ap (λ f. most_rules (as_form f)) c.in-Two.is)))

@@ -9,5 +9,5 @@ use Rattle.forms.proofs.other_form.Tie as tie
 pub other_form_spec : {M : Type 1} → statement M
 other_form_spec =
     tie.close
-    (tie.spec (λ c. search rules) (λ c. search rules) (λ c. sym (ap (λ f. other (as_form f)) c.enum_told.given.1))
-    (λ c. sym (ap (λ f. other (as_form f)) c.enum-told2.given.1)))
+    (tie.spec (λ c. search rules) (λ c. search rules) (λ c. sym (ap (λ f. other (as_form f)) c.in-One.is))
+    (λ c. sym (ap (λ f. other (as_form f)) c.in-Two.is)))

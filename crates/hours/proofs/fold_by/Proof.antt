@@ -42,7 +42,7 @@ returns-3 c =
     let told = c.before in
     let form = told.before.before in
     let unknown = form-unknown refusal (answer (start form)) (start form).args.form _ form.form_of.ensures told.enum_told.given.1 in
-    of-same numbers (λ w. w.result) (start form).args.out.now unknown (c.fold-refused.ensures, refl)
+    of-same numbers (λ w. w.result) (start form).args.out.now unknown (c.fold_refused.ensures, refl)
 
 pub fold-by-spec : {M : Type 1} → statement M
 fold-by-spec =

@@ -37,7 +37,7 @@ unfolding lookup_in
 returns-3 c =
     let told = c.before in
     let form = told.before.before in
-    c.lookup-refused.ensures
+    c.lookup_refused.ensures
     ∙ sym (form-unknown refusal (answer (start form)) (start form).args.form _ form.form_of.ensures told.enum_told.given.1)
 
 pub lookup-spec : {M : Type 1} → statement M

@@ -29,7 +29,7 @@ known c =
 returns : tie.Need-returns
 returns c =
     let called = c.before.before.before in
-    of-same written_numbers (λ w. w.result) _ (known called.before.before.before.before.before) called.write-back.ensures
+    of-same written_numbers (λ w. w.result) _ (known called.before.before.before.before.before) called.write_back.ensures
 
 returns-2 : tie.Need-returns-2
 returns-2 c =

@@ -12,43 +12,31 @@ use Rattle.line.proofs.Answers.{lines-written, shown-to, shown-not, shown-long, 
 use Rattle.line.proofs.line_of.Statement.{statement}
 use Rattle.line.proofs.line_of.Tie as tie
 
-returns : tie.Need-returns
+returns : tie.Need-returns-then-lacks_room
 returns c =
-    let room = c.before in
-    let measured2 = room.before.before in
-    let measure = measured2.before.before in
-    let entry = measure.before.before.before.before in
-    let args = entry.args in
-    let same = shown-long (rules_at (as_form args.form) (sheet_bits args.sheet.now) args.begins.now args.count) _ measure.measure.ensures
-    (length args.out.now) _ measured2.measured2.given.1 (ltb-true _ _ (sym room.lacks-room.ensures ∙ c.if1.true)) in
+    let args = c.args in
+    let same = shown-long (rules_at (as_form args.form) (sheet_bits args.sheet.now) args.begins.now args.count) _ c.measure-measured.ensures
+    (length args.out.now) _ c.in-To.is (ltb-true _ _ (sym c.lacks_room.ensures ∙ c.if-lacks_room.true)) in
     (sym (ap written_numbers same), sym (ap (λ w. buffer w.result args.out.now) same))
 
-returns-2 : tie.Need-returns-2
+returns-2 : tie.Need-returns-in-Wordless
 returns-2 c =
-    let measure = c.before.before.before in
-    let entry = measure.before.before.before.before in
-    let args = entry.args in
-    let same = shown-not (rules_at (as_form args.form) (sheet_bits args.sheet.now) args.begins.now args.count) _ measure.measure.ensures
-    (length args.out.now) _ c.before.decreases.given.1 in
+    let args = c.args in
+    let same = shown-not (rules_at (as_form args.form) (sheet_bits args.sheet.now) args.begins.now args.count) _ c.measure-measured.ensures
+    (length args.out.now) _ c.decreases.given.1 in
     (sym (ap written_numbers same), sym (ap (λ w. buffer w.result args.out.now) same))
 
-returns-3 : tie.Need-returns-3
+returns-3 : tie.Need-returns-else-lacks_room
 returns-3 c =
-    let show-rules = c.before.before in
-    let branch = show-rules.before.before in
-    let room = branch.before in
-    let measured2 = room.before.before in
-    let measure = measured2.before.before in
-    let entry = measure.before.before.before.before in
-    let args = entry.args in
-    let words = shown-to (rules_at (as_form args.form) (sheet_bits args.sheet.now) args.begins.now args.count) _ measure.measure.ensures (length args.out.now) _ measured2.measured2.given.1 in
-    let enough = ltb-false _ _ (sym room.lacks-room.ensures ∙ branch.if1.false) in
-    let same = shown-fine (rules_at (as_form args.form) (sheet_bits args.sheet.now) args.begins.now args.count) _ measure.measure.ensures (length args.out.now) _ measured2.measured2.given.1 enough in (
+    let args = c.args in
+    let words = shown-to (rules_at (as_form args.form) (sheet_bits args.sheet.now) args.begins.now args.count) _ c.measure-measured.ensures (length args.out.now) _ c.in-To.is in
+    let enough = ltb-false _ _ (sym c.lacks_room.ensures ∙ c.if-lacks_room.false) in
+    let same = shown-fine (rules_at (as_form args.form) (sheet_bits args.sheet.now) args.begins.now args.count) _ c.measure-measured.ensures (length args.out.now) _ c.in-To.is enough in (
       sym (ap written_numbers same),
-      lines-written _ _ _ _ _ _ show-rules.show-rules.result show-rules.show-rules.ensures words.0 (omega (arith, words.1, enough))
+      lines-written _ _ _ _ _ _ c.show_rules.result c.show_rules.ensures words.0 (omega (arith, words.1, enough))
           ∙ sym (ap (λ w. buffer w.result args.out.now) same),
     )
 
-pub line-of-spec : {M : Type 1} → statement M
-line-of-spec = tie.close
+pub line_of_spec : {M : Type 1} → statement M
+line_of_spec = tie.close
     (tie.spec (λ c κs. search rules) (λ c. search rules) (λ c. search rules) (λ c κs. search rules) returns (λ c κs. search rules) returns-2 (λ c. search rules) returns-3)

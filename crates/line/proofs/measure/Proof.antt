@@ -4,6 +4,6 @@ use Rattle.line.proofs.Answers.{lines-measured}
 use Rattle.line.proofs.measure.Statement.{statement}
 use Rattle.line.proofs.measure.Tie as tie
 
-pub measure-spec : {M : Type 1} → statement M
-measure-spec = tie.close
-    (tie.spec (λ c. search rules) (λ c κs. search rules) (λ c. lines-measured _ _ _ _ _ _ c.before.show-rules.result c.before.show-rules.ensures))
+pub measure_spec : {M : Type 1} → statement M
+measure_spec = tie.close
+    (tie.spec (λ c. search rules) (λ c κs. search rules) (λ c. lines-measured _ _ _ _ _ _ c.show_rules.result c.show_rules.ensures))

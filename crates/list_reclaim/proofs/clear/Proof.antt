@@ -21,9 +21,9 @@ clear_spec =
     invariant-loop decreases-loop
     (λ c. (omega arith, refl, λ j l. absurd (omega arith)))
     (λ c. search rules) (λ c. search rules) (λ c. search rules)
-    (λ c. omega (arith, c.loop-test.true, c.before.loop.invariant.1))
+    (λ c. omega (arith, c.loop-k-test.true, c.loop-k.invariant.1))
     (λ c.
-    let loop = c.before.loop in
-    (omega (arith, c.loop-test.true, loop.invariant.1), simp length-set loop.invariant.1, zeros-more loop.memo loop.k c.loop-test.true loop.invariant.2))
-    (λ c. c.before.loop.invariant.1)
-    (λ c. zeros-all c.before.loop.memo c.before.loop.k c.loop-test.false c.before.loop.invariant.2))
+    let loop = c.loop-k in
+    (omega (arith, c.loop-k-test.true, loop.invariant.1), simp length-set loop.invariant.1, zeros-more loop.memo loop.k c.loop-k-test.true loop.invariant.2))
+    (λ c. c.loop-k.invariant.1)
+    (λ c. zeros-all c.loop-k.memo c.loop-k.k c.loop-k-test.false c.loop-k.invariant.2))

@@ -11,6 +11,6 @@ pub copy_list_spec : {M : Type 1} → statement M
 copy_list_spec =
     tie.close
     (tie.spec
-    (λ c. copied-here _ _ _ _ (ap (◌* list_places) c.if1.true))
+    (λ c. copied-here _ _ _ _ (ap (◌* list_places) c.if-next-place.true))
     (λ c. search rules) (λ c. search rules) (λ c. search rules) (λ c κs. search rules) (λ c. search rules) (λ c. search rules) (λ c κs. search rules) (λ c. search rules)
-    (λ c. rw c.before.before.before.before.u16-to-usize.ensures.0 at c.before.before.copy-words.ensures))
+    (λ c. rw c.u16_to_usize-rules.ensures.0 at c.copy_words.ensures))

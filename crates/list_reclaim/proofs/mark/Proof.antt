@@ -23,15 +23,13 @@ mark_spec =
     (λ c. (omega arith, refl, marked-none _ _))
     (λ c. search rules) (λ c. search rules) (λ c κs. search rules) (λ c. search rules)
     (λ c.
-    let loop = c.before.before.before in
-    omega (arith, c.u16-to-usize.ensures.0, loop.before.before.before.requires loop.loop.box-index, loop.loop.invariant.1))
+    omega (arith, c.u16_to_usize.ensures.0, c.requires c.loop-box_index.box_index, c.loop-box_index.invariant.1))
     (λ c. search rules) (λ c. search rules)
     (λ c.
-    let loop = c.before.before.before in
-    let number = c.u16-to-usize.ensures.0 in (
+    let number = c.u16_to_usize.ensures.0 in (
       omega arith,
-      simp length-set loop.loop.invariant.1,
-      marked_more _ _ _ _ _ number (omega (arith, number, loop.before.before.before.requires loop.loop.box-index, loop.loop.invariant.1)) loop.loop.invariant.2,
+      simp length-set c.loop-box_index.invariant.1,
+      marked_more _ _ _ _ _ number (omega (arith, number, c.requires c.loop-box_index.box_index, c.loop-box_index.invariant.1)) c.loop-box_index.invariant.2,
     ))
-    (λ c. c.before.loop.invariant.1)
-    (λ c. let e : c.before.loop.box-index ≡ length c.before.before.before.before.args.cells.now = omega arith in rw e at c.before.loop.invariant.2))
+    (λ c. c.loop-box_index.invariant.1)
+    (λ c. let e : c.loop-box_index.box_index ≡ length c.args.cells.now = omega arith in rw e at c.loop-box_index.invariant.2))

@@ -23,26 +23,21 @@ move_down_spec =
     invariant-loop decreases-loop
     (λ c. (omega arith, refl, refl, moved_none _ _))
     (λ c κs.
-    let test = c.before.before in
-    let loop = test.before in
-    let inv = loop.loop.invariant in
-    let pre = loop.before.before.before.requires in
-    let inside = test.loop-test.true in
-    (inv.3.down, omega (arith, inv.1, pre.0, inside), omega (arith, inv.3.words (loop.loop.place * list_places) (omega arith), pre.3 loop.loop.place inside), omega (arith, inv.2, pre.1, inside), omega (arith, pre.2, inside)))
-    (λ c. let test = c.before.before.before.before.before.before.before in omega (arith, test.loop-test.true, test.before.before.before.before.requires.2))
-    (λ c. omega (arith, c.before.before.before.before.before.before.before.loop-test.true))
+    let inv = c.loop-place.invariant in
+    let pre = c.requires in
+    let inside = c.loop-place-test.true in
+    (inv.3.down, omega (arith, inv.1, pre.0, inside), omega (arith, inv.3.words (c.loop-place.place * list_places) (omega arith), pre.3 c.loop-place.place inside), omega (arith, inv.2, pre.1, inside), omega (arith, pre.2, inside)))
+    (λ c. omega (arith, c.loop-place-test.true, c.requires.2))
+    (λ c. omega (arith, c.loop-place-test.true))
     (λ c.
-    let move = c.before.before.before.before in
-    let test = move.before.before.before in
-    let loop = test.before in
-    let inv = loop.loop.invariant in
-    let inside = test.loop-test.true in (
+    let inv = c.loop-place.invariant in
+    let inside = c.loop-place-test.true in (
       omega (arith, inside),
-      move.move-list.auto.0 ∙ inv.1,
-      move.move-list.auto.1.0 ∙ inv.2,
-      moved_more _ _ _ _ _ _ _ _ _ (λ l h. loop.before.before.before.requires.3 l (omega (arith, h, inside))) inv.3 move.move-list.ensures,
+      c.move_list-next.auto.0 ∙ inv.1,
+      c.move_list-next.auto.1.0 ∙ inv.2,
+      moved_more _ _ _ _ _ _ _ _ _ (λ l h. c.requires.3 l (omega (arith, h, inside))) inv.3 c.move_list-next.ensures,
     ))
-    (λ c. c.before.loop.invariant.1) (λ c. c.before.loop.invariant.2)
+    (λ c. c.loop-place.invariant.1) (λ c. c.loop-place.invariant.2)
     (λ c.
-    let e : c.before.loop.place ≡ c.before.before.before.before.args.used = omega (arith, c.loop-test.false, c.before.loop.invariant.0) in
-    rw e at c.before.loop.invariant.3))
+    let e : c.loop-place.place ≡ c.args.used = omega (arith, c.loop-place-test.false, c.loop-place.invariant.0) in
+    rw e at c.loop-place.invariant.3))

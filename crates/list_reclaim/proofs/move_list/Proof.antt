@@ -10,9 +10,8 @@ move_list_spec =
     tie.close
     (tie.spec
     (λ c. search rules) (λ c. search rules) (λ c. search rules)
-    (λ c. moved-not _ _ _ _ _ (add-one _) c.if1.true)
+    (λ c. moved-not _ _ _ _ _ (add-one _) c.if-memo-place-ne1.true)
     (λ c κs. search rules) (λ c. search rules) (λ c. search rules) (λ c. search rules) (λ c. search rules) (λ c. search rules) (λ c. search rules) (λ c. search rules)
     (λ c. search rules)
     (λ c.
-    let entry = c.before.before.before.before.before.before.before.before in
-    moved-one _ _ _ _ _ (add-one _) _ entry.requires.0 entry.requires.2 entry.requires.3 c.before.before.before.before.if1.false c.before.before.copy-list.ensures))
+    moved-one _ _ _ _ _ (add-one _) _ c.requires.0 c.requires.2 c.requires.3 c.if-memo-place-ne1.false c.copy_list.ensures))

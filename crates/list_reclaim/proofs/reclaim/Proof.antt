@@ -26,27 +26,23 @@ reclaim_spec =
     (tie.spec
     (λ c κs. search rules)
     (λ c κs.
-    let cleared = c.before.before.before.before in
-    λ box. omega (arith, (entry cleared).requires.0.names box, (entry cleared).requires.1, cleared.clear.auto.0))
+    λ box. omega (arith, (entry c).requires.0.names box, (entry c).requires.1, c.clear.auto.0))
     (λ c. search rules)
     (λ c κs.
-    let marked = c.before.before.before.before in
-    let pre = (entry (clear marked)).requires in
-    (pre.0.room, simp length-set (omega (arith, pre.1, (clear marked).clear.auto.0, marked.mark.auto.1.0)), pre.2, pre.0.short))
+    let pre = (entry (clear c)).requires in
+    (pre.0.room, simp length-set (omega (arith, pre.1, (clear c).clear.auto.0, c.mark.auto.1.0)), pre.2, pre.0.short))
     (λ c κs.
-    let moved = c.before.before.before.before.before.before in
-    let marked = mark moved in
+    let marked = mark c in
     let pre = (entry (clear marked)).requires in
-    λ box. omega (arith, pre.0.names box, pre.1, (clear marked).clear.kept.0, marked.mark.kept.1.0, simp length-set at moved.move_down.auto.1.0))
+    λ box. omega (arith, pre.0.names box, pre.1, (clear marked).clear.kept.0, marked.mark.kept.1.0, simp length-set at c.move_down.auto.1.0))
     (λ c κs. search rules) (λ c. search rules) (λ c. search rules)
     (λ c.
-    let moved = move c.before.before.before.before.before.before in
-    c.before.before.clear2.auto.0 ∙ (simp length-set at moved.move_down.kept.1.0) ∙ (mark moved).mark.kept.1.0 ∙ (clear (mark moved)).clear.auto.0)
+    let moved = move c in
+    c.clear-2.auto.0 ∙ (simp length-set at moved.move_down.kept.1.0) ∙ (mark moved).mark.kept.1.0 ∙ (clear (mark moved)).clear.auto.0)
     (λ c.
-    let renamed = c.before.before.before.before.before.before in
-    let moved = move renamed in
+    let moved = move c in
     let marked = mark moved in
     let cleared = clear marked in
     let pre = (entry cleared).pre in
     reclaimed _ _ _ _ _ _ _ _ _ _ pre.0 (omega (arith, pre.1, cleared.clear.kept.0, marked.mark.kept.1.0)) cleared.clear.ensures marked.mark.ensures
-    moved.move_down.ensures renamed.rename.ensures renamed.rename.auto.0 moved.move_down.kept.0 c.before.before.clear2.ensures))
+    moved.move_down.ensures c.rename.ensures c.rename.auto.0 moved.move_down.kept.0 c.clear-2.ensures))

@@ -20,24 +20,21 @@ append_spec =
     tie.close
     (tie.spec
     (λ c. search rules) (λ c. search rules) (λ c. search rules) (λ c. search rules) (λ c. search rules)
-    (λ c. simp length-set (omega (arith, c.before.before.requires.1)))
+    (λ c. simp length-set (omega (arith, c.requires.1)))
     (λ c. search rules)
-    (λ c. appended-first _ _ _ _ c.before.before.requires.1 c.if1.true)
+    (λ c. appended-first _ _ _ _ c.requires.1 c.if-number-eq0.true)
     (λ c. search rules) (λ c. search rules) (λ c. search rules) (λ c. search rules) (λ c κs. search rules) (λ c. search rules) (λ c. search rules) (λ c. search rules) (λ c. search rules)
     (λ c κs.
-    let read = c.before in
-    let pre = (start read).requires in
-    let count = read.u16-to-usize.ensures.0 in
-    let some = read.before.before.if1.false in
-    (omega (arith, few read, count, pre.0, pre.1, some), omega (arith, few read, count, pre.1), λ h. omega (arith, few read, count, pre.0, some)))
-    (λ c. omega (arith, few c.before.before.before.before))
+    let pre = (start c).requires in
+    let count = c.u16_to_usize-entries.ensures.0 in
+    let some = c.if-number-eq0.false in
+    (omega (arith, few c, count, pre.0, pre.1, some), omega (arith, few c, count, pre.1), λ h. omega (arith, few c, count, pre.0, some)))
+    (λ c. omega (arith, few c))
     (λ c. search rules) (λ c. search rules) (λ c. search rules) (λ c. search rules) (λ c. search rules)
     (λ c.
-    let read = c.before.before.before.before in
-    simp length-set (omega (arith, few read, (start read).requires.1, read.u16-to-usize.ensures.0, c.before.before.copy-words.auto.0)))
+    simp length-set (omega (arith, few c, (start c).requires.1, c.u16_to_usize-entries.ensures.0, c.copy_words.auto.0)))
     (λ c. search rules)
     (λ c.
-    let read = c.before.before.before.before in
-    let count = read.u16-to-usize.ensures.0 in
-    let copy = c.before.before.copy-words in
-    appended-more _ _ _ _ (start read).requires.1 _ _ _ _ (omega (arith, count)) copy.auto.0 read.before.before.if1.false (few read) refl copy.ensures (omega (arith, count))))
+    let count = c.u16_to_usize-entries.ensures.0 in
+    let copy = c.copy_words in
+    appended-more _ _ _ _ (start c).requires.1 _ _ _ _ (omega (arith, count)) copy.auto.0 c.if-number-eq0.false (few c) refl copy.ensures (omega (arith, count))))

@@ -15,12 +15,12 @@ abbrev start : tie.After-key-of → tie.Start
 start c = c.before.before.before.before.before.before.before
 
 -- the box's number is one of before the rule
-low : (c : tie.After-key-of) → let a = (start c).args in get_or a.cells.now a.box-index 0 ≤ a.before
-low c = omega (arith, c.before.if1.false, c.before.before.u16-to-usize.ensures.0)
+low : (c : tie.After-key-of) → let a = (start c).args in get_or a.cells.now a.box_index 0 ≤ a.before
+low c = omega (arith, c.before.if1.false, c.before.before.u16_to_usize.ensures.0)
 
 -- and so is its key
-keyed : (c : tie.After-key-of) → let a = (start c).args in c.key_of.result ≡ cond a.replaces 0 (get_or a.cells.now a.box-index 0)
-keyed c = c.key_of.ensures ∙ ap (cond (start c).args.replaces 0) c.before.before.u16-to-usize.ensures.0
+keyed : (c : tie.After-key-of) → let a = (start c).args in c.key_of.result ≡ cond a.replaces 0 (get_or a.cells.now a.box_index 0)
+keyed c = c.key_of.ensures ∙ ap (cond (start c).args.replaces 0) c.before.before.u16_to_usize.ensures.0
 
 key-few : (c : tie.After-key-of) → c.key_of.result ≤ (start c).args.before
 key-few c = key-low (start c).args.replaces _ _ _ (keyed c) (low c)
@@ -45,45 +45,36 @@ draw_spec =
     (tie.spec
     (λ c. search rules) (λ c. search rules) (λ c κs. search rules)
     (λ c.
-    let entry = c.before.before.before.before.before.before in
-    walked-again entry.requires.0 _ entry.requires.1 (omega (arith, c.if1.true, c.before.u16-to-usize.ensures.0)))
+    walked-again c.requires.0 _ c.requires.1 (omega (arith, c.if-number-before.true, c.u16_to_usize-number.ensures.0)))
     (λ c κs. search rules)
     (λ c. omega (arith, key-few c, (start c).requires.0.few))
-    (λ c. key_in c.before)
+    (λ c. key_in c)
     (λ c κs. search rules) (λ c. search rules) (λ c. search rules) (λ c. search rules)
     (λ c.
-    let key = c.before.before.before in
-    walked-met (start key).requires.0 _ (start key).requires.1 _ (low key) _ (keyed key) (omega (arith, c.if2.true, c.before.u16-to-usize2.ensures.0)))
+    walked-met (start c).requires.0 _ (start c).requires.1 _ (low c) _ (keyed c) (omega (arith, c.if-u16_to_usize-before.true, c.u16_to_usize.ensures.0)))
     (λ c κs.
-    let key = c.before.before.before.before in
-    omega (arith, key-few key, (start key).requires.0.room 0 (omega arith) (omega arith)))
+    omega (arith, key-few c, (start c).requires.0.room 0 (omega arith) (omega arith)))
     (λ c κs.
-    let room = c.before.before in
-    let key = room.before.before.before.before.before in
-    let pre = (start key).requires in (
-      omega (arith, key-few key, pre.0.made.grown),
-      room-left pre.0 _ pre.1 (low key) _ (key-few key) (old room),
-      ltb-true _ _ (sym room.has_room.ensures ∙ c.before.if3.true),
+    let pre = (start c).requires in (
+      omega (arith, key-few c, pre.0.made.grown),
+      room-left pre.0 _ pre.1 (low c) _ (key-few c) (old c),
+      ltb-true _ _ (sym c.has_room.ensures ∙ c.if-has_room.true),
     ))
-    (λ c. omega (arith, next c.before.before.before.before.before))
-    (λ c. omega (arith, next c.before.before.before.before.before))
-    (λ c. let key = c.before.before.before.before.before.before.before.before.before.before in omega (arith, key-few key, (start key).requires.0.few))
-    (λ c. key_in c.before.before.before.before.before.before.before.before.before.before)
-    (λ c. omega (arith, next c.before.before.before.before.before))
-    (λ c. omega (arith, next c.before.before.before.before.before))
+    (λ c. omega (arith, next c))
+    (λ c. omega (arith, next c))
+    (λ c. omega (arith, key-few c, (start c).requires.0.few))
+    (λ c. key_in c)
+    (λ c. omega (arith, next c))
+    (λ c. omega (arith, next c))
     (λ c. search rules) (λ c. search rules)
-    (λ c. omega (arith, next c.before.before.before.before.before))
+    (λ c. omega (arith, next c))
     (λ c. search rules) (λ c. search rules) (λ c. search rules)
     (λ c.
-    let append = c.before.before.append in
-    let room = c.before.before.before.before.before in
-    let key = room.before.before.before.before.before in
-    let pre = (start key).requires in
-    walked-new pre.0 _ pre.1 _ (low key) _ (keyed key) _ append.auto.0 (old room)
-    (ltb-true _ _ (sym room.has_room.ensures ∙ c.before.before.before.before.if3.true)) append.ensures)
+    let append = c.append in
+    let pre = (start c).requires in
+    walked-new pre.0 _ pre.1 _ (low c) _ (keyed c) _ append.auto.0 (old c)
+    (ltb-true _ _ (sym c.has_room.ensures ∙ c.if-has_room.true)) append.ensures)
     (λ c. search rules)
     (λ c.
-    let room = c.before in
-    let key = room.before.before.before.before.before in
-    let pre = (start key).requires in
-    walked-full pre.0 _ pre.1 _ (low key) _ (keyed key) (ltb-false _ _ (sym room.has_room.ensures ∙ c.if3.false))))
+    let pre = (start c).requires in
+    walked-full pre.0 _ pre.1 _ (low c) _ (keyed c) (ltb-false _ _ (sym c.has_room.ensures ∙ c.if-has_room.false))))

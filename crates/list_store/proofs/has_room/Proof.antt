@@ -10,6 +10,6 @@ pub has_room_spec : {M : Type 1} → statement M
 has_room_spec =
     tie.close
     (tie.spec
-    (λ c. room-none _ _ c.if1.true)
+    (λ c. room-none _ _ c.if-number-eq0.true)
     (λ c. search rules) (λ c. search rules) (λ c. search rules) (λ c. search rules) (λ c κs. search rules)
-    (λ c. c.entry-allowed.ensures ∙ ap (λ n. ltb n 32) (named-length _ _ c.before.before.if1.false)))
+    (λ c. c.entry_allowed.ensures ∙ ap (λ n. ltb n 32) (named-length _ _ c.if-number-eq0.false)))

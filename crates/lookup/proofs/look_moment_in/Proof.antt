@@ -95,7 +95,7 @@ returns c =
     let told = c.before.before.before.before.before.before.before.before.before.before in
     let p = preparing told in λ rs end reading many.
     let fine = judged-fine _ _ _ _ _ _ _ _ _ _ _ (p.prepare.ensures rs end reading many) _ _ told.before.judged.given.1 in
-    c.look-drained.ensures rs
+    c.look_drained.ensures rs
     (prepared-lookable _ _ _ _ _ _ _ _ _ _ _ fine.0 _ many (omega (arith, within told, (start p).pre.1.1.0.0, p.prepare.kept.1.1.1.1.0)))
 
 returns-2 : tie.Need-returns-2
@@ -103,7 +103,7 @@ returns-2 c =
     let judged = c.before.before in
     let p = judged.before.before.before.before.before.before.before.before.before.before.before.before.before.before.before.before.before.before in λ rs end reading many.
     rules-refused rs _ _ _ _ _ (judged-refused _ _ _ _ _ _ _ _ _ _ _ (p.prepare.ensures rs end reading many) _ _ judged.judged2.given.1)
-    c.lookup-refused.ensures
+    c.lookup_refused.ensures
 
 pub look-moment-in-spec : {M : Type 1} → statement M
 look-moment-in-spec =

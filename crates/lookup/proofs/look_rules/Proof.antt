@@ -17,18 +17,18 @@ returns c =
     let entry = midnight.before.before.before in
     let args = entry.args in
     let read = entry.requires.1.1.0.read in
-    c.lookup-refused.ensures
+    c.lookup_refused.ensures
     ∙ sym (look-no-minute _ args.sheet.now args.year args.month args.day args.minute _ _ read
-    (leb-true _ _ (sym midnight.past-midnight.ensures ∙ c.before.if1.true)))
+    (leb-true _ _ (sym midnight.past_midnight.ensures ∙ c.before.if1.true)))
 
 -- behind the test the minute lies in the day
 in-day : (c : tie.Else1) → c.before.before.before.before.args.minute < 1440
-in-day c = leb-false _ _ (sym c.before.past-midnight.ensures ∙ c.if1.false)
+in-day c = leb-false _ _ (sym c.before.past_midnight.ensures ∙ c.if1.false)
 
 look-moment-requires : tie.Need-look-moment-requires
 look-moment-requires c κs =
     let dated = c.before.before.before in
-    let point = point-dated _ _ _ _ (sym (ap point_in c.before.dated.given.1) ∙ dated.point-of.ensures) in
+    let point = point-dated _ _ _ _ (sym (ap point_in c.before.dated.given.1) ∙ dated.point_of.ensures) in
     (dated.before.before.before.before.before.requires, (point.2, omega arith))
 
 returns-2 : tie.Need-returns-2
@@ -39,8 +39,8 @@ returns-2 c =
     let args = entry.args in
     let rules = entry.requires in
     let read = rules.1.1.0.read in
-    let point = point-dated _ _ _ _ (sym (ap point_in dated.dated.given.1) ∙ dated.before.before.point-of.ensures) in
-    c.look-moment.ensures _ _ rules.1.1.0 rules.1.1.1 ∙ ap (λ p. look_at rules.0 p args.minute) point.1
+    let point = point-dated _ _ _ _ (sym (ap point_in dated.dated.given.1) ∙ dated.before.before.point_of.ensures) in
+    c.look_moment.ensures _ _ rules.1.1.0 rules.1.1.1 ∙ ap (λ p. look_at rules.0 p args.minute) point.1
     ∙ sym (look-dated _ args.sheet.now args.year args.month args.day args.minute _ _ read point.0
     (in-day branch))
 
@@ -50,7 +50,7 @@ returns-3 c =
     let entry = told.before.before.before.before.before.before.before in
     let args = entry.args in
     let read = entry.requires.1.1.0.read in
-    let missing = point-missing _ _ _ (sym (ap point_in told.enum_told.given.1) ∙ told.before.before.point-of.ensures) in
+    let missing = point-missing _ _ _ (sym (ap point_in told.enum_told.given.1) ∙ told.before.before.point_of.ensures) in
     c.lookup-refused2.ensures ∙ sym (look-no-date _ args.sheet.now args.year args.month args.day args.minute _ _ read missing)
 
 pub look-rules-spec : {M : Type 1} → statement M

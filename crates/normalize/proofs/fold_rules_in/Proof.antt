@@ -94,7 +94,7 @@ fold-boxes-requires c κs =
     let bytes = known_bytes sheet (λ j. omega (arith, known.given j)) in
     let read = (start p).pre.0.1 in
     let fine = judged-fine _ _ _ _ _ _ _ _ _ _ _ (p.prepare.ensures _ _ read.0 read.1) _ _ told.before.judged.given.1 in
-    let left = leaving.rules-left.ensures in (
+    let left = leaving.rules_left.ensures in (
       (
         (start p).pre.0.0,
         record {
@@ -122,7 +122,7 @@ returns-2 c =
     let args = (start p).args in
     let read = (start p).pre.0.1 in
     rules-refused _ args.sheet.now args.out.now _ _ _ read.0.read _ _
-    (judged-refused _ _ _ _ _ _ _ _ _ _ _ (p.prepare.ensures _ _ read.0 read.1) _ _ c.before.before.judged2.given.1) c.fold-refused.ensures
+    (judged-refused _ _ _ _ _ _ _ _ _ _ _ (p.prepare.ensures _ _ read.0 read.1) _ _ c.before.before.judged2.given.1) c.fold_refused.ensures
 
 pub fold-rules-in-spec : {M : Type 1} → statement M
 fold-rules-in-spec =

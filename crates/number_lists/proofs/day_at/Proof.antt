@@ -31,25 +31,24 @@ abbrev own : tie.Start → List ℕ
 own entry = let a = entry.args in box_words a.states.now a.span_counts.now a.spans.now a.lists.now a.place
 
 -- what was folded has room
-words-fit : (c : tie.After-fold-box) → c.fold-box.result ≤ length c.fold-box.new.0
+words-fit : (c : tie.After-fold-box) → c.fold_box.result ≤ length c.fold_box.new.0
 words-fit c =
     let entry = start c in
-    omega (arith, (entry.pre.0.0 entry.args.place (omega arith)).wordy, c.fold-box.ensures.1, c.fold-box.auto.0)
+    omega (arith, (entry.pre.0.0 entry.args.place (omega arith)).wordy, c.fold_box.ensures.1, c.fold_box.auto.0)
 
 -- the hash is that of the day
-hashed : (c : tie.After-u64-to-u16) → c.u64-to-u16.result ≡ hash_of (own (start (fold c)))
-hashed c = c.u64-to-u16.ensures ∙ ap (λ n. n % 65536) c.before.fingerprint.ensures ∙ ap (λ w. hash_of w) (fold c).fold-box.ensures.0
+hashed : (c : tie.After-u64-to-u16) → c.u64_to_u16.result ≡ hash_of (own (start (fold c)))
+hashed c = c.u64_to_u16.ensures ∙ ap (λ n. n % 65536) c.before.fingerprint.ensures ∙ ap (λ w. hash_of w) (fold c).fold_box.ensures.0
 
 -- ## What is needed there
 find-day-requires : tie.Need-find_day-number-requires
 find-day-requires c κs =
-    let hash = c.before.before in
-    let folded = fold hash in
+    let folded = fold c in
     let entry = start folded in
     let a = entry.args in
     let pre = entry.pre in (
       λ i l. ready-kept a.states.now a.span_counts.now a.spans.now a.lists.now _ _ _ pre.0.1 pre.0.0 i (omega (arith, l)),
-      ((words-fit folded, pre.1.0), (folded.fold-box.ensures.0, hashed hash, pre.1.1)),
+      ((words-fit folded, pre.1.0), (folded.fold_box.ensures.0, hashed c, pre.1.1)),
     )
 
 returns : tie.Need-returns
@@ -57,19 +56,19 @@ returns c =
     let step = find c in
     record {
       hashed = hashed (hash step);
-      first = step.find-day.ensures;
-      classed = c.day_class.ensures ∙ ap (λ w. day_class (unflat w)) (fold (hash step)).fold-box.ensures.0;
+      first = step.find_day.ensures;
+      classed = c.day_class.ensures ∙ ap (λ w. day_class (unflat w)) (fold (hash step)).fold_box.ensures.0;
     }
 
 pub day_at_spec : {M : Type 1} → statement M
 day_at_spec =
     tie.close
     (tie.spec
-    (λ c κs. let entry = c.before.before.before.before.before.before.before.before in entry.requires.0.0 entry.args.place (omega arith))
-    (λ c κs. words-fit c.before.before.before)
+    (λ c κs. c.requires.0.0 c.args.place (omega arith))
+    (λ c κs. words-fit c)
     (λ c κs. omega arith)
     find-day-requires
-    (λ c κs. words-fit (fold (hash c.before.before.before)))
-    (λ c. (fold (hash (find c))).fold-box.auto.0)
-    (λ c. (find c).find-day.auto.1.0)
+    (λ c κs. words-fit (fold (hash c)))
+    (λ c. (fold (hash (find c))).fold_box.auto.0)
+    (λ c. (find c).find_day.auto.1.0)
     returns)

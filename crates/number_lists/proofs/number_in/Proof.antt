@@ -58,16 +58,15 @@ room c =
 below : (c : Found) → (loop c).loop.place < (start (loop c)).args.used
 below c = (test c).loop-test.true
 
-low : (c : Found) → (day c).day-at.result.number ≤ suc (loop c).loop.place
-low c = (day c).day-at.ensures.first.low
+low : (c : Found) → (day c).day_at.result.number ≤ suc (loop c).loop.place
+low c = (day c).day_at.ensures.first.low
 
 -- ## What is needed there
 loop-holds : tie.Need-loop-place-init invariant-loop decreases-loop
 loop-holds c =
-    let entry = c.before.before.before.before.before.before.before.before.before in
-    let a = entry.args in
+    let a = c.args in
     let days = box_words a.states.now a.span_counts.now a.spans.now a.lists.now in
-    let given = entry.requires.1 in (
+    let given = c.requires.1 in (
       (
         λ i l. absurd (omega arith),
         numbered-none days a.numbers.now a.classes.now (omega (arith, given.numbered)) (omega (arith, given.classed)),
@@ -82,14 +81,13 @@ loop-holds c =
 
 day-at-requires : tie.Need-day_at-day-requires invariant-loop decreases-loop
 day-at-requires c κs =
-    let inside = c.before.before.before in
-    let entry = start inside.before in
+    let entry = start c in
     let a = entry.args in
-    let inv = inside.before.loop.invariant in
-    let below = inside.loop-test.true in
+    let inv = c.loop-place.invariant in
+    let below = c.loop-test.true in
     let ready = ready-kept a.states.now a.span_counts.now a.spans.now a.lists.now _ _ _ inv.5 entry.pre.0.0 in (
       (λ i l. ready i (omega (arith, l, below)), omega (arith, inv.5, inv.6, entry.pre.0.1)),
-      (omega (arith, (room inside.before).hashed, below), inv.0.0),
+      (omega (arith, (room c).hashed, below), inv.0.0),
     )
 
 loop-again : tie.Need-loop-place-preserved invariant-loop decreases-loop
@@ -98,10 +96,10 @@ loop-again c =
     let inv = held.inv in
     let lengths = room (loop c) in
     let a = (start (loop c)).args in
-    let found = (day c).day-at.result in
-    let kept = (day c).day-at.auto in (
+    let found = (day c).day_at.result in
+    let kept = (day c).day_at.auto in (
       list-more (box_words a.states.now a.span_counts.now a.spans.now a.lists.now) held.hashes held.numbers held.classes
-          held.place found inv.0 (day c).day-at.ensures (omega (arith, lengths.hashed, below c)) (omega (arith, lengths.numbered, below c))
+          held.place found inv.0 (day c).day_at.ensures (omega (arith, lengths.hashed, below c)) (omega (arith, lengths.numbered, below c))
           (omega (arith, lengths.classed, below c)),
       omega (arith, below c),
       length-set held.hashes held.place found.hash ∙ inv.2,
@@ -126,9 +124,9 @@ number_in_spec =
     (λ c. omega (arith, (room (loop c)).few, below c))
     (λ c. omega (arith, below c))
     loop-again
-    (λ c. c.before.loop.invariant.5)
-    (λ c. c.before.loop.invariant.6)
-    (λ c. c.before.loop.invariant.2)
-    (λ c. c.before.loop.invariant.3 ∙ simp length-set)
-    (λ c. c.before.loop.invariant.4 ∙ simp length-set)
-    (λ c. let inv = c.before.loop.invariant in λ n l. inv.0.1 n (omega (arith, l, c.loop-test.false))))
+    (λ c. c.loop-place.invariant.5)
+    (λ c. c.loop-place.invariant.6)
+    (λ c. c.loop-place.invariant.2)
+    (λ c. c.loop-place.invariant.3 ∙ simp length-set)
+    (λ c. c.loop-place.invariant.4 ∙ simp length-set)
+    (λ c. let inv = c.loop-place.invariant in λ n l. inv.0.1 n (omega (arith, l, c.loop-place-test.false))))

@@ -9,27 +9,21 @@ use Rattle.number_lists.proofs.number_lists.Tie as tie
 
 all-short-requires : tie.Need-all_short-requires
 all-short-requires c κs =
-    let entry = c.before.before.before.before.before.before.before in
-    let a = entry.args in
-    all_there a.states.now a.span_counts.now a.spans.now a.lists.now _ entry.requires.0
+    let a = c.args in
+    all_there a.states.now a.span_counts.now a.spans.now a.lists.now _ c.requires.0
 
 number-short-requires : tie.Need-number_short-requires
 number-short-requires c κs =
-    let tested = c.before.before.before in
-    let entry = tested.before.before.before.before.before.before.before.before.before in
-    ((entry.requires.0, tested.before.all_short.ensures tested.if-all_short.true), entry.requires.1)
+    ((c.requires.0, c.all_short.ensures c.if-all_short.true), c.requires.1)
 
 number-in-requires : tie.Need-number_in-requires
 number-in-requires c κs =
-    let second = c.before.before.before.before.before in
-    let first = second.before in
-    let entry = first.before.before.before.before.before.before.before.before.before.before in
-    let a = entry.args in (
+    let a = c.args in (
       (
-        ready-kept a.states.now a.span_counts.now a.spans.now a.lists.now _ _ _ (sym first.words-words.ensures) entry.requires.0,
-        omega (arith, first.words-words.ensures, second.words-other.ensures),
+        ready-kept a.states.now a.span_counts.now a.spans.now a.lists.now _ _ _ (sym c.words-words.ensures) c.requires.0,
+        omega (arith, c.words-words.ensures, c.words-other.ensures),
       ),
-      entry.requires.1,
+      c.requires.1,
     )
 
 pub number_lists_spec : {M : Type 1} → statement M

@@ -8,17 +8,14 @@ use Rattle.number_lists.proofs.number_short.Tie as tie
 
 number-in-requires : tie.Need-number_in-requires
 number-in-requires c κs =
-    let second = c.before.before.before.before.before in
-    let first = second.before in
-    let entry = first.before.before.before.before.before.before.before.before in
-    let a = entry.args in
-    let all = entry.requires.0 in (
+    let a = c.args in
+    let all = c.requires.0 in (
       (
-        ready-kept a.states.now a.span_counts.now a.spans.now a.lists.now _ _ _ (sym first.few_words-words.ensures)
+        ready-kept a.states.now a.span_counts.now a.spans.now a.lists.now _ _ _ (sym c.few_words-words.ensures)
             (λ i l. short-ready a.states.now a.span_counts.now a.spans.now a.lists.now i (all.0 i l) (all.1 i l)),
-        omega (arith, first.few_words-words.ensures, second.few_words-other.ensures),
+        omega (arith, c.few_words-words.ensures, c.few_words-other.ensures),
       ),
-      entry.requires.1,
+      c.requires.1,
     )
 
 pub number_short_spec : {M : Type 1} → statement M

@@ -22,25 +22,25 @@ first_overlap_spec =
     (tie.spec
     invariant-loop decreases-loop
     (λ c. (omega arith, λ rs days j l. absurd (omega arith)))
-    (λ c. let entry = c.before.before.before.before in search (rules, c.loop-test.true, entry.requires.1.few-rules))
-    (λ c. let entry = c.before.before.before.before in search (rules, c.loop-test.true, entry.requires.1.few-rules))
-    (λ c. let entry = c.before.before.before.before in search (rules, c.loop-test.true, entry.requires.1.few-rules))
-    (λ c. let entry = c.before.before.before.before in search (rules, c.loop-test.true, entry.requires.1.few-rules))
+    (λ c. search (rules, c.loop-rule-test.true, c.requires.1.few-rules))
+    (λ c. search (rules, c.loop-rule-test.true, c.requires.1.few-rules))
+    (λ c. search (rules, c.loop-rule-test.true, c.requires.1.few-rules))
+    (λ c. search (rules, c.loop-rule-test.true, c.requires.1.few-rules))
     (λ c. search rules) (λ c. search rules) (λ c. search rules)
-    (λ c. let entry = c.before.before.before.before in search (rules, c.loop-test.true, entry.requires.1.all-counts))
+    (λ c. search (rules, c.loop-rule-test.true, c.requires.1.all-counts))
     (λ c. search rules) (λ c. search rules) (λ c. search rules)
-    (λ c. let entry = c.before.before.before.before.before in search (rules, c.before.loop-test.true, entry.requires.1.all-ranges))
-    (λ c κs. few-lent _ _ _ _ c.before.before.before.before.before.before.requires.1 _ c.before.before.loop-test.true)
+    (λ c. search (rules, c.loop-rule-test.true, c.requires.1.all-ranges))
+    (λ c κs. few-lent _ _ _ _ c.requires.1 _ c.loop-rule-test.true)
     (λ c.
-    let loop-test = c.before.before.before.before in λ rs days.
-    first_found _ _ _ rs days _ loop-test.loop-test.true (loop-test.before.loop.invariant.1 rs days)
-    (rule-asked _ _ _ rs days _ loop-test.loop-test.true _ c.before.rule-overlaps.ensures ∙ c.if1.true))
-    (λ c. let loop-test = c.before.before.before.before in omega (arith, loop-test.loop-test.true))
-    (λ c. let loop-test = c.before.before.before.before in omega (arith, loop-test.loop-test.true))
+    λ rs days.
+    first_found _ _ _ rs days _ c.loop-rule-test.true (c.loop-rule.invariant.1 rs days)
+    (rule-asked _ _ _ rs days _ c.loop-rule-test.true _ c.rule_overlaps.ensures ∙ c.if-rule_overlaps.true))
+    (λ c. omega (arith, c.loop-rule-test.true))
+    (λ c. omega (arith, c.loop-rule-test.true))
     (λ c.
-    let loop-test = c.before.before.before.before in (
-      omega (arith, loop-test.loop-test.true),
-      λ rs days. none-next _ _ _ rs days _ (loop-test.before.loop.invariant.1 rs days)
-          (rule-asked _ _ _ rs days _ loop-test.loop-test.true _ c.before.rule-overlaps.ensures ∙ c.if1.false),
+    (
+      omega (arith, c.loop-rule-test.true),
+      λ rs days. none-next _ _ _ rs days _ (c.loop-rule.invariant.1 rs days)
+          (rule-asked _ _ _ rs days _ c.loop-rule-test.true _ c.rule_overlaps.ensures ∙ c.if-rule_overlaps.false),
     ))
-    (λ c. λ rs days. none_found _ _ _ rs days _ c.loop-test.false (c.before.loop.invariant.1 rs days)))
+    (λ c. λ rs days. none_found _ _ _ rs days _ c.loop-rule-test.false (c.loop-rule.invariant.1 rs days)))

@@ -9,5 +9,5 @@ pub later_spec : {M : Type 1} → statement M
 later_spec =
     tie.close
     (tie.spec
-    (λ c. sym (ap (λ b. cond b c.before.args.other c.before.args.end) (lt-ltb _ _ c.if1.true)))
-    (λ c. sym (ap (λ b. cond b c.before.args.other c.before.args.end) (le-ltb _ _ c.if1.false))))
+    (λ c. sym (ap (λ b. cond b c.args.other c.args.end) (lt-ltb _ _ c.if-end-other.true)))
+    (λ c. sym (ap (λ b. cond b c.args.other c.args.end) (le-ltb _ _ c.if-end-other.false))))

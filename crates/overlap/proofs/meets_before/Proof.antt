@@ -22,17 +22,15 @@ meets_before_spec =
     (tie.spec
     invariant-loop decreases-loop
     (λ c. (omega arith, λ k l. absurd (omega arith)))
-    (λ c κs. let entry = c.before.before.before in (omega (arith, entry.requires, c.loop-test.true), entry.requires))
+    (λ c κs. (omega (arith, c.requires, c.loop-earlier-test.true), c.requires))
     (λ c.
-    let entry = c.before.before.before.before.before in
-    sym (from-any (λ k. meets (range_of entry.args.ranges.now entry.args.dimension k) (range_of entry.args.ranges.now entry.args.dimension entry.args.range))
-    0 _ _ (omega arith) (omega (arith, c.before.before.loop-test.true)) (sym c.before.ranges-meet.ensures ∙ c.if1.true)))
+    sym (from-any (λ k. meets (range_of c.args.ranges.now c.args.dimension k) (range_of c.args.ranges.now c.args.dimension c.args.range))
+    0 _ _ (omega arith) (omega (arith, c.loop-earlier-test.true)) (sym c.ranges_meet.ensures ∙ c.if-ranges_meet.true)))
     (λ c. search rules) (λ c. search rules)
     (λ c. (
-      omega (arith, c.before.before.loop-test.true),
-      passed-next _ _ _ _ c.before.before.before.loop.invariant.1 (sym c.before.ranges-meet.ensures ∙ c.if1.false),
+      omega (arith, c.loop-earlier-test.true),
+      passed-next _ _ _ _ c.loop-earlier.invariant.1 (sym c.ranges_meet.ensures ∙ c.if-ranges_meet.false),
     ))
     (λ c.
-    let entry = c.before.before.before in
-    sym (from-none (λ k. meets (range_of entry.args.ranges.now entry.args.dimension k) (range_of entry.args.ranges.now entry.args.dimension entry.args.range))
-    0 _ (λ k a b. c.before.loop.invariant.1 k (omega (arith, c.loop-test.false))))))
+    sym (from-none (λ k. meets (range_of c.args.ranges.now c.args.dimension k) (range_of c.args.ranges.now c.args.dimension c.args.range))
+    0 _ (λ k a b. c.loop-earlier.invariant.1 k (omega (arith, c.loop-earlier-test.false))))))

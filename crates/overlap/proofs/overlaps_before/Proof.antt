@@ -9,5 +9,5 @@ overlaps_before_spec =
     tie.close
     (tie.spec
     (λ c. search rules) (λ c. search rules) (λ c. search rules) (λ c. search rules) (λ c. search rules) (λ c κs. search rules)
-    (λ c. c.meets-before.ensures)
-    (λ c. late-none _ _ _ _ c.before.before.before.requires.1 c.if1.false))
+    (λ c. c.meets_before.ensures)
+    (λ c. late-none _ _ _ _ c.requires.1 c.if-ranges-dimension.false))

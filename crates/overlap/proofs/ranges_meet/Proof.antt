@@ -11,5 +11,5 @@ ranges_meet_spec =
     (λ c. search rules) (λ c. search rules) (λ c. search rules) (λ c. search rules) (λ c. search rules) (λ c. search rules) (λ c. search rules)
     (λ c. search rules) (λ c. search rules) (λ c. search rules) (λ c. search rules) (λ c. search rules) (λ c. search rules) (λ c. search rules)
     (λ c. search rules) (λ c. search rules)
-    (λ c. meet-yes _ _ _ _ c.before.before.if1.true)
-    (λ c. meet-no _ _ _ _ c.if1.false))
+    (λ c. meet-yes _ _ _ _ c.if-ranges-at.true)
+    (λ c. meet-no _ _ _ _ c.if-ranges-at.false))

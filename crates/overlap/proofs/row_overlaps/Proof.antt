@@ -20,15 +20,14 @@ row_overlaps_spec =
     (tie.spec
     invariant-loop decreases-loop
     (λ c. (omega arith, λ k l. absurd (omega arith), λ k l. absurd (omega arith)))
-    (λ c κs. (omega (arith, c.before.before.before.requires, c.loop-test.true), c.before.loop.invariant.2))
-    (λ c. row-yes _ _ _ _ c.before.before.loop-test.true (sym c.before.overlaps-before.ensures ∙ c.if1.true))
+    (λ c κs. (omega (arith, c.requires, c.loop-range-test.true), c.loop-range.invariant.2))
+    (λ c. row-yes _ _ _ _ c.loop-range-test.true (sym c.overlaps_before.ensures ∙ c.if-overlaps_before.true))
     (λ c. search rules) (λ c. search rules) (λ c. search rules) (λ c. search rules) (λ c. search rules) (λ c. search rules) (λ c κs. search rules)
     (λ c. search rules) (λ c. search rules)
     (λ c.
-    let loop-test = c.before.before.before.before in
-    let inv = loop-test.before.loop.invariant in (
-      omega (arith, loop-test.loop-test.true),
-      apart_next _ _ _ inv.1 (sym c.before.before.before.overlaps-before.ensures ∙ c.before.before.if1.false),
-      ends_next _ _ _ _ inv.2 _ c.later.ensures,
+    let inv = c.loop-range.invariant in (
+      omega (arith, c.loop-range-test.true),
+      apart_next _ _ _ inv.1 (sym c.overlaps_before.ensures ∙ c.if-overlaps_before.false),
+      ends_next _ _ _ _ inv.2 _ c.later-end.ensures,
     ))
-    (λ c. row-no _ _ _ _ c.loop-test.false c.before.loop.invariant.1))
+    (λ c. row-no _ _ _ _ c.loop-range-test.false c.loop-range.invariant.1))

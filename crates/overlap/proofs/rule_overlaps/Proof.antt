@@ -20,16 +20,16 @@ rule_overlaps_spec =
     invariant-loop decreases-loop
     (λ c. (omega arith, refl))
     (λ c. search rules) (λ c. search rules)
-    (λ c. omega (arith, c.before.before.before.before.before.requires.four, c.before.before.loop.invariant.0, c.before.loop-test.true))
+    (λ c. omega (arith, c.requires.four, c.loop-dims_left.invariant.0, c.loop-dims_left-test.true))
     (λ c κs. search rules)
-    (λ c κs. row-there _ _ c.before.before.before.before.before.before.requires _ _ c.u16-to-usize.ensures.0
-    (omega (arith, c.before.before.before.loop.invariant.0, c.before.before.loop-test.true)))
-    (λ c. sym (c.before.before.before.before.before.loop.invariant.1
-    ∙ row-asked _ _ _ _ (omega (arith, c.before.before.before.before.loop-test.true)) _ c.before.before.u16-to-usize.ensures.0 _ (sym c.if1.true ∙ c.before.row-overlaps.ensures)))
+    (λ c κs. row-there _ _ c.requires _ _ c.u16_to_usize-count.ensures.0
+    (omega (arith, c.loop-dims_left.invariant.0, c.loop-dims_left-test.true)))
+    (λ c. sym (c.loop-dims_left.invariant.1
+    ∙ row-asked _ _ _ _ (omega (arith, c.loop-dims_left-test.true)) _ c.u16_to_usize-count.ensures.0 _ (sym c.if-row_overlaps.true ∙ c.row_overlaps.ensures)))
     (λ c. search rules)
     (λ c. (
-      omega (arith, c.before.before.before.before.before.loop.invariant.0),
-      c.before.before.before.before.before.loop.invariant.1
-          ∙ row-asked _ _ _ _ (omega (arith, c.before.before.before.before.loop-test.true)) _ c.before.before.u16-to-usize.ensures.0 _ (sym c.if1.false ∙ c.before.row-overlaps.ensures),
+      omega (arith, c.loop-dims_left.invariant.0),
+      c.loop-dims_left.invariant.1
+          ∙ row-asked _ _ _ _ (omega (arith, c.loop-dims_left-test.true)) _ c.u16_to_usize-count.ensures.0 _ (sym c.if-row_overlaps.false ∙ c.row_overlaps.ensures),
     ))
-    (λ c. sym (c.before.loop.invariant.1 ∙ no_row _ _ _ c.loop-test.false)))
+    (λ c. sym (c.loop-dims_left.invariant.1 ∙ no_row _ _ _ c.loop-dims_left-test.false)))

@@ -17,13 +17,11 @@ count_pages_spec =
     tie.close
     (tie.spec
     invariant-loop decreases-loop
-    (λ c. pass-first _ _ c.before.requires.0)
+    (λ c. pass-first _ _ c.requires.0)
     (λ c κs.
-    let loop = c.before in
-    let entry = loop.before.before in
-    omega (arith, pass-inside _ _ _ _ loop.loop.invariant c.loop-test.true, size_low entry.args.pages.now loop.loop.at, entry.requires.1))
-    (λ c. omega (arith, pass-inside _ _ _ _ c.before.before.loop.invariant c.before.loop-test.true, c.page-size.ensures, c.before.before.before.before.well-formed))
-    (λ c. omega (arith, pass-few _ _ _ _ c.before.before.loop.invariant, c.before.before.before.before.well-formed))
-    (λ c. omega (arith, c.page-size.ensures, size_low c.before.before.before.before.args.pages.now c.before.before.loop.at, c.before.loop-test.true))
-    (λ c. pass-next _ _ _ _ c.before.before.loop.invariant _ c.page-size.ensures c.before.loop-test.true)
-    (λ c. pass-last _ _ _ _ c.before.loop.invariant (omega (arith, c.loop-test.false))))
+    omega (arith, pass-inside _ _ _ _ c.loop-at.invariant c.loop-at-test.true, size_low c.args.pages.now c.loop-at.at, c.requires.1))
+    (λ c. omega (arith, pass-inside _ _ _ _ c.loop-at.invariant c.loop-at-test.true, c.page_size-at.ensures, c.well_formed))
+    (λ c. omega (arith, pass-few _ _ _ _ c.loop-at.invariant, c.well_formed))
+    (λ c. omega (arith, c.page_size-at.ensures, size_low c.args.pages.now c.loop-at.at, c.loop-at-test.true))
+    (λ c. pass-next _ _ _ _ c.loop-at.invariant _ c.page_size-at.ensures c.loop-at-test.true)
+    (λ c. pass-last _ _ _ _ c.loop-at.invariant (omega (arith, c.loop-at-test.false))))

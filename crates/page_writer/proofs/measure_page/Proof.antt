@@ -21,8 +21,7 @@ start c = c.before.before.before.before.before.before.before.before.before.befor
 
 shared-slice-read-u16-to-usize : tie.Need-bounds-page-0
 shared-slice-read-u16-to-usize c =
-    let entry = c.before.before.before.before.before.before.before.before.before.before in
-    omega (arith, entry.requires.0.inside, size_low entry.args.page.now 0)
+    omega (arith, c.requires.0.inside, size_low c.args.page.now 0)
 
 fetch-requires : tie.Need-fetch-day-requires
 fetch-requires c κs =
@@ -31,27 +30,25 @@ fetch-requires c κs =
 
 part-measure-day-end-2 : tie.Need-slice_bounds-measure_day-end-2
 part-measure-day-end-2 c =
-    let entry = start (named c.before.before.before.before.before.before.before) in
+    let entry = start (named c) in
     omega (arith, entry.pre.0.inside, size_low entry.args.page.now 0)
 
 measure-day-requires : tie.Need-measure_day-measure-requires
 measure-day-requires c κs =
-    let fetched = c.before.before.before.before.before.before.before.before in
-    let page = (start (named fetched)).requires.0 in
-    let number = (named fetched).u16-to-usize.ensures.0 in
-    let day = fetched.fetch.ensures in (
+    let page = (start (named c)).requires.0 in
+    let number = (named c).u16_to_usize.ensures.0 in
+    let day = c.fetch.ensures in (
       (page.rows.four, page.rows.few),
       (book-whole page _ number _ _ _ day.inside day.words, omega (arith, book-short page _ number _ _ _ day.inside day.words)),
     )
 
 returns : tie.Need-returns
 returns c =
-    let fetched = c.before.before.before.before.before.before.before.before.before in
-    let entry = start (named fetched) in
+    let entry = start (named c) in
     let form = as_form entry.args.form in
     let page = entry.pre.0 in
-    let number = (named fetched).u16-to-usize.ensures.0 in
-    let day = fetched.fetch.ensures in
+    let number = (named c).u16_to_usize.ensures.0 in
+    let day = c.fetch.ensures in
     let ends = page_ends entry.args.page.now 0 in
     let same = book-rules page _ number _ _ _ day.inside day.words ends refl in
     let few = book-short page _ number _ _ _ day.inside day.words in

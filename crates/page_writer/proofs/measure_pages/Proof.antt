@@ -36,63 +36,56 @@ size c = c.before.before.before.before
 -- ## What is needed there
 page-size-requires : tie.Need-page_size-size-requires invariant-loop decreases-loop
 page-size-requires c κs =
-    omega (arith, (measured-page c.before.loop-pages_left.invariant.0 c.loop-pages_left-test.true).inside, size_low (start c.before).args.pages.now c.before.loop-pages_left.here)
+    omega (arith, (measured-page c.loop-pages_left.invariant.0 c.loop-pages_left-test.true).inside, size_low (start c).args.pages.now c.loop-pages_left.here)
 
 add-measure-page : tie.Need-overflow_add-here invariant-loop decreases-loop
 add-measure-page c =
-    let sized = c.before.before in
-    omega (arith, (measured-page (loop sized).loop.invariant.0 (test sized).loop-test.true).inside, sized.page_size-size.ensures, (start (loop sized)).good)
+    omega (arith, (measured-page (loop c).loop.invariant.0 (test c).loop-test.true).inside, c.page_size-size.ensures, (start (loop c)).good)
 
 mul-measure-page : tie.Need-offset_bounds-pages-here invariant-loop decreases-loop
 mul-measure-page c =
-    let sized = c.before.before in
-    omega (arith, (measured-page (loop sized).loop.invariant.0 (test sized).loop-test.true).inside, sized.page_size-size.ensures, (start (loop sized)).good)
+    omega (arith, (measured-page (loop c).loop.invariant.0 (test c).loop-test.true).inside, c.page_size-size.ensures, (start (loop c)).good)
 
 part-measure-page-end : tie.Need-slice_bounds-measure_page-end invariant-loop decreases-loop
 part-measure-page-end c =
-    let sized = c.before.before in
-    omega (arith, (measured-page (loop sized).loop.invariant.0 (test sized).loop-test.true).inside, sized.page_size-size.ensures)
+    omega (arith, (measured-page (loop c).loop.invariant.0 (test c).loop-test.true).inside, c.page_size-size.ensures)
 
 measure-page-requires : tie.Need-measure_page-page-requires invariant-loop decreases-loop
 measure-page-requires c κs =
-    let sized = c.before.before.before in
-    let inv = (loop sized).loop.invariant in
-    let ready = measured-page inv.0 (test sized).loop-test.true in
-    let long = sized.page_size-size.ensures in
+    let inv = (loop c).loop.invariant in
+    let ready = measured-page inv.0 (test c).loop-test.true in
+    let long = c.page_size-size.ensures in
     (cut-ready _ _ _ long (omega (arith, ready.inside, long)) ready refl, inv.1)
 
 add-rules : tie.Need-overflow_add-rules invariant-loop decreases-loop
 add-rules c =
-    let call = c.before.before.before.before.before in
-    let sized = size call in
-    omega (arith, (loop sized).loop.inv.0.few, (test sized).loop-test.taken, call.measure_page-page.ensures.3, (start (loop sized)).pre.1.0)
+    let sized = size c in
+    omega (arith, (loop sized).loop.inv.0.few, (test sized).loop-test.taken, c.measure_page-page.ensures.3, (start (loop sized)).pre.1.0)
 
 add-bits : tie.Need-overflow_add-bits invariant-loop decreases-loop
 add-bits c =
-    let call = c.before.before.before.before.before.before in
-    let sized = size call in
-    omega (arith, (loop sized).loop.inv.0.short, (test sized).loop-test.taken, call.measure_page-page.ensures.4, (start (loop sized)).pre.1.0)
+    let sized = size c in
+    omega (arith, (loop sized).loop.inv.0.short, (test sized).loop-test.taken, c.measure_page-page.ensures.4, (start (loop sized)).pre.1.0)
 
 add-here : tie.Need-overflow_add-here invariant-loop decreases-loop
 add-here c =
-    let sized = size c.before.before.before.before.before.before.before in
-    omega (arith, (measured-page (loop sized).loop.inv.0 (test sized).loop-test.taken).inside, sized.page-size.ensures, (start (loop sized)).good)
+    let sized = size c in
+    omega (arith, (measured-page (loop sized).loop.inv.0 (test sized).loop-test.taken).inside, sized.page_size.ensures, (start (loop sized)).good)
 
 loop-again : tie.Need-loop-pages_left-preserved invariant-loop decreases-loop
 loop-again c =
-    let call = c.before.before.before.before.before.before.before in
-    let sized = size call in
+    let sized = size c in
     let inv = (loop sized).loop.inv in
-    let page = call.measure_page-page.ensures in (
-      measured-more inv.0 (test sized).loop-test.taken sized.page-size.ensures page.0 page.1 page.2 page.3 page.4,
+    let page = c.measure_page-page.ensures in (
+      measured-more inv.0 (test sized).loop-test.taken sized.page_size.ensures page.0 page.1 page.2 page.3 page.4,
       page.5,
-      call.measure_page-page.auto.1.0 ∙ inv.2,
-      call.measure_page-page.auto.1.1.0 ∙ inv.3,
+      c.measure_page-page.auto.1.0 ∙ inv.2,
+      c.measure_page-page.auto.1.1.0 ∙ inv.3,
     )
 
 returns : tie.Need-returns invariant-loop decreases-loop
 returns c =
-    let inv = c.before.loop-pages_left.invariant in
+    let inv = c.loop-pages_left.invariant in
     let all = measured-all inv.0 (omega (arith, c.loop-pages_left-test.false)) in
     (all.0, all.1, all.2, all.3, all.4, inv.1)
 
@@ -100,8 +93,8 @@ pub measure_pages_spec : {M : Type 1} → statement M
 measure_pages_spec =
     tie.close
     (tie.spec invariant-loop decreases-loop
-    (λ c. let pre = c.before.before.before.before.before.before.before.requires in (measured-none _ _ _ _ _ _ _ _ pre.0, pre.1.1, refl, refl))
+    (λ c. let pre = c.requires in (measured-none _ _ _ _ _ _ _ _ pre.0, pre.1.1, refl, refl))
     page-size-requires add-measure-page mul-measure-page (λ c. omega arith) (λ c. omega arith) part-measure-page-end measure-page-requires add-rules add-bits add-here
-    (λ c. omega (arith, (test (size c.before.before.before.before.before.before.before)).loop-test.taken))
-    (λ c. omega (arith, (test (size c.before.before.before.before.before.before.before)).loop-test.taken))
-    loop-again (λ c. c.before.loop.invariant.2) (λ c. c.before.loop.invariant.3) returns)
+    (λ c. omega (arith, (test (size c)).loop-test.taken))
+    (λ c. omega (arith, (test (size c)).loop-test.taken))
+    loop-again (λ c. c.loop-pages_left.invariant.2) (λ c. c.loop-pages_left.invariant.3) returns)

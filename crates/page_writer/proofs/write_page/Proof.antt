@@ -20,8 +20,7 @@ start c = c.before.before.before.before.before.before.before.before.before.befor
 
 shared-slice-read-u16-to-usize : tie.Need-bounds-page-0
 shared-slice-read-u16-to-usize c =
-    let entry = c.before.before.before.before.before.before.before.before.before.before.before in
-    omega (arith, entry.requires.0.0.inside, size_low entry.args.page.now 0)
+    omega (arith, c.requires.0.0.inside, size_low c.args.page.now 0)
 
 fetch-requires : tie.Need-fetch-day-requires
 fetch-requires c κs =
@@ -30,28 +29,27 @@ fetch-requires c κs =
 
 sub-write-day-2 : tie.Need-slice_bounds-write_day-count-2
 sub-write-day-2 c =
-    let entry = start (named c.before.before.before.before.before.before.before.before) in
+    let entry = start (named c) in
     omega (arith, entry.pre.0.0.inside, size_low entry.args.page.now 0)
 
 part-write-day-start-2 : tie.Need-slice_bounds-write_day-start-2
 part-write-day-start-2 c =
-    let entry = start (named c.before.before.before.before.before.before.before.before) in
+    let entry = start (named c) in
     omega (arith, entry.pre.0.0.inside, size_low entry.args.page.now 0)
 
 part-write-day-end-3 : tie.Need-slice_bounds-write_day-end-3
 part-write-day-end-3 c =
-    let entry = start (named c.before.before.before.before.before.before.before.before.before) in
+    let entry = start (named c) in
     omega (arith, entry.pre.0.0.inside, size_low entry.args.page.now 0)
 
 write-day-requires : tie.Need-write_day-next-requires
 write-day-requires c κs =
-    let fetched = c.before.before.before.before.before.before.before.before.before.before in
-    let entry = start (named fetched) in
+    let entry = start (named c) in
     let form = as_form entry.args.form in
     let page = entry.pre.0.0 in
     let all = entry.pre.0.1 in
-    let number = (named fetched).u16-to-usize.ensures.0 in
-    let day = fetched.fetch.ensures in
+    let number = (named c).u16_to_usize.ensures.0 in
+    let day = c.fetch.ensures in
     let same = book-rules page _ number _ _ _ day.inside day.words _ (ends-whole page all) in (
       book-whole page _ number _ _ _ day.inside day.words,
       (rows_whole page all, (ap (any_of (many_items form)) same ∙ entry.pre.1.1.0, room_as (ap (rules_bits form) (sym same)) entry.pre.1.1.1)),
@@ -59,14 +57,12 @@ write-day-requires c κs =
 
 returns : tie.Need-returns
 returns c =
-    let write-day = c.before.before in
-    let fetched = write-day.before.before.before.before.before.before.before.before.before.before.before in
-    let entry = start (named fetched) in
+    let entry = start (named c) in
     let page = entry.pre.0.0 in
-    let number = (named fetched).u16-to-usize.ensures.0 in
-    let day = fetched.fetch.ensures in
+    let number = (named c).u16_to_usize.ensures.0 in
+    let day = c.fetch.ensures in
     let same = book-rules page _ number _ _ _ day.inside day.words _ (ends-whole page entry.pre.0.1) in
-    (wrote_as (ap (rules_bits (as_form entry.args.form)) (sym same)) write-day.write_day-next.ensures, day.opened)
+    (wrote_as (ap (rules_bits (as_form entry.args.form)) (sym same)) c.write_day-next.ensures, day.opened)
 
 pub write_page_spec : {M : Type 1} → statement M
 write_page_spec =

@@ -37,47 +37,42 @@ size c = c.before.before.before.before.before
 -- ## What is needed there
 page-size-requires : tie.Need-page_size-size-requires invariant-loop decreases-loop
 page-size-requires c κs =
-    omega (arith, (writing-page c.before.loop-pages_left.invariant.0 c.loop-pages_left-test.true).inside, size_low (start c.before).args.pages.now c.before.loop-pages_left.here)
+    omega (arith, (writing-page c.loop-pages_left.invariant.0 c.loop-pages_left-test.true).inside, size_low (start c).args.pages.now c.loop-pages_left.here)
 
 add-write-page : tie.Need-overflow_add-here invariant-loop decreases-loop
 add-write-page c =
-    let sized = c.before.before.before in
-    omega (arith, (writing-page (loop sized).loop.invariant.0 (test sized).loop-test.true).inside, sized.page_size-size.ensures, (start (loop sized)).good)
+    omega (arith, (writing-page (loop c).loop.invariant.0 (test c).loop-test.true).inside, c.page_size-size.ensures, (start (loop c)).good)
 
 mul-write-page : tie.Need-offset_bounds-pages-here invariant-loop decreases-loop
 mul-write-page c =
-    let sized = c.before.before.before in
-    omega (arith, (writing-page (loop sized).loop.invariant.0 (test sized).loop-test.true).inside, sized.page_size-size.ensures, (start (loop sized)).good)
+    omega (arith, (writing-page (loop c).loop.invariant.0 (test c).loop-test.true).inside, c.page_size-size.ensures, (start (loop c)).good)
 
 part-write-page-end : tie.Need-slice_bounds-write_page-end invariant-loop decreases-loop
 part-write-page-end c =
-    let sized = c.before.before.before in
-    omega (arith, (writing-page (loop sized).loop.invariant.0 (test sized).loop-test.true).inside, sized.page_size-size.ensures)
+    omega (arith, (writing-page (loop c).loop.invariant.0 (test c).loop-test.true).inside, c.page_size-size.ensures)
 
 write-page-requires : tie.Need-write_page-written-requires invariant-loop decreases-loop
 write-page-requires c κs =
-    let sized = c.before.before.before.before in
-    let inv = (loop sized).loop.invariant in
-    let some = (test sized).loop-test.true in
+    let inv = (loop c).loop.invariant in
+    let some = (test c).loop-test.true in
     let ready = writing-page inv.0 some in
-    let long = sized.page_size-size.ensures in (
+    let long = c.page_size-size.ensures in (
       (cut-ready _ _ _ long (omega (arith, ready.inside, long)) ready refl, cut-whole _ _ _ long (omega (arith, ready.inside, long))),
       (inv.1, (page-countable inv.0 some long, page-room inv.0 some long)),
     )
 
 add-here : tie.Need-overflow_add-here invariant-loop decreases-loop
 add-here c =
-    let sized = size c.before.before.before.before.before.before in
-    omega (arith, (writing-page (loop sized).loop.inv.0 (test sized).loop-test.taken).inside, sized.page-size.ensures, (start (loop sized)).good)
+    let sized = size c in
+    omega (arith, (writing-page (loop sized).loop.inv.0 (test sized).loop-test.taken).inside, sized.page_size.ensures, (start (loop sized)).good)
 
 loop-again : tie.Need-loop-pages_left-preserved invariant-loop decreases-loop
 loop-again c =
-    let call = c.before.before.before.before.before.before in
-    let sized = size call in
+    let sized = size c in
     let inv = (loop sized).loop.inv in
-    let written = call.write_page-written.ensures in
-    let kept = call.write_page-written.auto.1 in (
-      writing_more inv.0 (test sized).loop-test.taken sized.page-size.ensures written.0,
+    let written = c.write_page-written.ensures in
+    let kept = c.write_page-written.auto.1 in (
+      writing_more inv.0 (test sized).loop-test.taken sized.page_size.ensures written.0,
       written.1,
       kept.0 ∙ inv.2,
       kept.1.1.0 ∙ inv.3,
@@ -88,9 +83,9 @@ pub write_pages_spec : {M : Type 1} → statement M
 write_pages_spec =
     tie.close
     (tie.spec invariant-loop decreases-loop
-    (λ c. let pre = c.before.before.before.before.before.before.before.before.requires in (writing-none _ _ _ _ _ _ _ _ pre.0 pre.1.1.0 _ _ pre.1.1.1, pre.1.0, refl, refl, refl))
+    (λ c. let pre = c.requires in (writing-none _ _ _ _ _ _ _ _ pre.0 pre.1.1.0 _ _ pre.1.1.1, pre.1.0, refl, refl, refl))
     page-size-requires add-write-page mul-write-page (λ c. omega arith) (λ c. omega arith) part-write-page-end write-page-requires add-here
-    (λ c. omega (arith, (test (size c.before.before.before.before.before.before)).loop-test.taken))
-    (λ c. omega (arith, (test (size c.before.before.before.before.before.before)).loop-test.taken))
-    loop-again (λ c. c.before.loop.invariant.2) (λ c. c.before.loop.invariant.3) (λ c. c.before.loop.invariant.4)
-    (λ c. writing-all c.before.loop.invariant.0 (omega (arith, c.loop-test.false))))
+    (λ c. omega (arith, (test (size c)).loop-test.taken))
+    (λ c. omega (arith, (test (size c)).loop-test.taken))
+    loop-again (λ c. c.loop-pages_left.invariant.2) (λ c. c.loop-pages_left.invariant.3) (λ c. c.loop-pages_left.invariant.4)
+    (λ c. writing-all c.loop-pages_left.invariant.0 (omega (arith, c.loop-pages_left-test.false))))

@@ -35,74 +35,52 @@ decreases-loop cells₀ classes sizes marks₀ boxes₀ rows cuts pages₀ class
 
 pop-group-requires : tie.Need-pop_group-requires invariant-loop decreases-loop
 pop-group-requires c κs =
-    let turn = c.before.before.before.before in
-    let loop = turn.before in
-    let wide = loop.before.before.before in
-    let sized = wide.before in
-    let entry = sized.before.before.before.before.before.before.before.before.before in
-    let i = loop.loop-first.invariant in (
-      room-len₂ _ _ _ _ _ _ _ i.1 (room-len _ _ _ _ _ _ _ i.0 entry.requires.0),
+    let i = c.loop-first.invariant in (
+      room-len₂ _ _ _ _ _ _ _ i.1 (room-len _ _ _ _ _ _ _ i.0 c.requires.0),
       (
-        omega (arith, turn.loop-first-test.true, sized.type_size.ensures),
-        wide.width_of_lem.ensures,
-        omega (arith, entry.requires.1.1.1.0.0, i.9),
-        omega (arith, entry.requires.1.1.1.0.1, i.0),
-        first-with-value _ _ _ i.7 (i.8 turn.loop-first-test.true),
+        omega (arith, c.loop-first-test.true, c.type_size.ensures),
+        c.width_of_lem.ensures,
+        omega (arith, c.requires.1.1.1.0.0, i.9),
+        omega (arith, c.requires.1.1.1.0.1, i.0),
+        first-with-value _ _ _ i.7 (i.8 c.loop-first-test.true),
       ),
     )
 
 put-page-requires : tie.Need-put_page-next-requires invariant-loop decreases-loop
 put-page-requires c κs =
-    let call = c.before.before.before.before.before.before.before.before in
-    let turn = call.before.before.before.before.before in
-    let loop = turn.before in
-    let entry = loop.before.before.before.before.before.before.before.before.before.before.before.before.before in
-    let a = entry.args in
-    let i = loop.loop.invariant in
-    let one = call.pop-group in
-    let group = first_group _ _ _ _ _ _ i.7 _ _ (omega (arith, entry.requires.0.marked, i.1)) one.ensures.0 (i.8 turn.loop-test.true) in
-    let page = put_page a.row-starts.now a.cuts.now a.sizes.now 4 in
-    let round = loop-round _ _ _ _ _ entry.requires.1.1.0 _ _ _ _ group.0 refl one.ensures.1 page _ _ _ _ i.3.0 i.3.1 refl in (
-      entry.requires.1.0,
-      (omega (arith, entry.requires.0.marked, one.auto.1.1.0, i.1), round_room _ _ _ _ _ _ _ _ _ _ _ round.0 i.2 entry.requires.1.1.1.1),
+    let a = c.args in
+    let i = c.loop.invariant in
+    let one = c.pop_group in
+    let group = first_group _ _ _ _ _ _ i.7 _ _ (omega (arith, c.requires.0.marked, i.1)) one.ensures.0 (i.8 c.loop-test.true) in
+    let page = put_page a.row_starts.now a.cuts.now a.sizes.now 4 in
+    let round = loop-round _ _ _ _ _ c.requires.1.1.0 _ _ _ _ group.0 refl one.ensures.1 page _ _ _ _ i.3.0 i.3.1 refl in (
+      c.requires.1.0,
+      (omega (arith, c.requires.0.marked, one.auto.1.1.0, i.1), round_room _ _ _ _ _ _ _ _ _ _ _ round.0 i.2 c.requires.1.1.1.1),
     )
 
 next-box-requires-2 : tie.Need-next_box-first-requires-in-loop-first invariant-loop decreases-loop
 next-box-requires-2 c κs =
-    let call = c.before.before.before.before.before.before.before.before.before.before.before.before in
-    let loop = call.before.before.before.before.before.before in
-    let sized = loop.before.before.before.before in
-    let entry = sized.before.before.before.before.before.before.before.before.before in
-    let i = loop.loop.invariant in
-    (i.6, omega (arith, room-size _ _ _ _ _ _ entry.requires.0, sized.type_size.ensures, call.pop-group.auto.0, i.0), entry.requires.1.1.0)
+    let i = c.loop.invariant in
+    (i.6, omega (arith, room-size _ _ _ _ _ _ c.requires.0, c.type_size.ensures, c.pop_group.auto.0, i.0), c.requires.1.1.0)
 
 loop-less : tie.Need-loop-first-smaller invariant-loop decreases-loop
 loop-less c =
-    let call = c.before.before.before.before.before.before.before.before.before.before.before.before.before in
-    let turn = call.before.before.before.before.before in
-    let loop = turn.before in
-    let entry = loop.before.before.before.before.before.before.before.before.before.before.before.before.before in
-    let i = loop.loop.invariant in
-    let one = call.pop-group in
-    let group = first_group _ _ _ _ _ _ i.7 _ _ (omega (arith, entry.requires.0.marked, i.1)) one.ensures.0 (i.8 turn.loop-test.true) in
-    matching-falls _ _ _ _ _ entry.requires.1.1.0 _ _ _ _ group.0 refl one.ensures.1
+    let i = c.loop.invariant in
+    let one = c.pop_group in
+    let group = first_group _ _ _ _ _ _ i.7 _ _ (omega (arith, c.requires.0.marked, i.1)) one.ensures.0 (i.8 c.loop-test.true) in
+    matching-falls _ _ _ _ _ c.requires.1.1.0 _ _ _ _ group.0 refl one.ensures.1
 
 loop-again : tie.Need-loop-first-preserved invariant-loop decreases-loop
 loop-again c =
-    let put = c.before.before.before.before.put-page in
-    let call = c.before.before.before.before.before.before.before.before.before.before.before.before.before in
-    let turn = call.before.before.before.before.before in
-    let loop = turn.before in
-    let sized = loop.before.before.before.before in
-    let entry = sized.before.before.before.before.before.before.before.before.before in
-    let a = entry.args in
-    let i = loop.loop.invariant in
-    let none = entry.requires.1.1.0 in
-    let one = call.pop-group in
-    let group = first_group _ _ _ _ _ _ i.7 _ _ (omega (arith, entry.requires.0.marked, i.1)) one.ensures.0 (i.8 turn.loop-test.true) in
+    let put = c.put_page-next in
+    let a = c.args in
+    let i = c.loop.invariant in
+    let none = c.requires.1.1.0 in
+    let one = c.pop_group in
+    let group = first_group _ _ _ _ _ _ i.7 _ _ (omega (arith, c.requires.0.marked, i.1)) one.ensures.0 (i.8 c.loop-test.true) in
     let cleared = one.ensures.1 in
     let box = c.next_box-first-in-loop-first.ensures in
-    let page = put_page a.row-starts.now a.cuts.now a.sizes.now 4 in
+    let page = put_page a.row_starts.now a.cuts.now a.sizes.now 4 in
     let marked = marks-round _ _ _ _ _ none _ _ _ _ group.0 refl cleared _ _ group.1 in (
       one.auto.0 ∙ i.0,
       one.auto.1.1.0 ∙ i.1,
@@ -112,21 +90,18 @@ loop-again c =
       elsewhere-round _ _ _ _ _ none _ _ _ _ group.0 refl cleared _ i.5,
       box.1,
       none-join _ _ _ _ _
-          (none_after _ _ _ _ _ _ _ entry.requires.0.column.filled (empty-unmatched _ _ none) cleared (omega (arith, i.6, sized.type_size.ensures)) i.7) box.2,
+          (none_after _ _ _ _ _ _ _ c.requires.0.column.filled (empty-unmatched _ _ none) cleared (omega (arith, i.6, c.type_size.ensures)) i.7) box.2,
       box.3,
       one.auto.1.1.1.0 ∙ i.9,
     )
 
 returns : tie.Need-returns invariant-loop decreases-loop
 returns c =
-    let loop = c.before in
-    let sized = loop.before.before.before.before in
-    let entry = sized.before.before.before.before.before.before.before.before.before in
-    let a = entry.args in
-    let i = loop.loop-first.invariant in
-    let none = entry.requires.1.1.0 in
-    let over = no-group _ _ a.sizes.now _ 4 _ i.7 (omega (arith, c.loop-first-test.false, sized.type_size.ensures)) in
-    let page = put_page a.row-starts.now a.cuts.now a.sizes.now 4 in
+    let a = c.args in
+    let i = c.loop-first.invariant in
+    let none = c.requires.1.1.0 in
+    let over = no-group _ _ a.sizes.now _ 4 _ i.7 (omega (arith, c.loop-first-test.false, c.type_size.ensures)) in
+    let page = put_page a.row_starts.now a.cuts.now a.sizes.now 4 in
     let written = loop-end _ _ _ _ _ none page _ _ over refl _ _ _ i.3.0 i.3.1 in
     let marked = loop-end _ _ _ _ _ none (mark_group _ _) _ _ over refl _ _ _ i.4 i.3.1 in
     (written.0, record { marked = marked.0; left = written.1; elsewhere = i.5 })
@@ -136,26 +111,16 @@ pop_class_spec =
     tie.close
     (tie.spec invariant-loop decreases-loop
     (λ c κs.
-    let entry = c.before.before.before.before.before.before.before.before in
-    let room = entry.requires.0 in
-    (room.column.dims, room.column.filled, omega (arith, room-size _ _ _ _ _ _ room, entry.well-formed)))
+    let room = c.requires.0 in
+    (room.column.dims, room.column.filled, omega (arith, room-size _ _ _ _ _ _ room, c.well_formed)))
     (λ c κs.
-    let entry = c.before.before.before.before.before.before.before.before.before in
-    (entry.requires.0.column.dims, omega (arith, entry.requires.0.marked, entry.well-formed)))
+    (c.requires.0.column.dims, omega (arith, c.requires.0.marked, c.well_formed)))
     (λ c κs.
-    let sized = c.before.before in
-    let entry = sized.before.before.before.before.before.before.before.before.before in
-    (omega arith, omega (arith, room-size _ _ _ _ _ _ entry.requires.0, sized.type_size.ensures), entry.requires.1.1.0))
-    (λ c. let box = c.next-box.ensures in (refl, refl, refl, (refl, refl), refl, (λ d h. refl), box.1, box.2, box.3, refl))
+    (omega arith, omega (arith, room-size _ _ _ _ _ _ c.requires.0, c.type_size.ensures), c.requires.1.1.0))
+    (λ c. let box = c.next_box-first.ensures in (refl, refl, refl, (refl, refl), refl, (λ d h. refl), box.1, box.2, box.3, refl))
     (λ c.
-    let loop = c.before in
-    let sized = loop.before.before.before.before in
-    let entry = sized.before.before.before.before.before.before.before.before.before in
-    omega (arith, room-size _ _ _ _ _ _ entry.requires.0, sized.type_size.ensures, c.loop-test.true, entry.well-formed))
+    omega (arith, room-size _ _ _ _ _ _ c.requires.0, c.type_size.ensures, c.loop-first-test.true, c.well_formed))
     (λ c.
-    let loop = c.before.before in
-    let sized = loop.before.before.before.before in
-    let entry = sized.before.before.before.before.before.before.before.before.before in
-    omega (arith, room-size _ _ _ _ _ _ entry.requires.0, sized.type_size.ensures, c.before.loop-test.true, loop.loop.invariant.0))
+    omega (arith, room-size _ _ _ _ _ _ c.requires.0, c.type_size.ensures, c.loop-first-test.true, c.loop-first.invariant.0))
     pop-group-requires put-page-requires next-box-requires-2 loop-less loop-again
-    (λ c. c.before.loop.invariant.0) (λ c. c.before.loop.invariant.1) (λ c. c.before.loop.invariant.9) (λ c. c.before.loop.invariant.2) returns)
+    (λ c. c.loop-first.invariant.0) (λ c. c.loop-first.invariant.1) (λ c. c.loop-first.invariant.9) (λ c. c.loop-first.invariant.2) returns)

@@ -28,19 +28,15 @@ decreases-loop cells₀ classes sizes marks₀ boxes₀ rows cuts pages₀ next�
 
 loop-holds : tie.Need-loop-class-init invariant-loop decreases-loop
 loop-holds c =
-    let entry = c.before.before.before.before.before.before.before.before in
-    let a = entry.args in
-    let p = entry.requires in
-    let few = pages-few a.row-starts.now a.cuts.now a.cells.now a.classes.now a.sizes.now 5 1 p.1.1.0.0 in
+    let a = c.args in
+    let p = c.requires in
+    let few = pages-few a.row_starts.now a.cuts.now a.cells.now a.classes.now a.sizes.now 5 1 p.1.1.0.0 in
     (omega arith, refl, refl, refl, refl, omega (arith, few, p.1.1.0.1), refl, λ cells₁ marks₁ taken. taken)
 
 pop-class-requires : tie.Need-pop_class-next-requires invariant-loop decreases-loop
 pop-class-requires c κs =
-    let turn = c.before.before.before.before in
-    let loop = turn.before in
-    let entry = loop.before.before.before.before.before.before.before.before.before in
-    let p = entry.requires in
-    let i = loop.loop-class.invariant in (
+    let p = c.requires in
+    let i = c.loop-class.invariant in (
       room-len₂ _ _ _ _ _ _ _ i.2 (room-len _ _ _ _ _ _ _ i.1 p.0),
       (
         p.1.0,
@@ -48,7 +44,7 @@ pop-class-requires c κs =
           p.1.1.0.0,
           (
             (omega (arith, p.1.1.1.0, i.3), omega (arith, p.1.1.1.1, i.1)),
-            class-room _ _ _ _ _ _ _ _ _ loop.loop-class.pages turn.loop-class-test.true i.5,
+            class-room _ _ _ _ _ _ _ _ _ c.loop-class.pages c.loop-class-test.true i.5,
           ),
         ),
       ),
@@ -56,11 +52,9 @@ pop-class-requires c κs =
 
 loop-again : tie.Need-loop-class-preserved invariant-loop decreases-loop
 loop-again c =
-    let call = c.before.before.before.before.before.before.before.before in
-    let turn = call.before.before.before.before.before in
-    let i = turn.before.loop-class.invariant in
-    let one = call.pop_class-next in
-    let on = turn.loop-class-test.true in (
+    let i = c.loop-class.invariant in
+    let one = c.pop_class-next in
+    let on = c.loop-class-test.true in (
       omega (arith, on),
       one.auto.0 ∙ i.1,
       one.auto.1.1.1.0 ∙ i.2,
@@ -74,7 +68,7 @@ loop-again c =
 returns : tie.Need-returns invariant-loop decreases-loop
 returns c =
     let over = c.loop-class-test.false in
-    let i = c.before.loop-class.invariant in
+    let i = c.loop-class.invariant in
     let whole = pages-whole _ _ _ _ _ _ _ _ (groups-end _ _ _ _ _ _ (put_page _ _ _ _) _ over ∙ i.6) in
     (whole.0, whole.1, i.7 _ _ (taken_none _ _ _ _ _ _ _ over))
 
@@ -82,6 +76,6 @@ pub pop_pages_spec : {M : Type 1} → statement M
 pop_pages_spec =
     tie.close
     (tie.spec invariant-loop decreases-loop loop-holds pop-class-requires
-    (λ c. omega (arith, c.before.before.before.before.before.before.before.before.before.before.before.before.before.loop-test.true))
-    (λ c. omega (arith, c.before.before.before.before.before.before.before.before.before.before.before.before.before.loop-test.true)) loop-again
-    (λ c. c.before.loop.invariant.1) (λ c. c.before.loop.invariant.2) (λ c. c.before.loop.invariant.3) (λ c. c.before.loop.invariant.4) returns)
+    (λ c. omega (arith, c.loop-class-test.true))
+    (λ c. omega (arith, c.loop-class-test.true)) loop-again
+    (λ c. c.loop-class.invariant.1) (λ c. c.loop-class.invariant.2) (λ c. c.loop-class.invariant.3) (λ c. c.loop-class.invariant.4) returns)

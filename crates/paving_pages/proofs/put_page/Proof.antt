@@ -9,24 +9,21 @@ use Rattle.paving_pages.proofs.put_page.Tie as tie
 
 slice-write-pages : tie.Need-bounds-pages-at
 slice-write-pages c =
-    let entry = c.before.before.before.before.before in
-    let a = entry.args in
-    let room = page-room a.row-starts.now a.cuts.now a.sizes.now a.marks.now a.value a.at a.dims-left (length a.pages.now) in
-    omega (arith, room entry.requires.1.1)
+    let a = c.args in
+    let room = page-room a.row_starts.now a.cuts.now a.sizes.now a.marks.now a.value a.at a.dims_left (length a.pages.now) in
+    omega (arith, room c.requires.1.1)
 
 fits : tie.Need-overflow_add-at-3
 fits c =
-    let entry = c.before.before.before.before.before.before in
-    let a = entry.args in
-    let room = page-room a.row-starts.now a.cuts.now a.sizes.now a.marks.now a.value a.at a.dims-left (length a.pages.now) in
-    omega (arith, room entry.requires.1.1, entry.well-formed)
+    let a = c.args in
+    let room = page-room a.row_starts.now a.cuts.now a.sizes.now a.marks.now a.value a.at a.dims_left (length a.pages.now) in
+    omega (arith, room c.requires.1.1, c.well_formed)
 
 put-sorts-requires : tie.Need-put_sorts-requires
 put-sorts-requires c κs =
-    let entry = c.before.before.before.before.before.before in
-    let a = entry.args in
-    let room = page-room a.row-starts.now a.cuts.now a.sizes.now a.marks.now a.value a.at a.dims-left (length a.pages.now) in
-    (entry.requires.0, ((entry.requires.1.0, omega arith), omega (arith, room entry.requires.1.1, length-set a.pages.now a.at a.value)))
+    let a = c.args in
+    let room = page-room a.row_starts.now a.cuts.now a.sizes.now a.marks.now a.value a.at a.dims_left (length a.pages.now) in
+    (c.requires.0, ((c.requires.1.0, omega arith), omega (arith, room c.requires.1.1, length-set a.pages.now a.at a.value)))
 
 pub put_page_spec : {M : Type 1} → statement M
 put_page_spec =
@@ -36,5 +33,5 @@ put_page_spec =
     (λ c. omega (arith, fits c))
     (λ c. omega (arith, fits c))
     fits put-sorts-requires
-    (λ c. let a = c.before.before.before.before.before.before.before.before.before.args in c.before.before.put-sorts.auto.0 ∙ length-set a.pages.now a.at a.value)
-    (λ c. put-page _ _ _ _ _ _ _ _ _ _ c.before.before.put-sorts.ensures))
+    (λ c. let a = c.args in c.put_sorts.auto.0 ∙ length-set a.pages.now a.at a.value)
+    (λ c. put-page _ _ _ _ _ _ _ _ _ _ c.put_sorts.ensures))

@@ -21,13 +21,13 @@ number c = c.before.before.before.before.before.before.before.before.before.befo
 
 -- ## What numbering the days leaves
 abbrev pages : tie.After-number-lists → List ℕ
-pages c = c.number-lists.new.1.1.1.1.1.0
+pages c = c.number_lists.new.1.1.1.1.1.0
 
 abbrev numbers : tie.After-number-lists → List ℕ
-numbers c = c.number-lists.new.1.1.1.1.1.1.0
+numbers c = c.number_lists.new.1.1.1.1.1.1.0
 
 abbrev classes : tie.After-number-lists → List ℕ
-classes c = c.number-lists.new.1.1.1.1.1.1.1.0
+classes c = c.number_lists.new.1.1.1.1.1.1.1.0
 
 -- as many numbers as boxes are lent
 whole : (c : tie.After-size-of) → c.type_size.result + 1 - 1 ≡ c.type_size.result
@@ -36,56 +36,51 @@ whole c = omega arith
 -- ## What is needed
 size-of-requires : tie.Need-size_of-boxes-requires
 size-of-requires c κs =
-    let given = c.before.before.before.before.before.before.before.before.before.requires.0.2 in
+    let given = c.requires.0.2 in
     (omega (arith, given.cut.four), given.cut.filled, omega (arith, given.few-boxes))
 
 number-lists-requires : tie.Need-number_lists-requires
 number-lists-requires c κs =
-    let size = c.before.before.before.before.before in
-    let entry = start size in
+    let entry = start c in
     let a = entry.args in
     let given = entry.pre.0 in
-    own-numbered a.states.now a.span_counts.now a.spans.now a.row-starts.now a.sizes.now a.cuts.now a.lists.now given.0 given.1 given.2 _ _ _ _
-    size.type_size.ensures entry.pre.1.1 entry.pre.1.0 c.before.before.before.before.box_classes-classes.ensures
+    own-numbered a.states.now a.span_counts.now a.spans.now a.row_starts.now a.sizes.now a.cuts.now a.lists.now given.0 given.1 given.2 _ _ _ _
+    c.type_size.ensures entry.pre.1.1 entry.pre.1.0 c.box_classes-classes.ensures
 
 pop-pages-requires : tie.Need-pop_pages-stop-requires
 pop-pages-requires c κs =
-    let numbered = c.before.before.before.before.before.before.before.before.before in
-    let made = numbered.before.before.before.before in
-    let size = sized numbered in
+    let size = sized c in
     let entry = start size in
     let a = entry.args in
     let given = entry.pre.0 in
-    own-popped a.states.now a.span_counts.now a.spans.now a.row-starts.now a.sizes.now a.cuts.now a.lists.now given.0 given.1 given.2
-    (numbers numbered) (classes numbered) _ _ size.type_size.ensures (whole size)
-    (omega (arith, entry.pre.1.0, numbered.number_lists.auto.1.1.1.1.1.1.0)) numbered.number_lists.ensures _ _
-    (omega (arith, given.2.few-boxes, made.marks-marks.ensures)) (omega (arith, entry.pre.1.1, numbered.number_lists.auto.1.1.1.1.1.0))
+    own-popped a.states.now a.span_counts.now a.spans.now a.row_starts.now a.sizes.now a.cuts.now a.lists.now given.0 given.1 given.2
+    (numbers c) (classes c) _ _ size.type_size.ensures (whole size)
+    (omega (arith, entry.pre.1.0, c.number_lists.auto.1.1.1.1.1.1.0)) c.number_lists.ensures _ _
+    (omega (arith, given.2.few-boxes, c.marks-marks.ensures)) (omega (arith, entry.pre.1.1, c.number_lists.auto.1.1.1.1.1.0))
 
 count-pages-requires : tie.Need-count_pages-requires
 count-pages-requires c κs =
-    let popped = c.before.before.before.before.before.before in
-    let numbered = number popped in
+    let numbered = number c in
     let size = sized numbered in
     let entry = start size in
     let a = entry.args in
     let given = entry.pre.0 in
-    let ended = own-ended a.states.now a.span_counts.now a.spans.now a.row-starts.now a.sizes.now a.cuts.now a.lists.now given.0 given.1 given.2
+    let ended = own-ended a.states.now a.span_counts.now a.spans.now a.row_starts.now a.sizes.now a.cuts.now a.lists.now given.0 given.1 given.2
     (numbers numbered) (classes numbered) _ _ size.type_size.ensures (whole size)
-    (omega (arith, entry.pre.1.0, numbered.number-lists.kept.1.1.1.1.1.1.0)) numbered.number-lists.ensures (pages numbered) _
-    (omega (arith, entry.pre.1.1, numbered.number-lists.kept.1.1.1.1.1.0)) popped.pop-pages.ensures.1 _ popped.pop-pages.ensures.0 in
-    (ended.0, omega (arith, ended.1, popped.pop-pages.auto.1.1.1.1.1.1.0))
+    (omega (arith, entry.pre.1.0, numbered.number_lists.kept.1.1.1.1.1.1.0)) numbered.number_lists.ensures (pages numbered) _
+    (omega (arith, entry.pre.1.1, numbered.number_lists.kept.1.1.1.1.1.0)) c.pop_pages.ensures.1 _ c.pop_pages.ensures.0 in
+    (ended.0, omega (arith, ended.1, c.pop_pages.auto.1.1.1.1.1.1.0))
 
 returns : tie.Need-returns
 returns c =
-    let popped = c.before.before.before.before.before.before.before in
-    let numbered = number popped in
+    let numbered = number c in
     let size = sized numbered in
     let entry = start size in
     let a = entry.args in
-    λ rs form times given commented. own-folded a.states.now a.span_counts.now a.spans.now a.row-starts.now a.sizes.now a.cuts.now a.lists.now rs times given
+    λ rs form times given commented. own-folded a.states.now a.span_counts.now a.spans.now a.row_starts.now a.sizes.now a.cuts.now a.lists.now rs times given
     (numbers numbered) (classes numbered) _ _ size.type_size.ensures (whole size)
-    (omega (arith, entry.pre.1.0, numbered.number-lists.kept.1.1.1.1.1.1.0)) numbered.number-lists.ensures (pages numbered) _
-    (omega (arith, entry.pre.1.1, numbered.number-lists.kept.1.1.1.1.1.0)) popped.pop-pages.ensures.1 _ popped.pop-pages.ensures.0 form commented _
+    (omega (arith, entry.pre.1.0, numbered.number_lists.kept.1.1.1.1.1.1.0)) numbered.number_lists.ensures (pages numbered) _
+    (omega (arith, entry.pre.1.1, numbered.number_lists.kept.1.1.1.1.1.0)) c.pop_pages.ensures.1 _ c.pop_pages.ensures.0 form commented _
     c.count_pages.ensures
 
 pub fold_lists_spec : {M : Type 1} → statement M

@@ -11,31 +11,27 @@ start c = c.before.before.before.before.before.before.before.before.before.befor
 
 list-rules-requires : tie.Need-list_rules-listed-requires
 list-rules-requires c κs =
-    let pre = c.before.before.before.before.before.before.before.before.before.before.before.before.before.requires in
+    let pre = c.requires in
     let given = pre.0.1 in
     ((_, (given.drawable, given.passed.apart)), (given.passed.few-boxes, pre.1.listed, pre.1.empty))
 
 returns : tie.Need-returns-in-Refused
 returns c =
-    let listing = c.before.before.before.before.before in
     λ rs given. paves-refused _ _ _ _ _ rs _ _
-    (listing-refused _ _ _ _ rs _ (listing.list_rules-listed.ensures rs (given.drawable, given.passed.apart)) _ _ c.before.listed-1.given.1)
+    (listing-refused _ _ _ _ rs _ (c.list_rules-listed.ensures rs (given.drawable, given.passed.apart)) _ _ c.in-Refused.is)
 
 fold-lists-requires : tie.Need-fold_lists-count-requires
 fold-lists-requires c κs =
-    let listing = c.before.before.before.before.before.before.before in
-    let pre = (start listing).requires in
+    let pre = (start c).requires in
     let given = pre.0.1 in
-    let held = listing-held _ _ _ _ _ _ (listing.list-rules.ensures _ (given.drawable, given.passed.apart)) c.before.before.before.enum_told.given.1 in
+    let held = listing-held _ _ _ _ _ _ (c.list_rules.ensures _ (given.drawable, given.passed.apart)) c.in-Held.is in
     ((_, given.times, held.1), (pre.1.numbered, pre.1.paged))
 
 returns-2 : tie.Need-returns-in-Held
 returns-2 c =
-    let folding = c.before.before.before.before in
-    let listing = folding.before.before.before.before.before.before.before.before in
     λ rs given.
-    let held = listing-held _ _ _ _ rs _ (listing.list-rules.ensures rs (given.drawable, given.passed.apart)) folding.before.before.before.before.enum_told.given.1 in
-    paves-pages _ _ _ _ _ rs _ held.0 (λ form commented. folding.fold_lists-count.ensures rs form given.times held.1 commented)
+    let held = listing-held _ _ _ _ rs _ (c.list_rules.ensures rs (given.drawable, given.passed.apart)) c.in-Held.is in
+    paves-pages _ _ _ _ _ rs _ held.0 (λ form commented. c.fold_lists-count.ensures rs form given.times held.1 commented)
 
 pub pave_spec : {M : Type 1} → statement M
 pave_spec =

@@ -16,31 +16,28 @@ decreases-loop sizes left width₀ dimension₀ width dimension = left - dimensi
 
 add-width : tie.Need-overflow_add-width invariant-loop decreases-loop
 add-width c =
-    let loop = c.before.before.before in
-    let start = loop.before.before in
-    let sizes = start.args.sizes.now in
-    let i = loop.loop-dimension.dimension in
+    let sizes = c.args.sizes.now in
+    let i = c.loop-dimension.dimension in
     omega (
       arith,
       width-next sizes i (suc i) (omega arith),
-      width-le sizes (suc i) start.args.dims-left (omega (arith, c.before.before.loop-dimension-test.true)),
+      width-le sizes (suc i) c.args.dims_left (omega (arith, c.loop-dimension-test.true)),
       c.u16_to_usize-width.ensures.0,
-      loop.loop-dimension.invariant.1,
-      start.requires.1,
+      c.loop-dimension.invariant.1,
+      c.requires.1,
     )
 
 loop-again : tie.Need-loop-dimension-preserved invariant-loop decreases-loop
 loop-again c =
-    let loop = c.before.before.before in
-    let sizes = loop.before.before.args.sizes.now in
-    let i = loop.loop-dimension.dimension in
-    (omega (arith, c.before.before.loop-dimension-test.true), omega (arith, width-next sizes i (i + 1) (omega arith), c.u16_to_usize-width.ensures.0, loop.loop-dimension.invariant.1))
+    let sizes = c.args.sizes.now in
+    let i = c.loop-dimension.dimension in
+    (omega (arith, c.loop-dimension-test.true), omega (arith, width-next sizes i (i + 1) (omega arith), c.u16_to_usize-width.ensures.0, c.loop-dimension.invariant.1))
 
 returns : tie.Need-returns invariant-loop decreases-loop
 returns c =
-    let args = c.before.before.before.args in
-    let all : c.before.loop-dimension.dimension ≡ args.dims-left = omega arith in
-    c.before.loop-dimension.invariant.1 ∙ ap (width_of args.sizes.now) all
+    let args = c.args in
+    let all : c.loop-dimension.dimension ≡ args.dims_left = omega arith in
+    c.loop-dimension.invariant.1 ∙ ap (width_of args.sizes.now) all
 
 pub width_of_spec : {M : Type 1} → statement M
 width_of_spec =

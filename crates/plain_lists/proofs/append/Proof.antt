@@ -15,15 +15,15 @@ use Rattle.plain_lists.proofs.append.Statement.{statement}
 use Rattle.plain_lists.proofs.append.Tie as tie
 
 -- the list at whose end the rule is put is as long as the count says
-based : (c : tie.Joined1) → let a = c.before.before.args in c.if1.count ≡ length (base a.replaces (list_of a.lists.now a.box-index))
+based : (c : tie.Joined1) → let a = c.before.before.args in c.if1.count ≡ length (base a.replaces (list_of a.lists.now a.box_index))
 based c =
     let a = c.before.before.args in
-    ⊎_elim (λ w. based-none a.lists.now a.box-index a.replaces c.if1.count w.0.taken w.1)
-    (λ w. based-all a.lists.now a.box-index a.replaces c.if1.count w.0.left w.2) c.if1.branch
+    ⊎_elim (λ w. based-none a.lists.now a.box_index a.replaces c.if1.count w.0.taken w.1)
+    (λ w. based-all a.lists.now a.box_index a.replaces c.if1.count w.0.left w.2) c.if1.branch
 
 -- and has fewer rules than it may have
 allowed : (c : tie.Else2) → ltb c.before.before.if1.count 32 ≡ true
-allowed c = sym c.before.entry-allowed.ensures ∙ not-false _ c.if2.false
+allowed c = sym c.before.entry_allowed.ensures ∙ not-false _ c.if2.false
 
 few : (c : tie.Else2) → c.before.before.if1.count < 32
 few c = ltb-true c.before.before.if1.count 32 (allowed c)
@@ -33,16 +33,13 @@ append_spec =
     tie.close
     (tie.spec
     (λ c. search rules) (λ c. search rules) (λ c. search rules) (λ c κs. search rules)
-    (λ c. let joined = c.before.before in appended-full _ _ _ _ _ (based joined) (sym c.before.entry-allowed.ensures ∙ not-true _ c.if2.true))
+    (λ c. appended-full _ _ _ _ _ (based c) (sym c.entry_allowed.ensures ∙ not-true _ c.if-not-entry_allowed.true-raw))
     (λ c. search rules) (λ c κs. search rules) (λ c. search rules) (λ c. search rules)
     (λ c.
-    let start = c.before.before.before.before.before in
-    omega (arith, start.requires.room, few c.before, c.u16-to-usize.ensures.0))
-    (λ c. omega (arith, few c.before.before))
+    omega (arith, c.requires.room, few c, c.u16_to_usize.ensures.0))
+    (λ c. omega (arith, few c))
     (λ c. search rules)
-    (λ c. simp length-set (omega (arith, c.before.before.before.before.before.before.requires.room)))
+    (λ c. simp length-set (omega (arith, c.requires.room)))
     (λ c. search rules)
     (λ c.
-    let left = c.before.before in
-    let joined = left.before.before in
-    appended-more _ _ _ _ _ (based joined) joined.before.before.requires (allowed left) (few left) _ (omega (arith, c.before.u16-to-usize.ensures.0))))
+    appended-more _ _ _ _ _ (based c) c.requires (allowed c) (few c) _ (omega (arith, c.u16_to_usize.ensures.0))))

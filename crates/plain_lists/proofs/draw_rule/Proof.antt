@@ -32,34 +32,31 @@ draw_rule_spec =
     invariant-loop decreases-loop
     (λ c. (omega arith, refl, drawn-none _ _ _ _ _))
     (λ c κs. (start c).requires.1)
-    (λ c. let entry = start (turn c.before.before) in omega (arith, entry.pre.0.1))
+    (λ c. let entry = start (turn c) in omega (arith, entry.pre.0.1))
     (λ c κs.
-    let test = turn c.before.before in
+    let test = turn c in
     let inv = test.before.loop.inv in
     (drawn-have _ _ _ _ _ (start test).pre.0.0 _ _ inv.2 inv.1).each _ test.loop-test.taken)
-    (λ c. let appending = c.before.before.before in appending.append.auto.0 ∙ (turn appending.before.before.before).before.loop.inv.1)
+    (λ c. c.append.auto.0 ∙ (turn c).before.loop.inv.1)
     (λ c.
-    let appending = c.before.before.before in
-    let asked = appending.before.before.before in
-    let test = turn asked in
-    drawn-full _ _ _ _ _ (start test).pre.0.0 _ _ test.before.loop.inv.2 test.loop-test.taken _ _ (sym asked.covers.ensures ∙ appending.before.before.if1.true)
-    appending.append.ensures (not-true _ c.if2.true))
+    let test = turn c in
+    drawn-full _ _ _ _ _ (start test).pre.0.0 _ _ test.before.loop.inv.2 test.loop-test.taken _ _ (sym c.covers.ensures ∙ c.if-covers.true)
+    c.append.ensures (not-true _ c.if-not-append.true-raw))
     (λ c. search rules) (λ c. search rules)
     (λ c.
-    let asked = c.before in
-    let test = turn asked in
+    let test = turn c in
     let inv = test.before.loop.inv in
     let a = (start test).args in
-    let drawn = Drawn a.lists.now a.boxes a.rule a.replaces (covers_box a.row-starts.now a.sizes.now a.cuts.now a.range-counts.now a.ranges.now a.rule) in
-    let box = test.before.loop.box-index in (
+    let drawn = Drawn a.lists.now a.boxes a.rule a.replaces (covers_box a.row_starts.now a.sizes.now a.cuts.now a.range_counts.now a.ranges.now a.rule) in
+    let box = test.before.loop.box_index in (
       omega (arith, test.loop-test.taken),
-      ⊎_elim (λ w. ap length w.6 ∙ w.2.kept.0 ∙ inv.1) (λ w. ap length w.1 ∙ inv.1) c.if1.branch,
+      ⊎_elim (λ w. ap length w.6 ∙ w.2.kept.0 ∙ inv.1) (λ w. ap length w.1 ∙ inv.1) c.if-covers.branch,
       ⊎_elim
           (λ w. subst (λ l. drawn l (box + 1)) (sym w.6) (drawn-more _ _ _ _ _ (start test).pre.0.0 _ _ inv.2 test.loop-test.taken _ _
-          (sym asked.covers.ensures ∙ w.0.taken) w.2.ensures (not-false _ w.5.left)))
+          (sym c.covers.ensures ∙ w.0.taken) w.2.ensures (not-false _ w.5.left)))
           (λ w. subst (λ l. drawn l (box + 1)) (sym w.1) (drawn-clear _ _ _ _ _ (start test).pre.0.0 _ _ inv.2 test.loop-test.taken
-          (sym asked.covers.ensures ∙ w.0.left)))
-          c.if1.branch,
+          (sym c.covers.ensures ∙ w.0.left)))
+          c.if-covers.branch,
     ))
-    (λ c. c.before.loop.invariant.1)
-    (λ c. drawn-all _ _ _ _ _ _ _ c.loop-test.false c.before.loop.invariant.2))
+    (λ c. c.loop-box_index.invariant.1)
+    (λ c. drawn-all _ _ _ _ _ _ _ c.loop-box_index-test.false c.loop-box_index.invariant.2))

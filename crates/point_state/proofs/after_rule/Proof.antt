@@ -9,7 +9,7 @@ after_rule_spec =
     tie.close
     (tie.spec
     (λ c κs. search rules)
-    (λ c. rule-alone _ _ _ _ _ _ _ c.before.if1.true _ c.over-rule.ensures)
+    (λ c. rule-alone _ _ _ _ _ _ _ c.if-replaces.true _ c.over_rule.ensures)
     (λ c. search rules) (λ c κs. search rules) (λ c. search rules)
-    (λ c. let told = c.before.before in rule-ended _ _ _ _ _ _ _ told.before.before.if1.false _ told.before2.given.1 _ c.over-rule2.ensures)
-    (λ c. rule-unsettled _ _ _ _ _ _ _ c.before.before.if1.false c.enum_told.given.1))
+    (λ c. rule-ended _ _ _ _ _ _ _ c.if-replaces.false _ c.in-State.is _ c.over_rule-in-State.ensures)
+    (λ c. rule-unsettled _ _ _ _ _ _ _ c.if-replaces.false c.in-Unsettled.is))

@@ -10,6 +10,6 @@ at_rule_spec =
     tie.close
     (tie.spec
     (λ c κs. search rules)
-    (λ c. rule-passed _ _ _ _ _ _ _ _ _ c.before.covers.ensures (not-true _ c.if1.true))
+    (λ c. rule-passed _ _ _ _ _ _ _ _ _ c.covers.ensures (not-true _ c.if-not-covers.true-raw))
     (λ c. search rules) (λ c. search rules) (λ c κs. search rules)
-    (λ c. let tested = c.before.before in rule-drawn _ _ _ _ _ _ _ _ _ tested.before.covers.ensures (not-false _ tested.if1.false) _ c.after-rule.ensures))
+    (λ c. rule-drawn _ _ _ _ _ _ _ _ _ c.covers.ensures (not-false _ c.if-not-covers.false-raw) _ c.after_rule.ensures))

@@ -28,12 +28,12 @@ point_state_spec =
     (tie.spec
     invariant-loop decreases-loop
     (λ c. (omega arith, λ rs given. state-start _ _ _ _ _ _ rs given _ _))
-    (λ c κs. let given = (start c).requires in each-there _ _ _ _ _ _ given.0 given.1 (moment_point (start c).args.moment) _ c.loop-test.true)
-    (λ c. let turn = c.before in omega (arith, turn.loop-test.true, (start turn).well-formed))
-    (λ c. omega (arith, c.before.loop-test.true))
+    (λ c κs. let given = (start c).requires in each-there _ _ _ _ _ _ given.0 given.1 (moment_point (start c).args.moment) _ c.loop-rule-test.true)
+    (λ c. omega (arith, c.loop-rule-test.true, (start c).well_formed))
+    (λ c. omega (arith, c.loop-rule-test.true))
     (λ c.
-    let turn = c.before in (
-      omega (arith, turn.loop-test.true),
-      λ rs given. rw c.at-rule.ensures (state-next _ _ _ _ _ _ rs given _ _ _ turn.loop-test.true _ (turn.before.loop.invariant.1 rs given)),
+    (
+      omega (arith, c.loop-rule-test.true),
+      λ rs given. rw c.at_rule-found.ensures (state-next _ _ _ _ _ _ rs given _ _ _ c.loop-rule-test.true _ (c.loop-rule.invariant.1 rs given)),
     ))
-    (λ c. λ rs given. state-end _ _ _ _ _ _ rs given _ _ _ c.loop-test.false c.before.loop.invariant.0 _ (c.before.loop.invariant.1 rs given)))
+    (λ c. λ rs given. state-end _ _ _ _ _ _ rs given _ _ _ c.loop-rule-test.false c.loop-rule.invariant.0 _ (c.loop-rule.invariant.1 rs given)))

@@ -12,14 +12,12 @@ draining c = c.before.before.before.before.before.before.before.before.before.be
 abbrev known : tie.After-drain → tie.After-shared-slice-known
 known c = c.before.before.before.before.before.before.before.before.before.before.before.before.before.before.before.before.before
 
-drain-requires : tie.Need-drain-requires
+drain-requires : tie.Need-drain-drained-requires
 drain-requires c κs =
-    let shared-slice-known = c.before.before.before.before.before.before.before.before.before.before.before.before.before.before.before.before in
-    let entry = shared-slice-known.before in
-    let sheet = entry.args.sheet.now in
-    let pre = entry.requires in
+    let sheet = c.args.sheet.now in
+    let pre = c.requires in
     let read = pre.0.1.1 in
-    let bytes = known_bytes sheet (λ j. omega (arith, shared-slice-known.shared-slice-known.given j)) in
+    let bytes = known_bytes sheet (λ j. omega (arith, c.shared_slice_known-1.given j)) in
     let room = pre.1.0 in (
       rules-begin _ sheet bytes _ _ _ _ read.0 read.1,
       ((begins-there _ sheet bytes _ _ _ _ read.0 read.1, room.0, room.1, room.2, room.3), pre.1.1.0),
@@ -27,13 +25,12 @@ drain-requires c κs =
 
 judge-requires : tie.Need-judge-requires
 judge-requires c κs =
-    let drain-step = c.before.before.before.before.before.before.before.before.before.before.before.before.before.before.before.before.before in
-    let entry = (known drain-step).before in
+    let entry = (known c).before in
     let sheet = entry.args.sheet.now in
     let pre = entry.pre in
     let read = pre.0.1.1 in
-    let drain = drain-step.drain in
-    let bytes = known_bytes sheet (λ j. omega (arith, (known drain-step).shared-slice-known.given j)) in
+    let drain = c.drain in
+    let bytes = known_bytes sheet (λ j. omega (arith, (known c).shared-slice-known.given j)) in
     let few = drained-few _ sheet bytes _ _ _ _ read.0 read.1 _ _ _ _ _ _ _ drain.ensures.0 drain.ensures.2 in
     let kept = drain.auto.1.1.1.1.1.1.1.1 in
     let days = drained-days _ sheet bytes _ _ _ _ read.0 read.1 _ _ _ _ _ _ _ drain.ensures.0 drain.ensures.2
@@ -42,8 +39,7 @@ judge-requires c κs =
 
 returns : tie.Need-returns
 returns c =
-    let judge = c.before.before.before.before.before.before in
-    let drain-step = draining judge in
+    let drain-step = draining c in
     let entry = (known drain-step).before in
     let sheet = entry.args.sheet.now in
     let pre = entry.pre in
@@ -55,18 +51,18 @@ returns c =
     sheet-judged _ sheet bytes _ rs end _ reading many _ _ _ _ _ _ _ drain.ensures.0 drain.ensures.2
     (omega (arith, kept.1.1.1.1.0, pre.1.1.0.0)) (omega (arith, kept.1.1.1.1.1.0, pre.1.1.0.1)) (omega (arith, kept.0, pre.1.0.0))
     (omega (arith, kept.1.0, pre.1.0.1)) (omega (arith, kept.1.1.0, pre.1.0.2)) (omega (arith, kept.1.1.1.0, pre.1.0.3)) _ drain.ensures.1 _ _ _ _
-    (judge.judge.ensures _ days)
+    (c.judge.ensures _ days)
 
-pub prepare-spec : {M : Type 1} → statement M
-prepare-spec =
+pub prepare_spec : {M : Type 1} → statement M
+prepare_spec =
     tie.close
     (tie.spec drain-requires judge-requires
-    (λ c. (draining c.before.before.before.before.before.before).drain.auto.1.1.1.1.0)
-    (λ c. (draining c.before.before.before.before.before.before).drain.auto.1.1.1.1.1.0)
-    (λ c. (draining c.before.before.before.before.before.before).drain.auto.1.1.1.1.1.1.0)
-    (λ c. (draining c.before.before.before.before.before.before).drain.auto.1.1.1.1.1.1.1.0)
-    (λ c. (draining c.before.before.before.before.before.before).drain.auto.1.1.1.1.1.1.1.1.0)
-    (λ c. (draining c.before.before.before.before.before.before).drain.auto.1.1.1.1.1.1.1.1.1.0)
-    (λ c. c.before.before.before.before.before.before.judge.auto.1.1.0)
-    (λ c. c.before.before.before.before.before.before.judge.auto.1.0)
-    (λ c. c.before.before.before.before.before.before.judge.auto.0) returns)
+    (λ c. (draining c).drain.auto.1.1.1.1.0)
+    (λ c. (draining c).drain.auto.1.1.1.1.1.0)
+    (λ c. (draining c).drain.auto.1.1.1.1.1.1.0)
+    (λ c. (draining c).drain.auto.1.1.1.1.1.1.1.0)
+    (λ c. (draining c).drain.auto.1.1.1.1.1.1.1.1.0)
+    (λ c. (draining c).drain.auto.1.1.1.1.1.1.1.1.1.0)
+    (λ c. c.judge.auto.1.1.0)
+    (λ c. c.judge.auto.1.0)
+    (λ c. c.judge.auto.0) returns)

@@ -11,11 +11,11 @@ use Rattle.reader.proofs.read_at.Statement.{statement}
 use Rattle.reader.proofs.read_at.Tie as tie
 
 too_wide : tie.Need-returns-then-width_over
-too_wide c = inl (ltb-true _ _ (sym c.before.width_over.ensures ∙ c.if-width_over.true))
+too_wide c = inl (ltb-true _ _ (sym c.width_over.ensures ∙ c.if-width_over.true))
 
 -- behind the test the field is one that can be read; and where the function begins, from the read
 narrow : (c : tie.Else1) → c.before.before.before.args.width ≤ 32
-narrow c = ltb-false _ _ (sym c.before.width-over.ensures ∙ c.if1.false)
+narrow c = ltb-false _ _ (sym c.before.width_over.ensures ∙ c.if1.false)
 
 abbrev start : tie.After-take-at → tie.Start
 start c = c.before.before.before.before.before.before
@@ -24,33 +24,28 @@ past_end : tie.Need-returns-then-before-sheet
 past_end c = take_short _ _ _ (omega arith)
 
 take-at-requires : tie.Need-take_at-taken-requires
-take-at-requires c κs = search (rules, narrow c.before.before)
+take-at-requires c κs = search (rules, narrow c)
 
 short : tie.Need-returns-in-Refused
 short c =
-    let take = c.before.before.before in
-    let args = (start take).args in
-    part-short args.sheet.now args.at args.width (omega arith) _ _ (stopped _ _ _ take.take_at-taken.ensures c.before.taken-1.given.1)
+    let args = (start c).args in
+    part-short args.sheet.now args.at args.width (omega arith) _ _ (stopped _ _ _ c.take_at-taken.ensures c.in-Refused.is)
 
 too_far : tie.Need-returns-then-at-width
 too_far c =
-    let taken2 = c.before.before in
-    let take = taken2.before.before in
-    let args = (start take).args in
+    let args = (start c).args in
     inr (
       omega arith,
-      part-within args.sheet.now args.at args.width (omega arith) _ _ (took _ _ _ take.take_at-taken.ensures taken2.taken-in-Value-1.given.1),
+      part-within args.sheet.now args.at args.width (omega arith) _ _ (took _ _ _ c.take_at-taken.ensures c.in-Value.is),
     )
 
 value : tie.Need-returns-else-at-width
 value c =
-    let taken2 = c.before.before in
-    let take = taken2.before.before in
-    let args = (start take).args in
-    part-value args.sheet.now args.at args.width (omega arith) _ _ (took _ _ _ take.take_at-taken.ensures taken2.taken-in-Value-1.given.1)
+    let args = (start c).args in
+    part-value args.sheet.now args.at args.width (omega arith) _ _ (took _ _ _ c.take_at-taken.ensures c.in-Value.is)
 
 pub read_at_spec : {M : Type 1} → statement M
 read_at_spec =
     tie.close
     (tie.spec (λ c κs. search rules) too_wide past_end (λ c. search rules) (λ c. search rules) (λ c. search rules) take-at-requires (λ c. search rules)
-    (λ c. search rules) (λ c. search (rules, narrow c.before.before.before.before.before.before)) (λ c. search rules) short too_far value)
+    (λ c. search rules) (λ c. search (rules, narrow c)) (λ c. search rules) short too_far value)

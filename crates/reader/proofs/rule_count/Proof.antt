@@ -58,27 +58,16 @@ pub rule_count_spec : {M : Type 1} → statement M
 rule_count_spec =
     tie.close
     (tie.spec (λ c κs. search rules) (λ c κs. search rules) (λ c. search rules) (λ c. search rules)
-    (λ c. not-large _ _ _ c.before.before.first.ensures c.before.before.before.mark-width.ensures.1 c.enum_told.given.1)
+    (λ c. not-large _ _ _ c.first-reading.ensures c.mark_width.ensures.1 c.in_default.is)
     (λ c. search rules) (λ c. search rules)
     (λ c.
-    let known = c.before.before.before in
-    let first = known.before.before in
-    stays-refused _ _ _ first.first.ensures _ known.reading.given.1 _ first.before.mark-width.ensures.0 _ _ c.enum-told2.given.1)
+    stays-refused _ _ _ c.first-reading.ensures _ c.in-Field.is _ c.mark_width.ensures.0 _ _ c.in_default-taken.is)
     (λ c κs. search rules)
     (λ c κs.
-    let taken = c.before.before.before in
-    let known = taken.before.before.before in
-    let first = known.before.before in
-    behind _ _ _ first.first.ensures _ known.reading.given.1 _ _ first.before.mark-width.ensures.1 taken.taken.given.1)
+    behind _ _ _ c.first-reading.ensures _ c.in-Field.is _ _ c.mark_width.ensures.1 c.in-Value.is)
     (λ c.
-    let taken = c.before.before.before.before in
-    let known = taken.before.before.before in
-    let first = known.before.before in
-    marked _ _ _ first.first.ensures _ known.reading.given.1 _ first.before.mark-width.ensures.0 _ _ _ taken.taken.given.1
-    c.before.if1.true c.before.before.mark.ensures.0 c.rule-count-at.ensures)
+    marked _ _ _ c.first-reading.ensures _ c.in-Field.is _ c.mark_width.ensures.0 _ _ _ c.in-Value.is
+    c.if-value-mark.true c.mark.ensures.0 c.rule_count_at.ensures)
     (λ c.
-    let taken = c.before.before.before in
-    let known = taken.before.before.before in
-    let first = known.before.before in
-    unmarked _ _ _ first.first.ensures _ known.reading.given.1 _ first.before.mark-width.ensures.0 _ _ _ taken.taken.given.1
-    c.if1.false c.before.mark.ensures.0))
+    unmarked _ _ _ c.first-reading.ensures _ c.in-Field.is _ c.mark_width.ensures.0 _ _ _ c.in-Value.is
+    c.if-value-mark.false c.mark.ensures.0))

@@ -27,45 +27,37 @@ pub +rows_bits_spec : {M : Type 1} → statement M
     (rows-bits-below t, rows-bits.Post, u16-to-usize-reads.Asked, u16-to-usize-reads.Learnt, item-bits-reads.Asked, item-bits-reads.Learnt)
     (rows-bits-at t)
     rows-bits.Post
-    (λ c. (λ ends h. no_rows ends c.before.before.args.item-counts.now c.before.before.args.sort c.if1.true, omega (arith, c.if1.true)))
-    (λ c. omega (arith, c.before.before.requires.1.2, c.if1.false))
+    (λ c. (λ ends h. no_rows ends c.args.item_counts.now c.args.sort c.if-sort-eq4.true, omega (arith, c.if-sort-eq4.true)))
+    (λ c. omega (arith, c.requires.1.2, c.if-sort-eq4.false))
     (λ c κs.
-    let entry = c.before.before in
-    let pre = entry.requires.1 in
-    (omega (arith, entry.requires.0, pre.2, c.if1.false), (pre.0, pre.1, omega (arith, pre.2, c.if1.false))))
+    let pre = c.requires.1 in
+    (omega (arith, c.requires.0, pre.2, c.if-sort-eq4.false), (pre.0, pre.1, omega (arith, pre.2, c.if-sort-eq4.false))))
     (λ c. search rules)
-    (λ c. omega (arith, c.before.before.before.before.requires.1.0, c.before.before.before.before.requires.1.2, c.before.before.if1.false))
+    (λ c. omega (arith, c.requires.1.0, c.requires.1.2, c.if-sort-eq4.false))
     (λ c κs. search rules)
     (λ c κs. search rules)
     (λ c.
-    let entry = c.before.before.before.before.before.before in
     omega (
       arith,
-      row_low c.before.u16-to-usize.result c.item-bits.result (omega (arith, c.before.u16-to-usize.ensures.0, entry.requires.1.1 entry.args.sort))
-          c.item-bits.ensures.1,
+      row_low c.u16_to_usize.result c.item_bits.result (omega (arith, c.u16_to_usize.ensures.0, c.requires.1.1 c.args.sort))
+          c.item_bits.ensures.1,
     ))
     (λ c.
-    let at-rows-bits = c.before.before.before in
-    let entry = at-rows-bits.before.before.before in
     omega (
       arith,
-      row_low c.before.u16-to-usize.result c.item-bits.result (omega (arith, c.before.u16-to-usize.ensures.0, entry.requires.1.1 entry.args.sort))
-          c.item-bits.ensures.1,
-      at-rows-bits.rows-bits.ensures.1,
+      row_low c.u16_to_usize.result c.item_bits.result (omega (arith, c.u16_to_usize.ensures.0, c.requires.1.1 c.args.sort))
+          c.item_bits.ensures.1,
+      c.rows_bits-behind.ensures.1,
     ))
     (λ c.
-    let cast = c.before in
-    let at-rows-bits = cast.before.before in
-    let if1 = at-rows-bits.before in
-    let entry = if1.before.before in
-    let a = entry.args in
-    let pre = entry.requires.1 in (
+    let a = c.args in
+    let pre = c.requires.1 in (
       λ ends h.
-          rows-size ends a.item-counts.now a.sort cast.u16-to-usize.result c.item-bits.result at-rows-bits.rows-bits.result
-          (omega (arith, pre.2, if1.if1.false)) h cast.u16-to-usize.ensures.0 c.item-bits.ensures.0 (at-rows-bits.rows-bits.ensures.0 ends h),
+          rows-size ends a.item_counts.now a.sort c.u16_to_usize.result c.item_bits.result c.rows_bits-behind.result
+          (omega (arith, pre.2, c.if-sort-eq4.false)) h c.u16_to_usize.ensures.0 c.item_bits.ensures.0 (c.rows_bits-behind.ensures.0 ends h),
       omega (
         arith,
-        row_low cast.u16-to-usize.result c.item-bits.result (omega (arith, cast.u16-to-usize.ensures.0, pre.1 a.sort)) c.item-bits.ensures.1,
-        at-rows-bits.rows-bits.ensures.1,
+        row_low c.u16_to_usize.result c.item_bits.result (omega (arith, c.u16_to_usize.ensures.0, pre.1 a.sort)) c.item_bits.ensures.1,
+        c.rows_bits-behind.ensures.1,
       ),
     ))

@@ -25,23 +25,19 @@ pub +spans_bits_spec : {M : Type 1} → statement M
 +spans_bits_spec = close μ-spans-bits λ t. spans-bits-lts.spec (spans-bits-below t, spans-bits.Post, span-bits-reads.Asked, span-bits-reads.Learnt)
     (spans-bits-at t)
     spans-bits.Post
-    (λ c. (no-spans c.before.before.args.spans.now c.before.before.args.first c.before.before.args.span-count c.if1.true, omega arith))
-    (λ c. omega (arith, c.before.before.requires.1.0, c.if1.false))
-    (λ c. omega (arith, c.if1.false))
+    (λ c. (no-spans c.args.spans.now c.args.first c.args.span_count c.if-span_count-eq0.true, omega arith))
+    (λ c. omega (arith, c.requires.1.0, c.if-span_count-eq0.false))
+    (λ c. omega (arith, c.if-span_count-eq0.false))
     (λ c κs.
-    let entry = c.before.before in
-    let pre = entry.requires.1 in
-    (omega (arith, entry.requires.0, c.if1.false), (omega (arith, pre.0, c.if1.false), omega (arith, pre.1, c.if1.false))))
+    let pre = c.requires.1 in
+    (omega (arith, c.requires.0, c.if-span_count-eq0.false), (omega (arith, pre.0, c.if-span_count-eq0.false), omega (arith, pre.1, c.if-span_count-eq0.false))))
     (λ c. search rules)
-    (λ c. omega (arith, c.before.before.before.before.requires.1.0, c.before.before.if1.false))
+    (λ c. omega (arith, c.requires.1.0, c.if-span_count-eq0.false))
     (λ c κs. search rules)
-    (λ c. omega (arith, c.span-bits.ensures.1, c.before.before.spans-bits.ensures.1, c.before.before.before.before.before.requires.1.1))
+    (λ c. omega (arith, c.span_bits.ensures.1, c.spans_bits-behind.ensures.1, c.requires.1.1))
     (λ c.
-    let at-spans-bits = c.before.before in
-    let if1 = at-spans-bits.before in
-    let entry = if1.before.before in
-    let a = entry.args in (
-      spans-size a.spans.now a.first a.span-count if1.if1.false entry.requires.1.0 _ _ c.span-bits.ensures.0
-          at-spans-bits.spans-bits.ensures.0,
-      omega (arith, c.span-bits.ensures.1, at-spans-bits.spans-bits.ensures.1, if1.if1.false),
+    let a = c.args in (
+      spans-size a.spans.now a.first a.span_count c.if-span_count-eq0.false c.requires.1.0 _ _ c.span_bits.ensures.0
+          c.spans_bits-behind.ensures.0,
+      omega (arith, c.span_bits.ensures.1, c.spans_bits-behind.ensures.1, c.if-span_count-eq0.false),
     ))

@@ -7,25 +7,17 @@ use Rattle.rule_size.proofs.span_bits.Tie as tie
 
 returns : tie.Need-returns-then-number-eq0
 returns c =
-    let end_of_lem = c.before.before in
-    let time-bits = end_of_lem.before in
-    let start_of_lem = time-bits.before in
-    let entry = start_of_lem.before in
-    let first = time-bits.time_bits-start.ensures in
-    let second = c.before.time_bits-end.ensures in (
-      once-size entry.args.number _ _ start_of_lem.start_of_lem.ensures end_of_lem.end_of_lem.ensures _ _ first.0 second.0 c.if-number-eq0.true,
+    let first = c.time_bits-start.ensures in
+    let second = c.time_bits-end.ensures in (
+      once-size c.args.number _ _ c.start_of.ensures c.end_of.ensures _ _ first.0 second.0 c.if-number-eq0.true,
       omega (arith, first.1, second.1),
     )
 
 returns-2 : tie.Need-returns-else-number-eq0
 returns-2 c =
-    let end_of_lem = c.before.before in
-    let time-bits = end_of_lem.before in
-    let start_of_lem = time-bits.before in
-    let entry = start_of_lem.before in
-    let first = time-bits.time_bits-start.ensures in
-    let second = c.before.time_bits-end.ensures in (
-      repeated-size entry.args.number _ _ start_of_lem.start_of_lem.ensures end_of_lem.end_of_lem.ensures _ _ first.0 second.0 c.if-number-eq0.false,
+    let first = c.time_bits-start.ensures in
+    let second = c.time_bits-end.ensures in (
+      repeated-size c.args.number _ _ c.start_of.ensures c.end_of.ensures _ _ first.0 second.0 c.if-number-eq0.false,
       omega (arith, first.1, second.1),
     )
 
@@ -33,10 +25,10 @@ pub span_bits_spec : {M : Type 1} → statement M
 span_bits_spec =
     tie.close
     (tie.spec (λ c κs. search rules) (λ c κs. search rules) (λ c κs. search rules) (λ c κs. search rules)
-    (λ c. omega (arith, c.before.before.before.time-bits.ensures.1, c.before.time-bits2.ensures.1))
-    (λ c. omega (arith, c.before.before.before.time-bits.ensures.1, c.before.time-bits2.ensures.1))
-    (λ c. omega (arith, c.before.before.before.time-bits.ensures.1, c.before.time-bits2.ensures.1))
-    (λ c. omega (arith, c.before.before.before.time-bits.ensures.1, c.before.time-bits2.ensures.1))
-    (λ c. omega (arith, c.before.before.before.time-bits.ensures.1, c.before.time-bits2.ensures.1))
-    (λ c. omega (arith, c.before.before.before.time-bits.ensures.1, c.before.time-bits2.ensures.1))
-    (λ c. omega (arith, c.before.before.before.time-bits.ensures.1, c.before.time-bits2.ensures.1)) returns returns-2)
+    (λ c. omega (arith, c.time_bits-start.ensures.1, c.time_bits-end.ensures.1))
+    (λ c. omega (arith, c.time_bits-start.ensures.1, c.time_bits-end.ensures.1))
+    (λ c. omega (arith, c.time_bits-start.ensures.1, c.time_bits-end.ensures.1))
+    (λ c. omega (arith, c.time_bits-start.ensures.1, c.time_bits-end.ensures.1))
+    (λ c. omega (arith, c.time_bits-start.ensures.1, c.time_bits-end.ensures.1))
+    (λ c. omega (arith, c.time_bits-start.ensures.1, c.time_bits-end.ensures.1))
+    (λ c. omega (arith, c.time_bits-start.ensures.1, c.time_bits-end.ensures.1)) returns returns-2)

@@ -7,13 +7,10 @@ use Rattle.sheet_writer.proofs.put_left.Tie as tie
 
 returns : tie.Need-returns
 returns c =
-    let put-padding = c.before.before in
-    let copy-bits = put-padding.before.before.before.before in
-    let entry = copy-bits.before.before.before.before in
-    let a = entry.args in
-    let pre = entry.requires.0 in
+    let a = c.args in
+    let pre = c.requires.0 in
     end-wrote (between a.sheet.now a.start a.end) (between-length a.sheet.now a.start a.end pre.0 pre.1)
-    copy-bits.copy_bits.ensures put-padding.put_padding.ensures.1
+    c.copy_bits.ensures c.put_padding.ensures.1
 
 pub put_left_spec : {M : Type 1} → statement M
 put_left_spec = tie.close (tie.spec (λ c. search rules) (λ c κs. search rules) (λ c. search rules) (λ c κs. search rules) (λ c. search rules) returns)

@@ -13,16 +13,16 @@ use Rattle.sheet_writer.proofs.put_padding.Tie as tie
 
 put-requires : tie.Need-put-end-requires
 put-requires c κs =
-    let at = c.before.before.args.at in
+    let at = c.args.at in
     let long = length-bits ((at + 7) / 8 * 8 - at) 0 in
-    let pre = c.before.before.requires in
+    let pre = c.requires in
     ((omega arith, pow_pos ((at + 7) / 8 * 8 - at)), record { inside = omega (arith, long, pre.0); low = omega (arith, long, pre.1) })
 
 returns : tie.Need-returns
 returns c =
-    let at = c.before.before.before.before.before.args.at in
-    let old = sheet_bits c.before.before.before.before.before.args.out.now in
-    let put = c.before.before.put-end.ensures in
+    let at = c.args.at in
+    let old = sheet_bits c.args.out.now in
+    let put = c.put-end.ensures in
     (omega (arith, put.behind, length-bits ((at + 7) / 8 * 8 - at) 0), put.stored ∙ ap (sets old at) (padding-bits at))
 
 pub put_padding_spec : {M : Type 1} → statement M

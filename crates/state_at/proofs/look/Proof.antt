@@ -19,36 +19,32 @@ box c = c.before.before
 -- ## What is needed there
 box-at-requires : tie.Need-box_at-box_index-requires
 box-at-requires c κs =
-    let entry = c.before.before.before.before.before.before.before.before in
-    let given = entry.requires.0 in point-gridded _ _ _ _ _ given.1 given.0 given.3 (fits-lawful given.0 given.2.fits) _ entry.requires.1
+    let given = c.requires.0 in point-gridded _ _ _ _ _ given.1 given.0 given.3 (fits-lawful given.0 given.2.fits) _ c.requires.1
 
 returns : tie.Need-returns-then-number-eq0
 returns c =
-    let cell = c.before in
-    λ rs used tables boxed. empty-answered (start cell).args.moment.minute
-    ∙ ap (λ l. state_at [] l (start cell).args.moment.minute)
-    (list-empty _ _ _ _ _ used rs boxed (fits-lawful rs tables.fits) _ _ (box cell).box-at.ensures _ cell.u16_to_usize-number.ensures.0 c.if-number-eq0.true)
+    λ rs used tables boxed. empty-answered (start c).args.moment.minute
+    ∙ ap (λ l. state_at [] l (start c).args.moment.minute)
+    (list-empty _ _ _ _ _ used rs boxed (fits-lawful rs tables.fits) _ _ (box c).box_at.ensures _ c.u16_to_usize-number.ensures.0 c.if-number-eq0.true)
 
 list-state-requires : tie.Need-list_state-requires
 list-state-requires c κs =
-    let cell = c.before in
-    let given = (start cell).requires.0 in
+    let given = (start c).requires.0 in
     let lawful = fits-lawful given.0 given.2.fits in
-    let at = (box cell).box-at.ensures in
-    let number = cell.u16_to_usize-number.ensures.0 in (
+    let at = (box c).box_at.ensures in
+    let number = c.u16_to_usize-number.ensures.0 in (
       (given.0, given.2, list-earlier _ _ _ _ _ given.1 given.0 given.3 lawful _ _ at _ number c.if-number-eq0.false),
       list-there _ _ _ _ _ given.1 given.0 given.3 lawful _ _ at _ number c.if-number-eq0.false,
     )
 
 returns-2 : tie.Need-returns
 returns-2 c =
-    let cell = c.before.before in
-    let at = (box cell).box-at.ensures in
-    let number = cell.u16_to_usize-number.ensures.0 in
-    let some = c.before.if-number-eq0.false in
+    let at = (box c).box_at.ensures in
+    let number = c.u16_to_usize-number.ensures.0 in
+    let some = c.if-number-eq0.false in
     λ rs used tables boxed. let lawful = fits-lawful rs tables.fits in
     c.list_state.ensures rs tables (list-earlier _ _ _ _ _ used rs boxed lawful _ _ at _ number some)
-    ∙ ap (λ l. state_at [] l (start cell).args.moment.minute) (list_held _ _ _ _ _ used rs boxed lawful _ _ at _ number some)
+    ∙ ap (λ l. state_at [] l (start c).args.moment.minute) (list_held _ _ _ _ _ used rs boxed lawful _ _ at _ number some)
 
 pub look_spec : {M : Type 1} → statement M
 look_spec =

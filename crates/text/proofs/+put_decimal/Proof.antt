@@ -34,28 +34,18 @@ pub +put_decimal_spec : {M : Type 1} → statement M
     (put-decimal-at t)
     put-decimal.Post
     (λ c κs. omega arith)
-    (λ c κs. omega (arith, ap length (decimal_digit c.before.before.before.before.args.value (omega arith))))
+    (λ c κs. omega (arith, ap length (decimal_digit c.args.value (omega arith))))
     (λ c. search rules)
     (λ c.
-    let put_byte = c.before.before in
-    let digit = put_byte.before in
-    let entry = digit.before.before.before.before in
-    put_as (ap (◌∷ []) digit.digit.ensures ∙ decimal_digit entry.args.value (omega arith)) put_byte.put_byte.ensures)
+    put_as (ap (◌∷ []) c.digit.ensures ∙ decimal_digit c.args.value (omega arith)) c.put_byte.ensures)
     (λ c κs.
-    let entry = c.before.before.before in
-    let pre = entry.requires in
-    (omega (arith, pre.0), omega (arith, pre.1, longer entry.args.value (omega arith))))
+    let pre = c.requires in
+    (omega (arith, pre.0), omega (arith, pre.1, longer c.args.value (omega arith))))
     (λ c κs. omega arith)
     (λ c κs.
-    let at-put-decimal = c.before.before.before.before in
-    let entry = at-put-decimal.before.before.before.before in
-    omega (arith, entry.requires.1, at-put-decimal.put-decimal.ensures.ends, longer entry.args.value (omega arith)))
+    omega (arith, c.requires.1, c.put_decimal-next.ensures.ends, longer c.args.value (omega arith)))
     (λ c. search rules)
     (λ c.
-    let put-byte2 = c.before.before in
-    let digit2 = put-byte2.before in
-    let at-put-decimal = digit2.before.before.before.before in
-    let entry = at-put-decimal.before.before.before.before in
-    let value = entry.args.value in
-    put_as (ap (λ d. decimal (value / 10) ++ (d ∷ [])) digit2.digit2.ensures ∙ decimal-more value (omega arith))
-    (put_then at-put-decimal.put-decimal.ensures put-byte2.put-byte2.ensures))
+    let value = c.args.value in
+    put_as (ap (λ d. decimal (value / 10) ++ (d ∷ [])) c.digit-2.ensures ∙ decimal-more value (omega arith))
+    (put_then c.put_decimal-next.ensures c.put_byte-2.ensures))

@@ -9,12 +9,10 @@ use Rattle.text.proofs.put_four.Tie as tie
 
 put-two-requires-2 : tie.Need-put_two-requires
 put-two-requires-2 c κs =
-    let put_two = c.before.before.before in
-    let entry = put_two.before.before.before in
-    (omega arith, omega (arith, put_two.put_two-next.ensures.ends, length_digits 2 (entry.args.value / 100)))
+    (omega arith, omega (arith, c.put_two-next.ensures.ends, length_digits 2 (c.args.value / 100)))
 
 pub put_four_spec : {M : Type 1} → statement M
 put_four_spec =
     tie.close
     (tie.spec (λ c κs. search rules) put-two-requires-2 (λ c. search rules)
-    (λ c. put_as (four-digits _) (put_then c.before.before.before.before.before.before.put_two.ensures c.before.before.put-two2.ensures)))
+    (λ c. put_as (four-digits _) (put_then c.put_two-next.ensures c.put_two.ensures)))

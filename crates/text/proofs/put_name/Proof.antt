@@ -7,10 +7,8 @@ use Rattle.text.proofs.put_name.Tie as tie
 
 returns : tie.Need-returns
 returns c =
-    let put_word = c.before.before in
-    let entry = put_word.before.before.before.before.before in
-    let args = entry.args in
-    name-put _ _ args.names.now _ _ (args.index * args.width) args.width put_word.put_word.ensures
+    let args = c.args in
+    name-put _ _ args.names.now _ _ (args.index * args.width) args.width c.put_word.ensures
 
 pub put_name_spec : {M : Type 1} → statement M
 put_name_spec =

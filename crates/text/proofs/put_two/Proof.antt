@@ -8,13 +8,9 @@ use Rattle.text.proofs.put_two.Tie as tie
 
 returns : tie.Need-returns
 returns c =
-    let put-byte2 = c.before.before in
-    let digit2 = put-byte2.before in
-    let put_byte = digit2.before.before.before.before in
-    let digit = put_byte.before in
-    let first = digit.digit.ensures in
-    let second = digit2.digit-2.ensures in
-    put_as (ap₂ (λ x y. x ∷ y ∷ []) first second ∙ two_digits _) (put_then put_byte.put_byte-next.ensures put-byte2.put_byte.ensures)
+    let first = c.digit.ensures in
+    let second = c.digit-2.ensures in
+    put_as (ap₂ (λ x y. x ∷ y ∷ []) first second ∙ two_digits _) (put_then c.put_byte-next.ensures c.put_byte.ensures)
 
 pub put_two_spec : {M : Type 1} → statement M
 put_two_spec =

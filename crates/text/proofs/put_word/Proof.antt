@@ -16,11 +16,9 @@ decreases-loop out₀ place word i₀ out i = length word - i
 pub put_word_spec : {M : Type 1} → statement M
 put_word_spec =
     tie.close
-    (tie.spec invariant-loop decreases-loop (λ c. (omega arith, word_none _ _ c.before.before.args.word.now)) (λ c. omega arith) (λ c. omega arith)
+    (tie.spec invariant-loop decreases-loop (λ c. (omega arith, word_none _ _ c.args.word.now)) (λ c. omega arith) (λ c. omega arith)
     (λ c κs. omega arith) (λ c. omega arith) (λ c. omega arith)
     (λ c.
-    let put_byte = c.before.before in
-    let loop = put_byte.before.before.before.before in
-    (omega arith, word_next _ _ _ _ _ _ _ (omega arith) loop.loop.invariant.1 put_byte.put_byte.ensures))
-    (λ c. omega arith) (λ c. put-length c.before.loop.invariant.1)
-    (λ c. word-all _ _ _ _ _ (omega arith) (omega arith) c.before.loop.invariant.1))
+    (omega arith, word_next _ _ _ _ _ _ _ (omega arith) c.loop-i.invariant.1 c.put_byte.ensures))
+    (λ c. omega arith) (λ c. put-length c.loop-i.invariant.1)
+    (λ c. word-all _ _ _ _ _ (omega arith) (omega arith) c.loop-i.invariant.1))

@@ -13,25 +13,20 @@ use Rattle.writer.proofs.copy_bits.Tie as tie
 
 returns-2 : tie.Need-returns
 returns-2 c =
-    let third = c.before.before in
-    let second = third.before.before.before.before in
-    let first = second.before.before.before.before in
-    let left = first.before.before in
-    let entry = left.before.before.before in
-    let args = entry.args in
+    let args = c.args in
     let s = sheet_bits args.sheet.now in
     let from = args.from in
     let at = args.at in
     let count = args.count in
     let lead = (8 - at % 8) % 8 in
     let bytes = (count - lead) / 8 - 1 in
-    let more : 16 ≤ count - (8 - at % 8) % 8 = omega (arith, left.if-count-lead) in
+    let more : 16 ≤ count - (8 - at % 8) % 8 = omega (arith, c.if-count-lead) in
     let aligned : 8 * ((at + (8 - at % 8) % 8) / 8) ≡ at + (8 - at % 8) % 8 = omega arith in
     let rest : (8 - at % 8) % 8 + 8 * ((count - (8 - at % 8) % 8) / 8 - 1) + (count - ((8 - at % 8) % 8 + 8 * ((count - (8 - at % 8) % 8) / 8 - 1))) ≡ count = omega (arith, more) in
     let long = length-sheet_bits args.sheet.now in
-    let two = copied-then s from at lead (8 * bytes) (omega (arith, long, entry.requires.0, more)) _ _ _ _ aligned first.copy_fields-2.ensures
-    second.copy_bytes.ensures in
-    copied-then s from at (lead + 8 * bytes) (count - (lead + 8 * bytes)) (omega (arith, long, entry.requires.0, rest)) _ _ _ _ refl two third.copy_fields-3.ensures
+    let two = copied-then s from at lead (8 * bytes) (omega (arith, long, c.requires.0, more)) _ _ _ _ aligned c.copy_fields-2.ensures
+    c.copy_bytes.ensures in
+    copied-then s from at (lead + 8 * bytes) (count - (lead + 8 * bytes)) (omega (arith, long, c.requires.0, rest)) _ _ _ _ refl two c.copy_fields-3.ensures
     ∙ ap (λ n. sets (sheet_bits args.out.now) at (take n (drop from s))) rest
 
 pub copy_bits_spec : {M : Type 1} → statement M

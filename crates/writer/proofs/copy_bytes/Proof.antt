@@ -24,43 +24,39 @@ decreases-loop sheet from count out₀ first start behind done₀ out done = cou
 
 loop-holds : tie.Need-loop-done-init invariant-loop decreases-loop
 loop-holds c =
-    let args = c.before.before.args in
+    let args = c.args in
     let none : 8 * 0 ≡ 0 = omega arith in
     (omega arith, refl, rw none (copy-first (sheet_bits args.sheet.now) args.from (8 * args.count) (8 * args.first) (sheet_bits args.out.now)))
 
 loop-again : tie.Need-loop-done-preserved invariant-loop decreases-loop
 loop-again c =
-    let one = c.before.before in
-    let tested = one.before.before in
-    let loop = tested.before.loop-done in
-    let known = tested.before.before.before in
-    let entry = known.before in
-    let args = entry.args in
+    let loop = c.loop-done in
+    let args = c.args in
     let sheet = args.sheet.now in
     let done = loop.done in
-    let bytes = known_bytes sheet (λ j. omega (arith, known.shared_slice_known-1.given j)) in
+    let bytes = known_bytes sheet (λ j. omega (arith, c.shared_slice_known-1.given j)) in
     let p : ℕ = args.from + 8 * done in
     let shift : 8 - p % 8 ≡ 8 - args.from % 8 = omega arith in
-    let two : ℕ = one.u8_to_u64.result * 256 + c.u8_to_u64-in-loop-done.result in
+    let two : ℕ = c.u8_to_u64.result * 256 + c.u8_to_u64-in-loop-done.result in
     let value = ap (λ k. two / 2 ^ k % 256) (sym shift)
-    ∙ byte-within sheet bytes p (args.from / 8 + done) two (omega arith) (omega (arith, entry.requires.0, tested.loop-done-test))
-    (ap₂ (λ a b. a * 256 + b) one.u8_to_u64.ensures.0 c.u8_to_u64-in-loop-done.ensures.0) in
+    ∙ byte-within sheet bytes p (args.from / 8 + done) two (omega arith) (omega (arith, c.requires.0, c.loop-done-test))
+    (ap₂ (λ a b. a * 256 + b) c.u8_to_u64.ensures.0 c.u8_to_u64-in-loop-done.ensures.0) in
     let place : 8 * (args.first + done) ≡ 8 * args.first + 8 * done = omega arith in
     let next : 8 * (done + 1) ≡ 8 * done + 8 = omega arith in
     let byte = two / 2 ^ (8 - args.from % 8) % 256 in (
-      omega (arith, tested.loop-done-test),
+      omega (arith, c.loop-done-test),
       length-set loop.out (args.first + done) byte ∙ loop.invariant.1,
       rw next
-          (copy-next (sheet_bits sheet) args.from (8 * args.count) (8 * args.first) (sheet-bits sheet bytes) (omega (arith, length-sheet_bits sheet, entry.requires.0))
-          (sheet_bits loop.out) _ (8 * done) 8 byte (omega (arith, tested.loop-done-test)) value
-          (byte-set loop.out (args.first + done) byte (omega (arith, entry.requires.1, loop.invariant.1, tested.loop-done-test))
+          (copy-next (sheet_bits sheet) args.from (8 * args.count) (8 * args.first) (sheet-bits sheet bytes) (omega (arith, length-sheet_bits sheet, c.requires.0))
+          (sheet_bits loop.out) _ (8 * done) 8 byte (omega (arith, c.loop-done-test)) value
+          (byte-set loop.out (args.first + done) byte (omega (arith, c.requires.1, loop.invariant.1, c.loop-done-test))
           ∙ ap (λ q. sets (sheet_bits loop.out) q (bits 8 byte)) place) ∙ loop.invariant.2),
     )
 
 returns : tie.Need-returns invariant-loop decreases-loop
 returns c =
-    let args = c.before.before.before.before.args in
-    let loop = c.before.loop-done in
+    let args = c.args in
+    let loop = c.loop-done in
     copy-end (sheet_bits args.sheet.now) args.from (8 * args.count) (8 * args.first) (sheet_bits loop.out) (8 * loop.done) (omega (arith, c.loop-done-test))
     ∙ loop.invariant.2
 
@@ -68,7 +64,7 @@ pub copy_bytes_spec : {M : Type 1} → statement M
 copy_bytes_spec =
     tie.close
     (tie.spec invariant-loop decreases-loop (λ c. search rules) loop-holds (λ c. search rules) (λ c. search rules) (λ c κs. search rules)
-    (λ c. omega (arith, c.u8-to-u64.ensures.1)) (λ c. search rules) (λ c. search rules) (λ c. search rules) (λ c κs. search rules)
-    (λ c. omega (arith, c.u8-to-u642.ensures.1, c.before.before.u8-to-u64.ensures.1)) (λ c. search rules) (λ c. search rules) (λ c. search rules)
-    (λ c. omega (arith, c.before.before.before.before.before.loop.invariant.1, c.before.before.before.before.loop-test, c.before.before.before.before.before.before.before.before.requires.1))
-    (λ c. search rules) (λ c. search rules) loop-again (λ c. c.before.loop.invariant.1) returns)
+    (λ c. omega (arith, c.u8_to_u64.ensures.1)) (λ c. search rules) (λ c. search rules) (λ c. search rules) (λ c κs. search rules)
+    (λ c. omega (arith, c.u8_to_u64-in-loop-done.ensures.1, c.u8_to_u64.ensures.1)) (λ c. search rules) (λ c. search rules) (λ c. search rules)
+    (λ c. omega (arith, c.loop-done.invariant.1, c.loop-done-test, c.requires.1))
+    (λ c. search rules) (λ c. search rules) loop-again (λ c. c.loop-done.invariant.1) returns)

@@ -24,24 +24,20 @@ decreases-loop sheet from count out₀ at done₀ out done = count - done
 
 loop-holds : tie.Need-loop-done-init invariant-loop decreases-loop
 loop-holds c =
-    let args = c.before.before.args in
+    let args = c.args in
     (omega arith, refl, copy-first (sheet_bits args.sheet.now) args.from args.count args.at (sheet_bits args.out.now))
 
 field-at-requires : tie.Need-field_at-requires invariant-loop decreases-loop
-field-at-requires c κs = let least = c.before.smaller-width.ensures in (omega (arith, least.0), omega arith, omega (arith, least.1))
+field-at-requires c κs = let least = c.smaller-width.ensures in (omega (arith, least.0), omega arith, omega (arith, least.1))
 
 -- a field of so many bits fits in them
 put-field-requires : tie.Need-put_field-requires invariant-loop decreases-loop
 put-field-requires c κs =
-    let smaller = c.before.before in
-    let at-loop = smaller.before.before in
-    let known = at-loop.before.before in
-    let entry = known.before in
-    let args = entry.args in
+    let args = c.args in
     let s = args.sheet.now in
-    let least = smaller.smaller-width.ensures in
-    let loop = at-loop.loop-done in
-    let bytes = known_bytes s (λ j. omega (arith, known.shared_slice_known-1.given j)) in (
+    let least = c.smaller-width.ensures in
+    let loop = c.loop-done in
+    let bytes = known_bytes s (λ j. omega (arith, c.shared_slice_known-1.given j)) in (
       omega (arith, least.0),
       omega arith,
       omega (arith, least.1, loop.invariant.1),
@@ -49,35 +45,29 @@ put-field-requires c κs =
     )
 
 loop-less : tie.Need-loop-done-smaller invariant-loop decreases-loop
-loop-less c = omega (arith, c.before.before.before.before.before.smaller-width.ensures.2 (omega arith) (omega arith))
+loop-less c = omega (arith, c.smaller-width.ensures.2 (omega arith) (omega arith))
 
 loop-again : tie.Need-loop-done-preserved invariant-loop decreases-loop
 loop-again c =
-    let put-field = c.before.before in
-    let field = put-field.before in
-    let smaller = field.before.before in
-    let at-loop = smaller.before.before in
-    let known = at-loop.before.before in
-    let entry = known.before in
-    let args = entry.args in
-    let least = smaller.smaller-width.ensures in
-    let loop = at-loop.loop-done in
+    let args = c.args in
+    let least = c.smaller-width.ensures in
+    let loop = c.loop-done in
     let s = sheet_bits args.sheet.now in
-    let bytes = known_bytes args.sheet.now (λ j. omega (arith, known.shared_slice_known-1.given j)) in (
+    let bytes = known_bytes args.sheet.now (λ j. omega (arith, c.shared_slice_known-1.given j)) in (
       omega (arith, least.1),
-      put-field.put_field.auto.0 ∙ loop.invariant.1,
+      c.put_field.auto.0 ∙ loop.invariant.1,
       copy-next s args.from args.count args.at (sheet-bits args.sheet.now bytes) (omega (arith, length-sheet_bits args.sheet.now))
-          (sheet_bits loop.out) _ loop.done _ _ (omega (arith, least.1)) field.field_at.ensures put-field.put_field.ensures ∙ loop.invariant.2,
+          (sheet_bits loop.out) _ loop.done _ _ (omega (arith, least.1)) c.field_at.ensures c.put_field.ensures ∙ loop.invariant.2,
     )
 
 returns : tie.Need-returns invariant-loop decreases-loop
 returns c =
-    let args = c.before.before.before.before.args in
-    let loop = c.before.loop-done in
+    let args = c.args in
+    let loop = c.loop-done in
     copy-end (sheet_bits args.sheet.now) args.from args.count args.at (sheet_bits loop.out) loop.done (omega arith) ∙ loop.invariant.2
 
 pub copy_fields_spec : {M : Type 1} → statement M
 copy_fields_spec =
     tie.close
     (tie.spec invariant-loop decreases-loop loop-holds (λ c. search rules) (λ c κs. search rules) (λ c. omega arith) (λ c. omega arith) field-at-requires put-field-requires
-    (λ c. omega (arith, c.before.before.before.before.before.smaller.ensures.1)) loop-less loop-again (λ c. c.before.loop.invariant.1) returns)
+    (λ c. omega (arith, c.smaller-width.ensures.1)) loop-less loop-again (λ c. c.loop-done.invariant.1) returns)

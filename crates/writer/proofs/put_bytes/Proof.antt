@@ -22,8 +22,8 @@ decreases-loop out₀ first past number rest₀ index₀ out rest index = index 
 
 loop-again : tie.Need-loop-index-preserved invariant-loop decreases-loop
 loop-again c =
-    let first = c.before.before.args.first in
-    let loop = c.before.loop-index in (
+    let first = c.args.first in
+    let loop = c.loop-index in (
       omega arith,
       omega arith,
       rest_below first loop.index loop.rest (omega arith) loop.invariant.2,
@@ -33,11 +33,11 @@ loop-again c =
 
 returns : tie.Need-returns invariant-loop decreases-loop
 returns c =
-    let loop = c.before.loop-index in
-    none-stored (sheet_bits loop.out) (8 * c.before.before.args.first) _ loop.rest (omega arith) ∙ loop.invariant.3
+    let loop = c.loop-index in
+    none-stored (sheet_bits loop.out) (8 * c.args.first) _ loop.rest (omega arith) ∙ loop.invariant.3
 
 pub put_bytes_spec : {M : Type 1} → statement M
 put_bytes_spec =
     tie.close
     (tie.spec invariant-loop decreases-loop (λ c. (c.requires.0, omega arith, c.requires.2, refl, refl)) (λ c. search rules) (λ c. omega arith)
-    (λ c. omega (arith, c.before.loop.invariant.4)) (λ c. omega arith) loop-again (λ c. c.before.loop.invariant.4) returns)
+    (λ c. omega (arith, c.loop-index.invariant.4)) (λ c. omega arith) loop-again (λ c. c.loop-index.invariant.4) returns)

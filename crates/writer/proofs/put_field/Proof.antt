@@ -13,64 +13,43 @@ use Rattle.writer.proofs.put_field.Tie as tie
 -- the bits before the field fit before it
 joined-requires : tie.Need-joined-requires
 joined-requires c κs =
-    let read = c.before.before.before.before in
-    let known = read.before.before.before in
-    let start = known.before in
-    let at = start.args.at in
-    let width = start.args.width in
-    let bytes = known_bytes start.args.out.now (λ j. omega (arith, known.slice_known-1.given j)) in
-    let few = before-below start.args.out.now bytes at width start.args.value start.requires.2 (omega arith) start.requires.3 in
-    (omega arith, lt_of_lt_of_le (rw read.u8_to_u64.ensures.0 few) (pow_mono {i = at % 8} {j = 64 - width} (omega arith)), start.requires.3)
+    let at = c.args.at in
+    let width = c.args.width in
+    let bytes = known_bytes c.args.out.now (λ j. omega (arith, c.slice_known-1.given j)) in
+    let few = before-below c.args.out.now bytes at width c.args.value c.requires.2 (omega arith) c.requires.3 in
+    (omega arith, lt_of_lt_of_le (rw c.u8_to_u64.ensures.0 few) (pow_mono {i = at % 8} {j = 64 - width} (omega arith)), c.requires.3)
 
 joined-requires-2 : tie.Need-joined-requires-2
 joined-requires-2 c κs =
-    let low = c.before.before in
-    let read = low.before.before.before in
-    let known = read.before.before.before in
-    let start = known.before in
-    let at = start.args.at in
-    let width = start.args.width in
-    let bytes = known_bytes start.args.out.now (λ j. omega (arith, known.slice_known-1.given j)) in
-    let few = before-below start.args.out.now bytes at width start.args.value start.requires.2 (omega arith) start.requires.3 in
-    let below = joined-below {high = read.u8_to_u64.result / 2 ^ (8 - at % 8)} (at % 8) width (rw read.u8_to_u64.ensures.0 few) start.requires.3 in (
+    let at = c.args.at in
+    let width = c.args.width in
+    let bytes = known_bytes c.args.out.now (λ j. omega (arith, c.slice_known-1.given j)) in
+    let few = before-below c.args.out.now bytes at width c.args.value c.requires.2 (omega arith) c.requires.3 in
+    let below = joined-below {high = c.u8_to_u64.result / 2 ^ (8 - at % 8)} (at % 8) width (rw c.u8_to_u64.ensures.0 few) c.requires.3 in (
       omega arith,
       rw c.joined.ensures (lt_of_lt_of_le below (pow_mono {i = at % 8 + width} {j = 64 - behind at width} (omega arith))),
-      rw low.low_bits-after.ensures (mod-lt _ (pow_pos (behind at width))),
+      rw c.low_bits-after.ensures (mod-lt _ (pow_pos (behind at width))),
     )
 
 put-bytes-requires : tie.Need-put_bytes-requires
 put-bytes-requires c κs =
-    let first = c.before in
-    let low = first.before.before in
-    let last = low.before in
-    let read = last.before.before in
-    let known = read.before.before.before in
-    let start = known.before in
-    let at = start.args.at in
-    let width = start.args.width in
-    let bytes = known_bytes start.args.out.now (λ j. omega (arith, known.slice_known-1.given j)) in (
+    let at = c.args.at in
+    let width = c.args.width in
+    let bytes = known_bytes c.args.out.now (λ j. omega (arith, c.slice_known-1.given j)) in (
       omega arith,
       omega arith,
-      spanned-below start.args.out.now bytes at width start.args.value start.requires.2 (omega arith) start.requires.3 _
-          (rw (c.joined-2.ensures, first.joined.ensures, low.low_bits-after.ensures, last.u8_to_u64-2.ensures.0, read.u8_to_u64.ensures.0)),
+      spanned-below c.args.out.now bytes at width c.args.value c.requires.2 (omega arith) c.requires.3 _
+          (rw (c.joined-2.ensures, c.joined.ensures, c.low_bits-after.ensures, c.u8_to_u64-2.ensures.0, c.u8_to_u64.ensures.0)),
     )
 
 returns-2 : tie.Need-returns
 returns-2 c =
-    let put = c.before.before in
-    let second = put.before in
-    let first = second.before in
-    let low = first.before.before in
-    let last = low.before in
-    let read = last.before.before in
-    let known = read.before.before.before in
-    let start = known.before in
-    let at = start.args.at in
-    let width = start.args.width in
-    let bytes = known_bytes start.args.out.now (λ j. omega (arith, known.slice_known-1.given j)) in
-    put.put_bytes.ensures
-    ∙ spanned-stored start.args.out.now bytes at width start.args.value start.requires.2 (omega arith) start.requires.3 _
-    (rw (second.joined-2.ensures, first.joined.ensures, low.low_bits-after.ensures, last.u8_to_u64-2.ensures.0, read.u8_to_u64.ensures.0))
+    let at = c.args.at in
+    let width = c.args.width in
+    let bytes = known_bytes c.args.out.now (λ j. omega (arith, c.slice_known-1.given j)) in
+    c.put_bytes.ensures
+    ∙ spanned-stored c.args.out.now bytes at width c.args.value c.requires.2 (omega arith) c.requires.3 _
+    (rw (c.joined-2.ensures, c.joined.ensures, c.low_bits-after.ensures, c.u8_to_u64-2.ensures.0, c.u8_to_u64.ensures.0))
 
 pub put_field_spec : {M : Type 1} → statement M
 put_field_spec =

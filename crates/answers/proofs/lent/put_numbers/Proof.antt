@@ -17,21 +17,21 @@ decreases-loop numbers lent₀ i₀ lent i = length numbers - i
 
 loop-again : tie.Need-loop-i-preserved invariant-loop decreases-loop
 loop-again c =
-    let args = c.before.before.before.args in
-    let old = c.before.before.loop-i in
+    let args = c.args in
+    let old = c.loop-i in
     let next : old.i + 1 ≡ suc old.i = omega arith in (
-      omega (arith, c.before.loop-i-test.true),
+      omega (arith, c.loop-i-test.true),
       omega (arith, length-set old.lent old.i (get_or args.numbers.now old.i 0), old.invariant.1),
       ap (λ k. sets (set old.lent old.i (get_or args.numbers.now old.i 0)) k (drop k args.numbers.now)) next
-          ∙ sym (ap (sets old.lent old.i) (drop-cons args.numbers.now old.i 0 c.before.loop-i-test.true)) ∙ old.invariant.2,
+          ∙ sym (ap (sets old.lent old.i) (drop-cons args.numbers.now old.i 0 c.loop-i-test.true)) ∙ old.invariant.2,
     )
 
 returns : tie.Need-returns invariant-loop decreases-loop
 returns c =
-    let args = c.before.before.args in
-    let old = c.before.loop-i in
+    let args = c.args in
+    let old = c.loop-i in
     sym (ap (sets old.lent old.i) (drop_of_length-le args.numbers.now c.loop-i-test.false)) ∙ old.invariant.2
-    ∙ written-front args.numbers.now args.lent.now c.before.before.requires
+    ∙ written-front args.numbers.now args.lent.now c.requires
 
 pub put_numbers_spec : {M : Type 1} → statement M
 put_numbers_spec =
@@ -40,9 +40,9 @@ put_numbers_spec =
     invariant-loop decreases-loop
     (λ c. (omega arith, refl, refl))
     (λ c. search rules) (λ c. search rules) (λ c. search rules)
-    (λ c. omega (arith, c.before.loop-test.true, c.before.before.loop.invariant.1, c.before.before.before.requires))
+    (λ c. omega (arith, c.loop-i-test.true, c.loop-i.invariant.1, c.requires))
     (λ c. search rules)
-    (λ c. omega (arith, c.before.loop-test.true))
+    (λ c. omega (arith, c.loop-i-test.true))
     loop-again
-    (λ c. c.before.loop.invariant.1)
+    (λ c. c.loop-i.invariant.1)
     returns)

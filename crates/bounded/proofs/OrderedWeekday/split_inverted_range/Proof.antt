@@ -7,4 +7,4 @@ pub split_inverted_range_spec : {M : Type 1} → statement M
 split_inverted_range_spec =
     tie.close
     (tie.spec (λ c κs. search rules) (λ c. search rules) (λ c. search rules) (λ c κs. search rules)
-    (λ c. rw (← c.before.before.before.bounds.ensures) c.split-inverted-range.ensures))
+    (λ c. rw (← c.bounds.ensures) c.split_inverted_range.ensures))

@@ -5,4 +5,4 @@ use Rattle.bounded.proofs.Year.split_inverted_range.Tie as tie
 
 pub split_inverted_range_spec : {M : Type 1} → statement M
 split_inverted_range_spec =
-    tie.close (tie.spec (λ c κs. search rules) (λ c κs. search rules) (λ c. rw (← c.before.bounds.ensures) c.split-inverted-range.ensures))
+    tie.close (tie.spec (λ c κs. search rules) (λ c κs. search rules) (λ c. rw (← c.bounds.ensures) c.split_inverted_range.ensures))

@@ -6,20 +6,15 @@ use Rattle.box_day.proofs.scratch.fold_some.Tie as tie
 
 normalize-time-rules-requires : tie.Need-normalize_time_rules-requires
 normalize-time-rules-requires c κs =
-    let third = c.before.before.before.before.before.before in
-    let second = third.before in
-    let first = second.before in
-    let codes = first.before in
-    let states = codes.before in
-    let pre = states.before.before.before.before.before.before.requires in (
+    let pre = c.requires in (
       pre.0,
       (
         omega (arith, pre.1),
-        omega (arith, pre.1, states.some_states-span_states.ensures),
-        omega (arith, pre.1, codes.some_spans-span_codes.ensures),
-        omega (arith, pre.1, first.some_ends-strokes.ensures),
-        omega (arith, pre.1, second.some_ends-minute_cuts.ensures),
-        omega (arith, pre.1, third.some_ends-interval_states.ensures),
+        omega (arith, pre.1, c.some_states-span_states.ensures),
+        omega (arith, pre.1, c.some_spans-span_codes.ensures),
+        omega (arith, pre.1, c.some_ends-strokes.ensures),
+        omega (arith, pre.1, c.some_ends-minute_cuts.ensures),
+        omega (arith, pre.1, c.some_ends-interval_states.ensures),
       ),
     )
 

@@ -8,9 +8,8 @@ use Rattle.box_groups.proofs.search.is_of.Tie as tie
 
 returns : tie.Need-returns-then-value-eq0
 returns c =
-    let entry = c.before.before in
-    let a = entry.args in
-    sym (ap (in_class a.classes.now a.class) c.if-value-eq0.true ∙ empty-unmatched a.classes.now a.class entry.requires)
+    let a = c.args in
+    sym (ap (in_class a.classes.now a.class) c.if-value-eq0.true ∙ empty-unmatched a.classes.now a.class c.requires)
 
 pub is_of_spec : {M : Type 1} → statement M
 is_of_spec = tie.close (tie.spec returns (λ c κs. search rules) (λ c. search rules))

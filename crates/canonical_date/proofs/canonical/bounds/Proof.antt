@@ -7,15 +7,13 @@ use Rattle.canonical_date.proofs.Saying.{in-years, in-months, in-weeks, in-weekd
 use Rattle.canonical_date.proofs.canonical.bounds.Statement.{statement}
 use Rattle.canonical_date.proofs.canonical.bounds.Tie as tie
 
-pub bounds-spec : {M : Type 1} → statement M
-bounds-spec =
+pub bounds_spec : {M : Type 1} → statement M
+bounds_spec =
     tie.close
     (tie.spec (λ c κs. search rules) (λ c κs. search rules) (λ c κs. search rules) (λ c κs. search rules)
-    (λ c. c.bounds.ensures ∙ in-years _ (eq-eqb c.before.before.args.sort 0 (omega arith)))
-    (λ c. c.bounds2.ensures ∙ in-months _ (ne_eqb c.before.before.args.sort 0 (omega arith)) (eq-eqb c.before.before.args.sort 1 (omega arith)))
+    (λ c. c.bounds.ensures ∙ in-years _ (eq-eqb c.args.sort 0 (omega arith)))
+    (λ c. c.bounds-in-1.ensures ∙ in-months _ (ne_eqb c.args.sort 0 (omega arith)) (eq-eqb c.args.sort 1 (omega arith)))
     (λ c.
-    let entry = c.before.before in
-    c.bounds3.ensures ∙ in-weeks _ (ne_eqb entry.args.sort 0 (omega arith)) (ne_eqb entry.args.sort 1 (omega arith)) (eq-eqb entry.args.sort 2 (omega arith)))
+    c.bounds-in-2.ensures ∙ in-weeks _ (ne_eqb c.args.sort 0 (omega arith)) (ne_eqb c.args.sort 1 (omega arith)) (eq-eqb c.args.sort 2 (omega arith)))
     (λ c.
-    let entry = c.before.before in
-    c.bounds4.ensures ∙ in-weekdays _ (ne_eqb entry.args.sort 0 (omega arith)) (ne_eqb entry.args.sort 1 (omega arith)) (ne_eqb entry.args.sort 2 (omega arith))))
+    c.bounds-in_default.ensures ∙ in-weekdays _ (ne_eqb c.args.sort 0 (omega arith)) (ne_eqb c.args.sort 1 (omega arith)) (ne_eqb c.args.sort 2 (omega arith))))

@@ -6,15 +6,12 @@ use Rattle.canonical_date.proofs.Saying.{said, split-some}
 use Rattle.canonical_date.proofs.canonical.months_at.Statement.{statement}
 use Rattle.canonical_date.proofs.canonical.months_at.Tie as tie
 
-at_once : tie.Need-returns
+at_once : tie.Need-returns-then-lawful_months
 at_once c =
-    let last = c.before in
-    let first = last.before.before in
-    let lawful = first.before.before.before in
-    said month_says _ _ _ _ (lawful.lawful-months.ensures first.before.before.if2.true _ _ lawful.before.wide_at.ensures)
-    (split-some _ _ _ _ _ _ c.split-inverted-range.ensures (first.u64-to-u8.ensures ∙ first.before.part.ensures) (last.u64-to-u82.ensures ∙ last.before.part2.ensures))
+    said month_says _ _ _ _ (c.lawful_months.ensures c.if-lawful_months.true _ _ c.wide_at-bits.ensures)
+    (split-some _ _ _ _ _ _ c.split_inverted_range.ensures (c.u64_to_u8.ensures ∙ c.part.ensures) (c.u64_to_u8-then-lawful_months.ensures ∙ c.part-then-lawful_months.ensures))
 
-pub months-at-spec : {M : Type 1} → statement M
-months-at-spec =
+pub months_at_spec : {M : Type 1} → statement M
+months_at_spec =
     tie.close
     (tie.spec (λ c. search rules) (λ c κs. search rules) (λ c κs. search rules) (λ c κs. search rules) (λ c κs. search rules) (λ c κs. search rules) (λ c κs. search rules) (λ c κs. search rules) (λ c. search rules) at_once (λ c κs. search rules) (λ c. search rules))

@@ -7,17 +7,13 @@ use Rattle.canonical_date.proofs.Saying.{said, split-some, only-some}
 use Rattle.canonical_date.proofs.canonical.weeks_at.Statement.{statement}
 use Rattle.canonical_date.proofs.canonical.weeks_at.Tie as tie
 
-at_once : tie.Need-returns
+at_once : tie.Need-returns-then-part-eq1
 at_once c =
-    let last = c.before in
-    let first = last.before.before in
-    let step = first.before.before.before in
-    let lawful = step.before.before in
-    said week_says _ _ _ _ (lawful.lawful-weeks.ensures step.before.if2.true _ _ lawful.before.wide_at.ensures)
-    (only-some _ _ _ (eq-eqb _ 1 (sym step.part.ensures ∙ first.before.before.if3.true))
-    (split-some _ _ _ _ _ _ c.split-inverted-range.ensures (first.u64-to-u8.ensures ∙ first.before.part2.ensures) (last.u64-to-u82.ensures ∙ last.before.part3.ensures)))
+    said week_says _ _ _ _ (c.lawful_weeks.ensures c.if-lawful_weeks.true _ _ c.wide_at-bits.ensures)
+    (only-some _ _ _ (eq-eqb _ 1 (sym c.part.ensures ∙ c.if-part-eq1.true))
+    (split-some _ _ _ _ _ _ c.split_inverted_range.ensures (c.u64_to_u8.ensures ∙ c.part-then-part-eq1.ensures) (c.u64_to_u8-then-part-eq1.ensures ∙ c.part-then-part-eq1-2.ensures)))
 
-pub weeks-at-spec : {M : Type 1} → statement M
-weeks-at-spec =
+pub weeks_at_spec : {M : Type 1} → statement M
+weeks_at_spec =
     tie.close
     (tie.spec (λ c. search rules) (λ c κs. search rules) (λ c κs. search rules) (λ c κs. search rules) (λ c κs. search rules) (λ c κs. search rules) (λ c κs. search rules) (λ c κs. search rules) (λ c κs. search rules) (λ c. search rules) at_once (λ c κs. search rules) (λ c. search rules))

@@ -17,56 +17,45 @@ use Rattle.canonical_date.proofs.Rows.{Owed, items-none, items-stop, items-go}
 use Rattle.canonical_date.proofs.row.items.Statement.{statement}
 use Rattle.canonical_date.proofs.row.items.Tie as tie
 
-abbrev invariant-loop : tie.invariant-loop
+abbrev invariant-loop : tie.invariant-loop-left
 invariant-loop sheet start sort count ranges₀ first at₀ place₀ left₀ ranges at place left =
     (left ≤ count) × (at + left * 52 ≤ start + count * 52) × (place + left * 4 ≤ first + count * 4) × (length ranges ≡ length ranges₀)
     × ((r : Answer) (after : List ℕ) → Owed r after place ranges (items_ranges sort left (sheet_bits sheet) at) (items_end sort left (sheet_bits sheet) at)
     → Owed r after first ranges₀ (items_ranges sort count (sheet_bits sheet) start) (items_end sort count (sheet_bits sheet) start))
 
-abbrev decreases-loop : tie.decreases-loop
+abbrev decreases-loop : tie.decreases-loop-left
 decreases-loop sheet start sort count ranges₀ first at₀ place₀ left₀ ranges at place left = left
 
-put-split-requires : tie.Need-put-split-requires invariant-loop decreases-loop
+put-split-requires : tie.Need-put_split-place-requires invariant-loop decreases-loop
 put-split-requires c κs =
-    let item-at = c.before.before.before.before in
-    let loop = item-at.before.before in
-    let known = loop.before.before in
-    let entry = known.before in
-    let s = entry.args.sheet.now in
-    let facts = item-facts _ s (known_bytes s (λ j. omega (arith, known.shared-slice-known.given j))) _ _ _
-    (sym item-at.item-at.ensures ∙ ap item_of c.before.before.item.given.1) in
-    (omega (arith, loop.loop.invariant.2, loop.loop.invariant.3, entry.requires.1, item-at.before.loop-test.true), facts.narrow)
+    let s = c.args.sheet.now in
+    let facts = item-facts _ s (known_bytes s (λ j. omega (arith, c.shared_slice_known-1.given j))) _ _ _
+    (sym c.item_at-item.ensures ∙ ap item_of c.in-Ranges.is) in
+    (omega (arith, c.loop-left.invariant.2, c.loop-left.invariant.3, c.requires.1, c.loop-left-test.true), facts.narrow)
 
-stops : tie.Need-returns invariant-loop decreases-loop
+stops : tie.Need-returns-in-Stops invariant-loop decreases-loop
 stops c =
-    let item-at = c.before.before in
-    let loop = item-at.before.before in
-    loop.loop.invariant.4 _ _ (items-stop _ _ _ _ _ _ (λ z. omega (arith, item-at.before.loop-test.true)) (sym item-at.item-at.ensures ∙ ap item_of c.enum_told.given.1))
+    c.loop-left.invariant.4 _ _ (items-stop _ _ _ _ _ _ (λ z. omega (arith, c.loop-left-test.true)) (sym c.item_at-item.ensures ∙ ap item_of c.in-Stops.is))
 
-loop-again : tie.Need-loop-preserved invariant-loop decreases-loop
+loop-again : tie.Need-loop-left-preserved invariant-loop decreases-loop
 loop-again c =
-    let put-split = c.before.before in
-    let item = put-split.before.before.before in
-    let item-at = item.before.before in
-    let test = item-at.before.loop-test.true in
-    let loop = item-at.before.before in
-    let old = loop.loop in
-    let known = loop.before.before in
-    let s = known.before.args.sheet.now in
-    let facts = item-facts _ s (known_bytes s (λ j. omega (arith, known.shared-slice-known.given j))) _ _ _ (sym item-at.item-at.ensures ∙ ap item_of item.item.given.1) in (
+    let test = c.loop-left-test.true in
+    let old = c.loop-left in
+    let s = c.args.sheet.now in
+    let facts = item-facts _ s (known_bytes s (λ j. omega (arith, c.shared_slice_known-1.given j))) _ _ _ (sym c.item_at-item.ensures ∙ ap item_of c.in-Ranges.is) in (
       omega (arith, old.invariant.0),
       omega (arith, facts.ends, old.invariant.1, test),
-      omega (arith, facts.few, flat-length (list_of item.item.given.0.0), put-split.put-split.ensures.0, old.invariant.2, test),
-      omega (arith, put-split.put-split.auto, old.invariant.3),
+      omega (arith, facts.few, flat-length (list_of c.in-Ranges.split), c.put_split-place.ensures.0, old.invariant.2, test),
+      omega (arith, c.put_split-place.auto, old.invariant.3),
       λ r after o. old.invariant.4 r after
-          (items-go _ _ _ _ _ _ _ _ _ _ _ _ _ (omega (arith, test)) (sym item-at.item-at.ensures ∙ ap item_of item.item.given.1)
-          put-split.put-split.ensures.0 put-split.put-split.ensures.1 o),
+          (items-go _ _ _ _ _ _ _ _ _ _ _ _ _ (omega (arith, test)) (sym c.item_at-item.ensures ∙ ap item_of c.in-Ranges.is)
+          c.put_split-place.ensures.0 c.put_split-place.ensures.1 o),
     )
 
-pub items-spec : {M : Type 1} → statement M
-items-spec =
+pub items_spec : {M : Type 1} → statement M
+items_spec =
     tie.close
     (tie.spec invariant-loop decreases-loop (λ c. (omega arith, omega arith, omega arith, refl, λ r after o. o))
-    (λ c κs. omega (arith, c.before.loop.invariant.1, c.loop-test.true, c.before.before.before.before.requires.0))
-    (λ c. search rules) put-split-requires (λ c. search rules) (λ c. c.before.before.before.before.loop.invariant.3) stops (λ c. omega arith) (λ c. omega arith)
-    loop-again (λ c. c.before.loop.invariant.3) (λ c. c.before.loop.invariant.4 _ _ (items-none _ _ _ _ _ _ (omega (arith, c.loop-test.false)))))
+    (λ c κs. omega (arith, c.loop-left.invariant.1, c.loop-left-test.true, c.requires.0))
+    (λ c. search rules) put-split-requires (λ c. search rules) (λ c. c.loop-left.invariant.3) stops (λ c. omega arith) (λ c. omega arith)
+    loop-again (λ c. c.loop-left.invariant.3) (λ c. c.loop-left.invariant.4 _ _ (items-none _ _ _ _ _ _ (omega (arith, c.loop-left-test.false)))))

@@ -4,8 +4,8 @@ use Rattle.canonical_date.proofs.Flat.{put_one}
 use Rattle.canonical_date.proofs.row.put_range.Statement.{statement}
 use Rattle.canonical_date.proofs.row.put_range.Tie as tie
 
-pub put-range-spec : {M : Type 1} → statement M
-put-range-spec =
+pub put_range_spec : {M : Type 1} → statement M
+put_range_spec =
     tie.close
     (tie.spec (λ c. search rules) (λ c. search rules) (λ c. search rules) (λ c. search rules) (λ c. search rules) (λ c. search rules) (λ c. search rules) (λ c. search rules)
-    (λ c. put_one _ _ (c.before.before.args.range.start, c.before.before.args.range.end)))
+    (λ c. put_one _ _ (c.args.range.start, c.args.range.end)))

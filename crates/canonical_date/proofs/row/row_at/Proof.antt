@@ -8,15 +8,15 @@ use Rattle.canonical_date.proofs.Rows.{row-none, row-some}
 use Rattle.canonical_date.proofs.row.row_at.Statement.{statement}
 use Rattle.canonical_date.proofs.row.row_at.Tie as tie
 
-put-range-requires : tie.Need-put-range-requires
+put-range-requires : tie.Need-put_range-requires
 put-range-requires c κs =
-    let low = bounds-low c.before.before.before.before.before.args.sort in
+    let low = bounds-low c.args.sort in
     (omega arith, subst Narrow (sym c.bounds.ensures) (omega (arith, low.0, low.1), omega (arith, low.1)))
 
-pub row-at-spec : {M : Type 1} → statement M
-row-at-spec =
+pub row_at_spec : {M : Type 1} → statement M
+row_at_spec =
     tie.close
     (tie.spec (λ c. search rules) (λ c κs. search rules) put-range-requires (λ c. search rules) (λ c. search rules)
-    (λ c. row-none _ _ _ _ _ _ _ _ c.before.before.before.before.before.if1.true c.before.before.put-range.ensures c.before.before.before.bounds.ensures)
+    (λ c. row-none _ _ _ _ _ _ _ _ c.if-count-eq0.true c.put_range.ensures c.bounds.ensures)
     (λ c κs. search rules) (λ c. search rules)
-    (λ c. row-some _ _ _ _ _ _ _ _ c.before.before.before.before.if1.false c.before.before.items.ensures))
+    (λ c. row-some _ _ _ _ _ _ _ _ c.if-count-eq0.false c.items.ensures))

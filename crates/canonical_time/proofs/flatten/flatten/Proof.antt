@@ -14,7 +14,7 @@ abbrev decreases-loop : tie.decreases-loop-next
 decreases-loop stated₀ spanned₀ states counts spans list n next₀ place₀ stated spanned next place = n - next
 
 loop-holds : tie.Need-loop-next-init invariant-loop decreases-loop
-loop-holds c = flat_start _ _ _ _ _ _ _ c.before.before.before.before.before.before.requires.1
+loop-holds c = flat_start _ _ _ _ _ _ _ c.requires.1
 
 mul-u16-to-usize : tie.Need-offset_bounds-list-next invariant-loop decreases-loop
 mul-u16-to-usize c = search rules
@@ -27,10 +27,7 @@ u16-to-usize-requires c κs = search rules
 
 shared-slice-read-u8-to-usize : tie.Need-bounds-span_counts-r invariant-loop decreases-loop
 shared-slice-read-u8-to-usize c =
-    let rule = c.before in
-    let turn = rule.before.before in
-    let start = turn.before.before.before.before.before.before.before.before in
-    (named_rule _ _ _ _ start.requires.0 _ _ turn.loop-next-test.true rule.u16_to_usize-r.ensures.0).1
+    (named_rule _ _ _ _ c.requires.0 _ _ c.loop-next-test.true c.u16_to_usize-r.ensures.0).1
 
 u8-to-usize-requires : tie.Need-u8_to_usize-c-requires invariant-loop decreases-loop
 u8-to-usize-requires c κs = search rules
@@ -40,10 +37,7 @@ mul-push-spans c = search rules
 
 shared-slice-read-push-spans : tie.Need-bounds-states-r invariant-loop decreases-loop
 shared-slice-read-push-spans c =
-    let rule = c.before.before.before.before.before in
-    let turn = rule.before.before in
-    let start = turn.before.before.before.before.before.before.before.before in
-    (named_rule _ _ _ _ start.requires.0 _ _ turn.loop-next-test.true rule.u16_to_usize-r.ensures.0).0
+    (named_rule _ _ _ _ c.requires.0 _ _ c.loop-next-test.true c.u16_to_usize-r.ensures.0).0
 
 mul-push-spans-2 : tie.Need-overflow_mul-r invariant-loop decreases-loop
 mul-push-spans-2 c = search rules
@@ -53,26 +47,18 @@ mul-push-spans-3 c = search rules
 
 add-push-spans : tie.Need-overflow_add-r invariant-loop decreases-loop
 add-push-spans c =
-    let count = c.before.before.before in
-    let rule = count.before.before in
-    let start = rule.before.before.before.before.before.before.before.before.before.before in
-    omega (arith, start.requires.0.few rule.u16_to_usize-r.result, count.u8_to_usize-c.ensures.0, rule.u16_to_usize-r.ensures)
+    omega (arith, c.requires.0.few c.u16_to_usize-r.result, c.u8_to_usize-c.ensures.0, c.u16_to_usize-r.ensures)
 
 push-spans-requires : tie.Need-push_spans-place-requires invariant-loop decreases-loop
 push-spans-requires c κs =
-    let count = c.before.before.before in
-    let rule = count.before.before in
-    let turn = rule.before.before in
-    let loop = turn.before in
-    let start = loop.before.before.before.before.before.before.before in
-    let pre = start.requires in
-    let more = turn.loop-next-test.true in
-    let named = named_rule _ _ _ _ pre.0 _ _ more rule.u16_to_usize-r.ensures.0 in
-    let few = pre.0.few rule.u16_to_usize-r.result in
-    let room = loop.loop-next.invariant.room in (
-      omega (arith, few, count.u8_to_usize-c.ensures.0, room.0, more),
-      omega (arith, few, count.u8_to_usize-c.ensures.0, room.1, more),
-      omega (arith, few, count.u8_to_usize-c.ensures.0, named.2),
+    let pre = c.requires in
+    let more = c.loop-next-test.true in
+    let named = named_rule _ _ _ _ pre.0 _ _ more c.u16_to_usize-r.ensures.0 in
+    let few = pre.0.few c.u16_to_usize-r.result in
+    let room = c.loop-next.invariant.room in (
+      omega (arith, few, c.u8_to_usize-c.ensures.0, room.0, more),
+      omega (arith, few, c.u8_to_usize-c.ensures.0, room.1, more),
+      omega (arith, few, c.u8_to_usize-c.ensures.0, named.2),
     )
 
 add-next : tie.Need-overflow_add-next invariant-loop decreases-loop
@@ -83,24 +69,18 @@ loop-less c = search rules
 
 loop-again : tie.Need-loop-next-preserved invariant-loop decreases-loop
 loop-again c =
-    let pushed = c.before.before.before.before in
-    let count = pushed.before.before.before.before in
-    let rule = count.before.before in
-    let more = rule.before.before in
-    let loop = more.before in
-    let entry = loop.before.before.before.before.before.before.before in
-    let few = entry.requires.0.few rule.u16_to_usize-r.result in
-    flat_on _ _ _ _ _ _ _ _ _ _ _ loop.loop-next.invariant more.loop-next-test.true _ _ rule.u16_to_usize-r.ensures.0 count.u8_to_usize-c.ensures.0
-    (omega (arith, few, count.u8_to_usize-c.ensures.0)) _ _ _ pushed.push_spans-place.ensures (pushed.push_spans-place.auto.0, pushed.push_spans-place.auto.1.0)
+    let few = c.requires.0.few c.u16_to_usize-r.result in
+    flat_on _ _ _ _ _ _ _ _ _ _ _ c.loop-next.invariant c.loop-next-test.true _ _ c.u16_to_usize-r.ensures.0 c.u8_to_usize-c.ensures.0
+    (omega (arith, few, c.u8_to_usize-c.ensures.0)) _ _ _ c.push_spans-place.ensures (c.push_spans-place.auto.0, c.push_spans-place.auto.1.0)
 
 same_length : tie.Need-shape_of-span_states invariant-loop decreases-loop
-same_length c = c.before.loop-next.invariant.lengths.0
+same_length c = c.loop-next.invariant.lengths.0
 
 same-length-2 : tie.Need-shape_of-span_codes invariant-loop decreases-loop
-same-length-2 c = c.before.loop-next.invariant.lengths.1
+same-length-2 c = c.loop-next.invariant.lengths.1
 
 returns : tie.Need-returns invariant-loop decreases-loop
-returns c = flat-done _ _ _ _ _ _ _ _ _ _ _ c.before.loop-next.invariant (omega arith)
+returns c = flat-done _ _ _ _ _ _ _ _ _ _ _ c.loop-next.invariant (omega arith)
 
 pub flatten_spec : {M : Type 1} → statement M
 flatten_spec =

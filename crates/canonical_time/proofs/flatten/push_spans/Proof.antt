@@ -52,31 +52,27 @@ loop-less c = search rules
 
 loop-again : tie.Need-loop-next-preserved invariant-loop decreases-loop
 loop-again c =
-    let loop = c.before.before in
-    let entry = loop.before in
-    let args = entry.args in
-    let l = push-more args.spans.now args.s loop.loop-next.place loop.loop-next.next args.e loop.loop-next.span-states loop.loop-next.span-codes
+    let args = c.args in
+    let l = push-more args.spans.now args.s c.loop-next.place c.loop-next.next args.e c.loop-next.span_states c.loop-next.span_codes
     (omega arith) in (
       omega arith,
-      (simp length-set loop.loop-next.invariant.1.0, simp length-set loop.loop-next.invariant.1.1),
-      l.0 ∙ loop.loop-next.invariant.2,
-      l.1 ∙ loop.loop-next.invariant.3,
+      (simp length-set c.loop-next.invariant.1.0, simp length-set c.loop-next.invariant.1.1),
+      l.0 ∙ c.loop-next.invariant.2,
+      l.1 ∙ c.loop-next.invariant.3,
     )
 
 same_length : tie.Need-shape_of-span_states invariant-loop decreases-loop
-same_length c = c.before.loop-next.invariant.1.0
+same_length c = c.loop-next.invariant.1.0
 
 same-length-2 : tie.Need-shape_of-span_codes invariant-loop decreases-loop
-same-length-2 c = c.before.loop-next.invariant.1.1
+same-length-2 c = c.loop-next.invariant.1.1
 
 returns : tie.Need-returns invariant-loop decreases-loop
 returns c =
-    let loop = c.before in
-    let entry = loop.before in
-    let args = entry.args in
-    let l = push-none args.spans.now args.s loop.loop-next.place loop.loop-next.next args.e loop.loop-next.span-states loop.loop-next.span-codes
+    let args = c.args in
+    let l = push-none args.spans.now args.s c.loop-next.place c.loop-next.next args.e c.loop-next.span_states c.loop-next.span_codes
     (omega arith) in
-    (omega (arith, loop.loop-next.invariant.0), l.0 ∙ loop.loop-next.invariant.2, l.1 ∙ loop.loop-next.invariant.3)
+    (omega (arith, c.loop-next.invariant.0), l.0 ∙ c.loop-next.invariant.2, l.1 ∙ c.loop-next.invariant.3)
 
 pub push_spans_spec : {M : Type 1} → statement M
 push_spans_spec =

@@ -9,6 +9,6 @@ pub is_fallback_spec : {M : Type 1} → statement M
 is_fallback_spec =
     tie.close
     (tie.spec
-    (λ c. sym (rw (eq-eqb c.before.args.operator 0 (omega arith))))
-    (λ c. sym (rw (ne_eqb c.before.args.operator 0 (omega arith), eq-eqb c.before.args.operator 1 (omega arith))))
-    (λ c. sym (rw (ne_eqb c.before.args.operator 0 (omega arith), ne_eqb c.before.args.operator 1 (omega arith)))))
+    (λ c. sym (rw (eq-eqb c.args.operator 0 (omega arith))))
+    (λ c. sym (rw (ne_eqb c.args.operator 0 (omega arith), eq-eqb c.args.operator 1 (omega arith))))
+    (λ c. sym (rw (ne_eqb c.args.operator 0 (omega arith), ne_eqb c.args.operator 1 (omega arith)))))

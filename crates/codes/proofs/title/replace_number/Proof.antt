@@ -9,6 +9,6 @@ pub replace_number_spec : {M : Type 1} → statement M
 replace_number_spec =
     tie.close
     (tie.spec
-    (λ c. sym (rw (eq-eqb c.before.before.args.operator 0 c.before.if1.true, closed-kind c.before.before.args.kind c.if2.true)))
-    (λ c. sym (rw (eq-eqb c.before.before.args.operator 0 c.before.if1.true, other-kind c.before.before.args.kind c.if2.false)))
-    (λ c. sym (rw (not-normal c.before.args.operator c.if1.false))))
+    (λ c. sym (rw (eq-eqb c.args.operator 0 c.if-operator-eq0.true, closed-kind c.args.kind c.if-kind-eq1.true)))
+    (λ c. sym (rw (eq-eqb c.args.operator 0 c.if-operator-eq0.true, other-kind c.args.kind c.if-kind-eq1.false)))
+    (λ c. sym (rw (not-normal c.args.operator c.if-operator-eq0.false))))

@@ -9,6 +9,6 @@ pub state_number_spec : {M : Type 1} → statement M
 state_number_spec =
     tie.close
     (tie.spec (λ c. search rules) (λ c. search rules) (λ c. search rules) (λ c. search rules)
-    (λ c. state-open c.before.args.kind c.before.args.comment _ (omega arith) (omega arith))
-    (λ c. state-closed c.before.args.kind c.before.args.comment _ (omega arith) (omega arith))
-    (λ c. state-unknown c.before.args.kind c.before.args.comment _ (omega arith) (omega arith) (omega arith)))
+    (λ c. state-open c.args.kind c.args.comment _ (omega arith) (omega arith))
+    (λ c. state-closed c.args.kind c.args.comment _ (omega arith) (omega arith))
+    (λ c. state-unknown c.args.kind c.args.comment _ (omega arith) (omega arith) (omega arith)))

@@ -20,47 +20,42 @@ use Rattle.convert.proofs.rule.move_counts.Tie as tie
 read : (c : tie.After-known-told) → let entry = c.before.before.before.before.before.before in let v = c.before.counts.given.0 in
     (counts (as_form entry.args.form) sheet_limits).read (sheet_bits entry.args.sheet.now) entry.args.at
     ≡ got (v.0, (v.1.0, (v.1.1.0, (v.1.1.1.0, v.1.1.1.1.0)))) v.1.1.1.1.1.0
-read c = took-counts _ _ _ _ _ _ _ c.before.before.before.counts-at.ensures c.before.counts.given.1
+read c = took-counts _ _ _ _ _ _ _ c.before.before.before.counts_at.ensures c.before.counts.given.1
 
 -- as the writer takes them
 same : (c : tie.After-item-counts) → let told = c.before.before.before.before.before.before in let v = told.before.counts.given.0 in
-    counts_of (c.before.before.before.before.before.u64-to-u16.result ∷ c.before.before.before.before.u64-to-u162.result
+    counts_of (c.before.before.before.before.before.u64_to_u16.result ∷ c.before.before.before.before.u64-to-u162.result
     ∷ c.before.before.before.u64-to-u163.result ∷ c.before.before.u64-to-u164.result ∷ []) v.1.1.1.1.0
     ≡ (v.0, (v.1.0, (v.1.1.0, (v.1.1.1.0, v.1.1.1.1.0))))
 same c =
-    row_counts _ _ _ _ _ _ _ _ _ c.before.before.before.before.before.u64-to-u16.ensures c.before.before.before.before.u64-to-u162.ensures
+    row_counts _ _ _ _ _ _ _ _ _ c.before.before.before.before.before.u64_to_u16.ensures c.before.before.before.before.u64-to-u162.ensures
     c.before.before.before.u64-to-u163.ensures c.before.before.u64-to-u164.ensures
 
-put-counts-requires : tie.Need-put-counts-requires
+put-counts-requires : tie.Need-put_counts-requires
 put-counts-requires c κs =
-    let told = c.before.before.before.before.before.before in
-    let entry = told.before.before.before.before.before.before in
-    let given = entry.requires.0 in
-    let few = counts-low _ _ _ _ _ (read told) in
-    let wide = items-wide entry.args.to in
-    let counted = same c ∙ read-once _ given.0 _ _ (read told) given.2 in (
+    let given = c.requires.0 in
+    let few = counts-low _ _ _ _ _ (read c) in
+    let wide = items-wide c.args.to in
+    let counted = same c ∙ read-once _ given.0 _ _ (read c) given.2 in (
       (
         omega arith,
-        row-few (most_items (as_form entry.args.to)) _ _ _ _ (omega (arith, c.before.before.before.before.before.u64-to-u16.ensures, few.0, wide))
-            (omega (arith, c.before.before.before.before.u64-to-u162.ensures, few.1, wide)) (omega (arith, c.before.before.before.u64-to-u163.ensures, few.2, wide))
-            (omega (arith, c.before.before.u64-to-u164.ensures, few.3, wide)),
+        row-few (most_items (as_form c.args.to)) _ _ _ _ (omega (arith, c.u64_to_u16.ensures, few.0, wide))
+            (omega (arith, c.u64_to_u16-in-Counts.ensures, few.1, wide)) (omega (arith, c.u64_to_u16-in-Counts-2.ensures, few.2, wide))
+            (omega (arith, c.u64_to_u16-in-Counts-3.ensures, few.3, wide)),
         omega (arith, few.4),
       ),
-      room_as (sym (ap (counts (as_form entry.args.to) sheet_limits).write counted)) given.3,
+      room_as (sym (ap (counts (as_form c.args.to) sheet_limits).write counted)) given.3,
     )
 
-returns : tie.Need-returns
+returns : tie.Need-returns-in-Counts
 returns c =
-    let put = c.before.before in
-    let row = put.before in
-    let told = row.before.before.before.before.before.before in
-    let a = told.before.before.before.before.before.before.args in
-    λ n next e. wrote_as (sym (ap (counts (as_form a.to) sheet_limits).write (same row ∙ read-once _ n _ next (read told) e))) put.put-counts.ensures
+    let a = c.args in
+    λ n next e. wrote_as (sym (ap (counts (as_form a.to) sheet_limits).write (same c ∙ read-once _ n _ next (read c) e))) c.put_counts.ensures
 
-pub move-counts-spec : {M : Type 1} → statement M
-move-counts-spec =
+pub move_counts_spec : {M : Type 1} → statement M
+move_counts_spec =
     tie.close
-    (tie.spec (λ c κs. search rules) (λ c. search rules) (λ c κs. omega (arith, (counts-low _ _ _ _ _ (read c)).0)) (λ c κs. omega (arith, (counts-low _ _ _ _ _ (read c.before)).1))
-    (λ c κs. omega (arith, (counts-low _ _ _ _ _ (read c.before.before)).2)) (λ c κs. omega (arith, (counts-low _ _ _ _ _ (read c.before.before.before)).3)) (λ c. search rules)
+    (tie.spec (λ c κs. search rules) (λ c. search rules) (λ c κs. omega (arith, (counts-low _ _ _ _ _ (read c)).0)) (λ c κs. omega (arith, (counts-low _ _ _ _ _ (read c)).1))
+    (λ c κs. omega (arith, (counts-low _ _ _ _ _ (read c)).2)) (λ c κs. omega (arith, (counts-low _ _ _ _ _ (read c)).3)) (λ c. search rules)
     put-counts-requires (λ c. search rules) (λ c. search rules) returns
-    (λ c n next e. clash _ _ n next (sym (stopped-counts _ _ _ c.before.before.before.counts-at.ensures c.before.counts2.given.1) ∙ e)))
+    (λ c n next e. clash _ _ n next (sym (stopped-counts _ _ _ c.counts_at-counts.ensures c.in-Refused.is) ∙ e)))

@@ -25,23 +25,20 @@ start c = c.before
 bytes : (c : tie.After-shared-slice-known) → Bytes (start c).args.sheet.now
 bytes c = known_bytes (start c).args.sheet.now (λ j. omega (arith, c.shared-slice-known.given j))
 
-move-title-requires : tie.Need-move-title-requires
+move-title-requires : tie.Need-move_title-counts_place-requires
 move-title-requires c κs =
-    let entry = start c.before.before in
+    let entry = start c in
     let pre = entry.pre in
     ((pre.0.0.0, pre.0.1), (pre.1.0, room-first _ _ (room_as (rule-split (as_form entry.args.to) _) pre.1.1)))
 
-move-counts-requires : tie.Need-move-counts-requires
+move-counts-requires : tie.Need-move_counts-body_place-requires
 move-counts-requires c κs =
-    let width = c.before in
-    let title = width.before.before.before in
-    let shared = title.before.before.before in
-    let entry = start shared in
+    let entry = start c in
     let a = entry.args in
     let pre = entry.pre in
-    let rest = room-rest title.move-title.ensures _ (room_as (rule-split (as_form a.to) _) pre.1.1) in (
-      (_, _, counts-there _ a.sheet.now (bytes shared) a.at pre.0.0.0 _ (ap (a.at +◌) width.title-width.ensures.0), room-first _ _ rest),
-      omega (arith, pre.0.1, width.title-width.ensures.1),
+    let rest = room-rest c.move_title-counts_place.ensures _ (room_as (rule-split (as_form a.to) _) pre.1.1) in (
+      (_, _, counts-there _ a.sheet.now (bytes c) a.at pre.0.0.0 _ (ap (a.at +◌) c.title_width.ensures.0), room-first _ _ rest),
+      omega (arith, pre.0.1, c.title_width.ensures.1),
     )
 
 -- from where the items are copied back to where the counts were written, to the title, and to the sheet
@@ -56,58 +53,54 @@ shared c = (titled c).before.before.before
 
 -- the items stand from the head's end up to the rule's
 body-low : (c : tie.After-head-width) → let a = (start (shared c)).args in
-    (a.at + c.head-width.result ≤ a.end) × (a.end ≤ 8 * length a.sheet.now) × (a.end < 2 ^ 26)
-    × (a.end - (a.at + c.head-width.result) ≡ length (body_bits (rule_read_at (as_form a.form) (sheet_bits a.sheet.now) a.at)))
+    (a.at + c.head_width.result ≤ a.end) × (a.end ≤ 8 * length a.sheet.now) × (a.end < 2 ^ 26)
+    × (a.end - (a.at + c.head_width.result) ≡ length (body_bits (rule_read_at (as_form a.form) (sheet_bits a.sheet.now) a.at)))
 body-low c =
     let entry = start (shared c) in
     let a = entry.args in
     let given = entry.pre.0 in
     let reach = reaches _ a.sheet.now (bytes (shared c)) a.at given.0.0 (narrow a.form) given.1 in
     let size = body-size _ a.sheet.now (bytes (shared c)) a.at given.0.0 in
-    let width = c.head-width.ensures.0 in (
+    let width = c.head_width.ensures.0 in (
       omega (arith, reach.0, width, given.0.1),
       omega (arith, reach.1, given.0.1),
       omega (arith, reach.2, given.0.1),
       omega (arith, size, width, given.0.1),
     )
 
-copy-bits-requires : tie.Need-copy-bits-requires
+copy-bits-requires : tie.Need-copy_bits-requires
 copy-bits-requires c κs =
-    let head = c.before in
-    let entry = start (shared head) in
+    let entry = start (shared c) in
     let a = entry.args in
-    let low = body-low head in
-    let counts = (counted head).move-counts.ensures _ _
-    (counts-there _ a.sheet.now (bytes (shared head)) a.at entry.pre.0.0.0 _ (ap (a.at +◌) (counted head).before.before.title-width.ensures.0)) in
-    let rest = room-rest counts _ (room-rest (titled head).move-title.ensures _ (room_as (rule-split (as_form a.to) _) entry.pre.1.1)) in
+    let low = body-low c in
+    let counts = (counted c).move_counts.ensures _ _
+    (counts-there _ a.sheet.now (bytes (shared c)) a.at entry.pre.0.0.0 _ (ap (a.at +◌) (counted c).before.before.title_width.ensures.0)) in
+    let rest = room-rest counts _ (room-rest (titled c).move_title.ensures _ (room_as (rule-split (as_form a.to) _) entry.pre.1.1)) in
     (omega (arith, low.0, low.1), omega (arith, rest.inside, low.3), omega (arith, low.0, low.2), omega (arith, rest.low, low.3))
 
-add-result : tie.Need-overflow-add-result
+add-result : tie.Need-overflow_add-result
 add-result c =
-    let head = c.before.before.before.before in
-    let entry = start (shared head) in
+    let entry = start (shared c) in
     let a = entry.args in
-    let counts = (counted head).move-counts.ensures _ _
-    (counts-there _ a.sheet.now (bytes (shared head)) a.at entry.pre.0.0.0 _ (ap (a.at +◌) (counted head).before.before.title-width.ensures.0)) in
-    let rest = room-rest counts _ (room-rest (titled head).move-title.ensures _ (room_as (rule-split (as_form a.to) _) entry.pre.1.1)) in
-    omega (arith, rest.low, (body-low head).3)
+    let counts = (counted c).move_counts.ensures _ _
+    (counts-there _ a.sheet.now (bytes (shared c)) a.at entry.pre.0.0.0 _ (ap (a.at +◌) (counted c).before.before.title_width.ensures.0)) in
+    let rest = room-rest counts _ (room-rest (titled c).move_title.ensures _ (room_as (rule-split (as_form a.to) _) entry.pre.1.1)) in
+    omega (arith, rest.low, (body-low c).3)
 
 returns : tie.Need-returns
 returns c =
-    let copy = c.before.before in
-    let head = copy.before.before in
-    let entry = start (shared head) in
+    let entry = start (shared c) in
     let a = entry.args in
-    let low = body-low head in
-    let counts = (counted head).move-counts.ensures _ _
-    (counts-there _ a.sheet.now (bytes (shared head)) a.at entry.pre.0.0.0 _ (ap (a.at +◌) (counted head).before.before.title-width.ensures.0)) in
-    let body = body-there _ a.sheet.now (bytes (shared head)) a.at entry.pre.0.0.0 _ _ _ (ap (a.at +◌) head.head-width.ensures.0) entry.pre.0.0.1 refl in
+    let low = body-low c in
+    let counts = (counted c).move_counts.ensures _ _
+    (counts-there _ a.sheet.now (bytes (shared c)) a.at entry.pre.0.0.0 _ (ap (a.at +◌) (counted c).before.before.title_width.ensures.0)) in
+    let body = body-there _ a.sheet.now (bytes (shared c)) a.at entry.pre.0.0.0 _ _ _ (ap (a.at +◌) c.head_width.ensures.0) entry.pre.0.0.1 refl in
     wrote_as (rule-split (as_form a.to) _)
-    (wrote_then (titled head).move-title.ensures
-    (wrote_then counts (record { behind = omega (arith, low.3); stored = copy.copy-bits.ensures ∙ ap (sets _ _) body })))
+    (wrote_then (titled c).move_title.ensures
+    (wrote_then counts (record { behind = omega (arith, low.3); stored = c.copy_bits.ensures ∙ ap (sets _ _) body })))
 
-pub move-rule-spec : {M : Type 1} → statement M
-move-rule-spec =
+pub move_rule_spec : {M : Type 1} → statement M
+move_rule_spec =
     tie.close
     (tie.spec move-title-requires (λ c κs. search rules) (λ c. search rules) move-counts-requires (λ c κs. search rules) (λ c. search rules) (λ c. (body-low c).0)
-    copy-bits-requires (λ c. (body-low c.before.before.before.before).0) add-result (λ c. search rules) returns)
+    copy-bits-requires (λ c. (body-low c).0) add-result (λ c. search rules) returns)

@@ -36,25 +36,23 @@ copied c mid e =
       stored = e ∙ ap (sets (sheet_bits a.out.now) a.place) (kinds-there _ a.sheet.now bytes a.at entry.pre.0.0);
     }
 
-copy-bits-requires : tie.Need-copy-bits-requires
+copy-bits-requires : tie.Need-copy_bits-requires
 copy-bits-requires c κs =
-    let shared = c.before.before in
-    let entry = shared.before in
-    let a = entry.args in
+    let a = c.args in
     let r = rule_read_at (as_form a.form) (sheet_bits a.sheet.now) a.at in
-    let bytes = known_bytes a.sheet.now (λ j. omega (arith, shared.shared-slice-known.given j)) in
-    let reach = reaches _ a.sheet.now bytes a.at entry.requires.0.0 (narrow a.form) entry.requires.0.1 in
-    let room = room-first (kind_bits r) _ (room_as (title-split (as_form a.to) r) entry.requires.1.1) in
-    (omega (arith, reach.0, reach.1), omega (arith, room.inside, kinds-length r), omega (arith, entry.requires.0.1), omega (arith, room.low, kinds-length r))
+    let bytes = known_bytes a.sheet.now (λ j. omega (arith, c.shared_slice_known-1.given j)) in
+    let reach = reaches _ a.sheet.now bytes a.at c.requires.0.0 (narrow a.form) c.requires.0.1 in
+    let room = room-first (kind_bits r) _ (room_as (title-split (as_form a.to) r) c.requires.1.1) in
+    (omega (arith, reach.0, reach.1), omega (arith, room.inside, kinds-length r), omega (arith, c.requires.0.1), omega (arith, room.low, kinds-length r))
 
-field-at-requires : tie.Need-field-at-requires
+field-at-requires : tie.Need-field_at-requires
 field-at-requires c κs =
-    let shared = known c.before.before.before.before.before in
+    let shared = known c in
     let entry = shared.before in
     let a = entry.args in
     let bytes = known_bytes a.sheet.now (λ j. omega (arith, shared.shared-slice-known.given j)) in
     let reach = reaches _ a.sheet.now bytes a.at entry.pre.0.0 (narrow a.form) entry.pre.0.1 in
-    let width = c.comment-width2.ensures in
+    let width = c.comment_width-2.ensures in
     (omega (arith, width.1), omega (arith, entry.pre.0.1), omega (arith, reach.0, reach.1, width.0))
 
 -- the field that is read is the comment
@@ -71,31 +69,27 @@ comment c =
 -- and so it is written in the other width
 rewritten : (c : tie.After-field-at) → let a = (known c.before.before.before.before.before.before).before.args in
     bits (as_form a.to).comment (rule_read_at (as_form a.form) (sheet_bits a.sheet.now) a.at).state.comment
-    ≡ bits c.before.before.comment-width.result c.field_at.result
-rewritten c = ap₂ bits (sym c.before.before.comment-width.ensures.0) (sym (comment c))
+    ≡ bits c.before.before.comment_width.result c.field_at.result
+rewritten c = ap₂ bits (sym c.before.before.comment_width.ensures.0) (sym (comment c))
 
 put-requires : tie.Need-put-requires
 put-requires c κs =
-    let copy = c.before.before.before.before.before.before in
-    let entry = (known copy).before in
+    let entry = (known c).before in
     let a = entry.args in
     let r = rule_read_at (as_form a.form) (sheet_bits a.sheet.now) a.at in
-    let width = c.before.before.comment-width.ensures in
+    let width = c.comment_width.ensures in
     let whole = room_as (title-split (as_form a.to) r) entry.pre.1.1 in
-    let low : c.field_at.result < 2 ^ c.before.before.comment-width.result = rw (comment c, width.0) entry.pre.1.0 in
-    ((omega (arith, width.1), low), room_as (rewritten c) (room-rest (copied copy _ copy.copy-bits.ensures) _ whole))
+    let low : c.field_at.result < 2 ^ c.comment_width.result = rw (comment c, width.0) entry.pre.1.0 in
+    ((omega (arith, width.1), low), room_as (rewritten c) (room-rest (copied c _ c.copy_bits.ensures) _ whole))
 
 returns : tie.Need-returns
 returns c =
-    let put = c.before.before in
-    let field = put.before in
-    let copy = field.before.before.before.before.before.before in
-    let a = (known copy).before.args in
+    let a = (known c).before.args in
     let r = rule_read_at (as_form a.form) (sheet_bits a.sheet.now) a.at in
-    wrote_as (title-split (as_form a.to) r) (wrote_then (copied copy _ copy.copy-bits.ensures) (wrote_as (rewritten field) put.put.ensures))
+    wrote_as (title-split (as_form a.to) r) (wrote_then (copied c _ c.copy_bits.ensures) (wrote_as (rewritten c) c.put.ensures))
 
-pub move-title-spec : {M : Type 1} → statement M
-move-title-spec =
+pub move_title_spec : {M : Type 1} → statement M
+move_title_spec =
     tie.close
     (tie.spec copy-bits-requires (λ c. search rules) (λ c κs. search rules) (λ c. search rules) (λ c κs. search rules) field-at-requires put-requires
     (λ c. search rules) returns)

@@ -40,18 +40,11 @@ pub +all_of_kind_spec : {M : Type 1} → statement M
     (λ c. search rules)
     (λ c κs. search rules)
     (λ c.
-    let spans = c.before.before in
-    let if3 = spans.before.before in
-    let if2 = if3.before in
-    let kind-of = if2.before in
-    kind-more _ _ _ _ _ kind-of.kind-of.ensures if3.if3.true if2.if2.true _ spans.u64-to-usize.ensures _ c.all-of-kind.ensures)
+    kind-more _ _ _ _ _ c.kind_of.ensures c.if-n-at-gt1.true c.if-kind_of-kind.true _ c.u64_to_usize-spans.ensures _ c.all_of_kind.ensures)
     (λ c.
-    let if3 = c.before.before.before in
-    let if2 = if3.before in
-    let kind-of = if2.before in
-    kind-broken _ _ _ _ _ kind-of.kind-of.ensures if3.if3.true if2.if2.true _ c.before.u64-to-usize.ensures c.if4.false)
-    (λ c. kind-alone _ _ _ _ _ c.before.before.kind-of.ensures c.before.before.before.before.if1.true c.if3.false c.before.if2.true)
-    (λ c. kind-breaks _ _ _ _ _ c.before.kind-of.ensures c.before.before.before.if1.true c.if2.false)
+    kind-broken _ _ _ _ _ c.kind_of.ensures c.if-n-at-gt1.true c.if-kind_of-kind.true _ c.u64_to_usize-spans.ensures c.if-spans-n.false)
+    (λ c. kind-alone _ _ _ _ _ c.kind_of.ensures c.if-at-n.true c.if-n-at-gt1.false c.if-kind_of-kind.true)
+    (λ c. kind-breaks _ _ _ _ _ c.kind_of.ensures c.if-at-n.true c.if-kind_of-kind.false)
     (λ c.
-    kind-ends c.before.before.args.words.now c.before.before.args.at c.before.before.args.n c.before.before.args.kind
-    c.if1.false)
+    kind-ends c.args.words.now c.args.at c.args.n c.args.kind
+    c.if-at-n.false)

@@ -7,7 +7,7 @@ use Rattle.day_flat.proofs.class.day_class.Statement.{statement}
 use Rattle.day_flat.proofs.class.day_class.Tie as tie
 
 returns : tie.Need-returns-then-n-eq0
-returns c = class-none c.before.before.args.words.now c.before.before.args.n c.if-n-eq0.true
+returns c = class-none c.args.words.now c.args.n c.if-n-eq0.true
 
 shared-slice-read-kind-of : tie.Need-bounds-words-0
 shared-slice-read-kind-of c = search rules
@@ -20,37 +20,23 @@ all-of-kind-requires c κs = search rules
 
 returns-2 : tie.Need-returns-then-alike
 returns-2 c =
-    let all-of-kind = c.before.before in
-    let kind-of = all-of-kind.before in
-    let if1 = kind-of.before.before in
-    class-open _ _ if1.if-n-eq0.false _ kind-of.kind_of-kind.ensures _ all-of-kind.all_of_kind-alike.ensures true c.if-alike.true (omega arith)
+    class-open _ _ c.if-n-eq0.false _ c.kind_of-kind.ensures _ c.all_of_kind-alike.ensures true c.if-alike.true (omega arith)
 
 returns-3 : tie.Need-returns-else-alike
 returns-3 c =
-    let all-of-kind = c.before.before in
-    let kind-of = all-of-kind.before in
-    let if1 = kind-of.before.before in
-    class-open _ _ if1.if-n-eq0.false _ kind-of.kind_of-kind.ensures _ all-of-kind.all_of_kind-alike.ensures false c.if-alike.false (omega arith)
+    class-open _ _ c.if-n-eq0.false _ c.kind_of-kind.ensures _ c.all_of_kind-alike.ensures false c.if-alike.false (omega arith)
 
 returns-4 : tie.Need-returns-in-1
 returns-4 c =
-    let kind-of = c.before.before in
-    let if1 = kind-of.before.before in
-    class-closed _ _ if1.if-n-eq0.false _ kind-of.kind_of-kind.ensures (omega arith)
+    class-closed _ _ c.if-n-eq0.false _ c.kind_of-kind.ensures (omega arith)
 
 returns-5 : tie.Need-returns-then-alike-2
 returns-5 c =
-    let all-of-kind = c.before.before in
-    let kind-of = all-of-kind.before in
-    let if1 = kind-of.before.before in
-    class-unknown _ _ if1.if-n-eq0.false _ kind-of.kind_of-kind.ensures _ all-of-kind.all_of_kind-alike.ensures true c.if-alike-2.true (omega arith) (omega arith)
+    class-unknown _ _ c.if-n-eq0.false _ c.kind_of-kind.ensures _ c.all_of_kind-alike.ensures true c.if-alike-2.true (omega arith) (omega arith)
 
 returns-6 : tie.Need-returns-else-alike-2
 returns-6 c =
-    let all-of-kind = c.before.before in
-    let kind-of = all-of-kind.before in
-    let if1 = kind-of.before.before in
-    class-unknown _ _ if1.if-n-eq0.false _ kind-of.kind_of-kind.ensures _ all-of-kind.all_of_kind-alike.ensures false c.if-alike-2.false (omega arith) (omega arith)
+    class-unknown _ _ c.if-n-eq0.false _ c.kind_of-kind.ensures _ c.all_of_kind-alike.ensures false c.if-alike-2.false (omega arith) (omega arith)
 
 pub day_class_spec : {M : Type 1} → statement M
 day_class_spec =

@@ -33,16 +33,15 @@ loop-less c = search rules
 
 loop-again : tie.Need-loop-next-preserved invariant-loop decreases-loop
 loop-again c =
-    let loop = c.before in
-    let inv = loop.loop-next.invariant in
-    (omega arith, omega arith, simp length-set inv.2, fill_on _ _ _ _ loop.loop-next.minutes inv.0 (omega arith) inv.3)
+    let inv = c.loop-next.invariant in
+    (omega arith, omega arith, simp length-set inv.2, fill_on _ _ _ _ c.loop-next.minutes inv.0 (omega arith) inv.3)
 
 same_length : tie.Need-shape_of-minutes invariant-loop decreases-loop
-same_length c = c.before.loop-next.invariant.2
+same_length c = c.loop-next.invariant.2
 
 returns : tie.Need-returns invariant-loop decreases-loop
 returns c =
-    let inv = c.before.loop-next.invariant in
+    let inv = c.loop-next.invariant in
     λ m. inv.3 m ∙ fill_end _ _ _ _ _ inv.0 inv.1 (omega arith) m
 
 pub fill_spec : {M : Type 1} → statement M

@@ -28,8 +28,7 @@ stroke-state-requires c κs = search rules
 
 returns-2 : tie.Need-returns
 returns-2 c =
-    let number = c.before.before in
-    state-some _ _ _ number.before.if-number-eq0.false (c.stroke_state.ensures ∙ ap (λ k. stroke_state (get_or number.before.before.before.args.strokes.now (k - 1) 0)) number.u16_to_usize.ensures.0)
+    state-some _ _ _ c.if-number-eq0.false (c.stroke_state.ensures ∙ ap (λ k. stroke_state (get_or c.args.strokes.now (k - 1) 0)) c.u16_to_usize.ensures.0)
 
 pub number_state_spec : {M : Type 1} → statement M
 number_state_spec =

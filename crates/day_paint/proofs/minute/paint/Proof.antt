@@ -18,7 +18,7 @@ abbrev decreases-loop : tie.decreases-loop-i
 decreases-loop minutes₀ strokes k i₀ number₀ minutes i number = k - i
 
 loop-holds : tie.Need-loop-i-init invariant-loop decreases-loop
-loop-holds c = (omega arith, refl, refl, painted-start _ _ c.before.before.requires.1)
+loop-holds c = (omega arith, refl, refl, painted-start _ _ c.requires.1)
 
 mul-x : tie.Need-offset_bounds-strokes-i invariant-loop decreases-loop
 mul-x c = search rules
@@ -49,40 +49,29 @@ u64-to-usize-requires-2 c κs = search rules
 
 fill-requires : tie.Need-fill-requires invariant-loop decreases-loop
 fill-requires c κs =
-    let cut = c.before.before.before.before in
-    let loop = cut.before.before.before.before in
-    let entry = loop.before.before.before in
-    omega (arith, earlier-bound cut.before.stroke_end.result 1440, cut.earlier_of-end.ensures, c.u64_to_usize-in-loop-i.ensures, loop.loop-i.invariant.2, entry.requires.0)
+    omega (arith, earlier-bound c.stroke_end.result 1440, c.earlier_of-end.ensures, c.u64_to_usize-in-loop-i.ensures, c.loop-i.invariant.2, c.requires.0)
 
 loop-less : tie.Need-loop-i-smaller invariant-loop decreases-loop
 loop-less c = search rules
 
 loop-again : tie.Need-loop-i-preserved invariant-loop decreases-loop
 loop-again c =
-    let fill = c.before.before in
-    let end = fill.before in
-    let start = end.before in
-    let stroke-start = start.before in
-    let cut = stroke-start.before.before in
-    let stroke-end = cut.before in
-    let turn = stroke-end.before.before in
-    let loop = turn.before in
-    let inv = loop.loop-i.invariant in (
-      omega (arith, turn.loop-i-test.true),
+    let inv = c.loop-i.invariant in (
+      omega (arith, c.loop-i-test.true),
       omega (arith, inv.1),
-      fill.fill.auto.0 ∙ inv.2,
-      painted-on _ _ _ _ _ refl _ _ _ (start.u64_to_usize.ensures ∙ stroke-start.stroke_start.ensures)
-          (end.u64_to_usize-in-loop-i.ensures ∙ cut.earlier_of-end.ensures ∙ ap (λ e. earlier e 1440) stroke-end.stroke_end.ensures) (omega (arith, inv.1))
-          fill.fill.ensures inv.3,
+      c.fill.auto.0 ∙ inv.2,
+      painted-on _ _ _ _ _ refl _ _ _ (c.u64_to_usize.ensures ∙ c.stroke_start.ensures)
+          (c.u64_to_usize-in-loop-i.ensures ∙ c.earlier_of-end.ensures ∙ ap (λ e. earlier e 1440) c.stroke_end.ensures) (omega (arith, inv.1))
+          c.fill.ensures inv.3,
     )
 
 same_length : tie.Need-shape_of-minutes invariant-loop decreases-loop
-same_length c = c.before.loop-i.invariant.2
+same_length c = c.loop-i.invariant.2
 
 returns : tie.Need-returns invariant-loop decreases-loop
 returns c =
-    let z : c.before.loop-i.i ≡ c.before.before.before.before.args.k = omega (arith, c.before.loop-i.invariant.0, c.loop-i-test.false) in
-    subst (λ i. Painted c.before.before.before.before.args.strokes.now i c.before.loop-i.minutes) z c.before.loop-i.invariant.3
+    let z : c.loop-i.i ≡ c.args.k = omega (arith, c.loop-i.invariant.0, c.loop-i-test.false) in
+    subst (λ i. Painted c.args.strokes.now i c.loop-i.minutes) z c.loop-i.invariant.3
 
 pub paint_spec : {M : Type 1} → statement M
 paint_spec =

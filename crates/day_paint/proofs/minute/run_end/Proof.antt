@@ -26,7 +26,7 @@ shared-slice-read-if1 c = search rules
 
 returns : tie.Need-returns-then-minutes-next invariant-loop decreases-loop
 returns c =
-    let inv = c.before.before.before.loop-next.invariant in
+    let inv = c.loop-next.invariant in
     (inv.0, inv.1, inv.2, λ l. c.if-minutes-next.true)
 
 add-next : tie.Need-overflow_add-next invariant-loop decreases-loop
@@ -37,13 +37,12 @@ loop-less c = search rules
 
 loop-again : tie.Need-loop-next-preserved invariant-loop decreases-loop
 loop-again c =
-    let loop = c.before.before.before in
-    let inv = loop.loop-next.invariant in
-    (omega arith, omega arith, more-alike loop.before.args.minutes.now _ _ _ inv.2 c.if-minutes-next.false)
+    let inv = c.loop-next.invariant in
+    (omega arith, omega arith, more-alike c.args.minutes.now _ _ _ inv.2 c.if-minutes-next.false)
 
 returns-2 : tie.Need-returns invariant-loop decreases-loop
 returns-2 c =
-    let inv = c.before.loop-next.invariant in
+    let inv = c.loop-next.invariant in
     (inv.0, inv.1, inv.2, λ l. absurd (omega arith))
 
 pub run_end_spec : {M : Type 1} → statement M

@@ -26,20 +26,16 @@ shared-slice-read-number c = search rules
 
 number-state-requires : tie.Need-number_state-state-requires invariant-loop decreases-loop
 number-state-requires c κs =
-    let loop = c.before.before in
-    let entry = loop.before.before.before.before.before in
-    entry.requires.1 loop.loop-from.from
+    c.requires.1 c.loop-from.from
 
 usize-to-u64-requires : tie.Need-usize_to_u64-requires invariant-loop decreases-loop
 usize-to-u64-requires c κs = search rules
 
 put-piece-requires : tie.Need-put_piece-place-requires invariant-loop decreases-loop
 put-piece-requires c κs =
-    let turn = c.before.before.before.before.before in
-    let loop = turn.before in
-    let pre = loop.before.before.before.before.before.requires.0 in
-    let inv = loop.loop-from.invariant in
-    let room = reading-room _ _ _ _ _ _ _ _ inv.2 turn.loop-from-test.true in
+    let pre = c.requires.0 in
+    let inv = c.loop-from.invariant in
+    let room = reading-room _ _ _ _ _ _ _ _ inv.2 c.loop-from-test.true in
     (omega (arith, room, inv.0, pre.1), omega (arith, room, inv.1, pre.2))
 
 add-run-end : tie.Need-overflow_add-from invariant-loop decreases-loop
@@ -47,51 +43,41 @@ add-run-end c = search rules
 
 run-end-requires : tie.Need-run_end-from-requires invariant-loop decreases-loop
 run-end-requires c κs =
-    let turn = c.before.before.before.before.before.before.before.before.before.before in
-    (omega (arith, turn.loop-from-test.true), turn.before.before.before.before.before.before.requires.0.0)
+    (omega (arith, c.loop-from-test.true), c.requires.0.0)
 
 loop-less : tie.Need-loop-from-smaller invariant-loop decreases-loop
 loop-less c =
-    let turn = c.before.before.before.before.before.before.before.before.before.before.before in
-    omega (arith, c.run_end-from.ensures.0, turn.loop-from-test.true)
+    omega (arith, c.run_end-from.ensures.0, c.loop-from-test.true)
 
 loop-again : tie.Need-loop-from-preserved invariant-loop decreases-loop
 loop-again c =
-    let put = c.before.before.before.before.before in
-    let word = put.before in
-    let state = word.before.before.before in
-    let turn = state.before.before in
-    let loop = turn.before in
-    let inv = loop.loop-from.invariant in (
-      put.put_piece-place.auto.0 ∙ inv.0,
-      put.put_piece-place.auto.1.0 ∙ inv.1,
-      reading-on _ _ _ _ _ _ _ _ inv.2 turn.loop-from-test.true _ refl _ state.number_state-state.ensures _ c.run_end-from.ensures _ _ _ _
-          word.usize_to_u64.ensures put.put_piece-place.ensures,
+    let inv = c.loop-from.invariant in (
+      c.put_piece-place.auto.0 ∙ inv.0,
+      c.put_piece-place.auto.1.0 ∙ inv.1,
+      reading-on _ _ _ _ _ _ _ _ inv.2 c.loop-from-test.true _ refl _ c.number_state-state.ensures _ c.run_end-from.ensures _ _ _ _
+          c.usize_to_u64.ensures c.put_piece-place.ensures,
     )
 
 mul-starts : tie.Need-offset_bounds-starts-place invariant-loop decreases-loop
 mul-starts c =
-    let loop = c.before in
-    let pre = loop.before.before.before.before.before.requires.0 in
-    omega (arith, loop.loop-from.invariant.2.most, loop.loop-from.invariant.0, pre.1)
+    let pre = c.requires.0 in
+    omega (arith, c.loop-from.invariant.2.most, c.loop-from.invariant.0, pre.1)
 
 slice-write-starts : tie.Need-bounds-starts-place invariant-loop decreases-loop
 slice-write-starts c =
-    let loop = c.before in
-    let pre = loop.before.before.before.before.before.requires.0 in
-    omega (arith, loop.loop-from.invariant.2.most, loop.loop-from.invariant.0, pre.1)
+    let pre = c.requires.0 in
+    omega (arith, c.loop-from.invariant.2.most, c.loop-from.invariant.0, pre.1)
 
 same_length : tie.Need-shape_of-starts invariant-loop decreases-loop
-same_length c = simp length-set c.before.loop-from.invariant.0
+same_length c = simp length-set c.loop-from.invariant.0
 
 same-length-2 : tie.Need-shape_of-states invariant-loop decreases-loop
-same-length-2 c = c.before.loop-from.invariant.1
+same-length-2 c = c.loop-from.invariant.1
 
 returns : tie.Need-returns invariant-loop decreases-loop
 returns c =
-    let loop = c.before in
-    let pre = loop.before.before.before.before.before.requires.0 in
-    reading-ends _ _ _ _ _ _ _ _ loop.loop-from.invariant.2 (omega (arith, c.loop-from-test.false)) pre.1 pre.2
+    let pre = c.requires.0 in
+    reading-ends _ _ _ _ _ _ _ _ c.loop-from.invariant.2 (omega (arith, c.loop-from-test.false)) pre.1 pre.2
 
 pub write_minutes_spec : {M : Type 1} → statement M
 write_minutes_spec =

@@ -20,11 +20,9 @@ slice-aggregate-write-minutes c = search rules
 
 write-minutes-requires : tie.Need-write_minutes-requires
 write-minutes-requires c κs =
-    let paint = c.before.before.before.before in
-    let bare = paint.before.before in
-    let pre = bare.before.before.before.before.requires in
-    let painted = paint.paint.ensures in (
-      (omega (arith, paint.paint.auto.0, bare.bare_minutes-minutes.ensures.0), omega (arith, painted.few, pre.2), omega (arith, painted.few, pre.3)),
+    let pre = c.requires in
+    let painted = c.paint.ensures in (
+      (omega (arith, c.paint.auto.0, c.bare_minutes-minutes.ensures.0), omega (arith, painted.few, pre.2), omega (arith, painted.few, pre.3)),
       λ m. omega (arith, painted.numbers m, pre.1),
     )
 
@@ -36,9 +34,8 @@ same-length-2 c = search rules
 
 returns : tie.Need-returns
 returns c =
-    let written = c.before.before.before.before in
-    let painted = written.before.before.before.before.before.paint.ensures in
-    let day = written.write_minutes.ensures in
+    let painted = c.paint.ensures in
+    let day = c.write_minutes.ensures in
     (day-same _ _ (λ m h. sym (painted.shows m h)) _ _ _ day.0, omega (arith, painted.few, day.1))
 
 pub write_painted_spec : {M : Type 1} → statement M

@@ -69,32 +69,32 @@ pub +write_range_spec : {M : Type 1} → statement M
     let last = none.before in
     let turn = last.before in
     let loop = turn.before in
-    bare-room _ _ _ _ _ _ _ _ _ _ _ _ loop.loop.invariant _ last.last-meeting.ensures (omega (arith, none.if1.true)) turn.loop-test.true)
-    (λ c. let put = c.before.before.before.before in put.put-piece.auto.0 ∙ put.before.before.before.before.before.before.loop.invariant.lengths.0)
+    bare-room _ _ _ _ _ _ _ _ _ _ _ _ loop.loop.invariant _ last.last_meeting.ensures (omega (arith, none.if1.true)) turn.loop-test.true)
+    (λ c. let put = c.before.before.before.before in put.put_piece.auto.0 ∙ put.before.before.before.before.before.before.loop.invariant.lengths.0)
     (λ c.
     let put = c.before.before.before.before in
-    put.put-piece.auto.1.0 ∙ put.before.before.before.before.before.before.loop.invariant.lengths.1)
+    put.put_piece.auto.1.0 ∙ put.before.before.before.before.before.before.loop.invariant.lengths.1)
     (λ c.
     let put = c.before.before.before.before in
     let none = put.before.before.before in
     let last = none.before in
     let turn = last.before in
     let loop = turn.before in
-    bare-laid _ _ _ _ _ _ _ _ _ _ _ _ loop.loop.invariant _ last.last-meeting.ensures (omega (arith, none.if1.true)) turn.loop-test.true _ _
-    _ put.put-piece.ensures)
+    bare-laid _ _ _ _ _ _ _ _ _ _ _ _ loop.loop.invariant _ last.last_meeting.ensures (omega (arith, none.if1.true)) turn.loop-test.true _ _
+    _ put.put_piece.ensures)
     -- the last one that meets it
     (λ c. search rules)
     (λ c.
     let last = c.before in
     let loop = last.before.before in
     let entry = loop.before.before.before.before in
-    omega (arith, fewer-still _ _ _ _ _ _ _ _ _ _ _ _ loop.loop.invariant _ last.last-meeting.ensures, entry.requires.1.0))
+    omega (arith, fewer-still _ _ _ _ _ _ _ _ _ _ _ _ loop.loop.invariant _ last.last_meeting.ensures, entry.requires.1.0))
     (λ c.
     let some = c.before in
     let last = some.before in
     omega (
       arith,
-      fewer-still _ _ _ _ _ _ _ _ _ _ _ _ last.before.before.loop.invariant _ last.last-meeting.ensures,
+      fewer-still _ _ _ _ _ _ _ _ _ _ _ _ last.before.before.loop.invariant _ last.last_meeting.ensures,
       last.before.before.before.before.before.before.requires.1.0,
       some.if1.false,
     ))
@@ -108,8 +108,8 @@ pub +write_range_spec : {M : Type 1} → statement M
     let last = some.before in
     let on = last.before.before.loop.invariant in
     let pre = last.before.before.before.before.before.before.requires in
-    let few = fewer-still _ _ _ _ _ _ _ _ _ _ _ _ on _ last.last-meeting.ensures in
-    let room = left-room _ _ _ _ _ _ _ _ _ _ _ _ on _ last.last-meeting.ensures some.if1.false _ began.stroke-start.ensures later.if2.true in
+    let few = fewer-still _ _ _ _ _ _ _ _ _ _ _ _ on _ last.last_meeting.ensures in
+    let room = left-room _ _ _ _ _ _ _ _ _ _ _ _ on _ last.last_meeting.ensures some.if1.false _ began.stroke_start.ensures later.if2.true in
     (omega (arith, few, pre.0, some.if1.false), (omega (arith, few, pre.1.0), room.0, room.1)))
     (λ c.
     let later = c.before.before.before.before.before.before.before in
@@ -122,8 +122,8 @@ pub +write_range_spec : {M : Type 1} → statement M
     let some = began.before.before in
     let last = some.before in
     let loop = last.before.before in
-    left-on _ _ _ _ _ _ _ _ _ _ _ _ loop.loop.invariant _ last.last-meeting.ensures some.if1.false _ began.stroke-start.ensures
-    later.if2.true _ _ _ laid.write-range.ensures (laid.write-range.auto.0, laid.write-range.auto.1.0))
+    left-on _ _ _ _ _ _ _ _ _ _ _ _ loop.loop.invariant _ last.last_meeting.ensures some.if1.false _ began.stroke_start.ensures
+    later.if2.true _ _ _ laid.write_range.ensures (laid.write_range.auto.0, laid.write_range.auto.1.0))
     -- its own piece
     (λ c κs. search rules)
     (λ c κs.
@@ -133,7 +133,7 @@ pub +write_range_spec : {M : Type 1} → statement M
     let last = some.before in
     let loop = last.before.before in
     let room =
-    own_room _ _ _ _ _ _ _ _ _ _ _ _ loop.loop.invariant _ last.last-meeting.ensures some.if1.false _ began.stroke-start.ensures
+    own_room _ _ _ _ _ _ _ _ _ _ _ _ loop.loop.invariant _ last.last_meeting.ensures some.if1.false _ began.stroke_start.ensures
     (omega (arith, now.if2.false)) _ _ _ refl refl refl in
     (omega (arith, room.0), omega (arith, room.1)))
     (λ c. search rules)
@@ -148,8 +148,8 @@ pub +write_range_spec : {M : Type 1} → statement M
     let last = some.before in
     let turn = last.before in
     let loop = turn.before in
-    let beyond = shows-on _ _ _ _ _ _ _ _ _ _ _ _ loop.loop.invariant _ last.last-meeting.ensures some.if1.false _ began.stroke-start.ensures
-    (omega (arith, now.if2.false)) _ _ _ stated.stroke-state.ensures ended.stroke-end.ensures c.earlier-of.ensures in
+    let beyond = shows-on _ _ _ _ _ _ _ _ _ _ _ _ loop.loop.invariant _ last.last_meeting.ensures some.if1.false _ began.stroke_start.ensures
+    (omega (arith, now.if2.false)) _ _ _ stated.stroke_state.ensures ended.stroke_end.ensures c.earlier_of.ensures in
     omega (arith, beyond, turn.loop-test.true))
     (λ c.
     let ended = c.before in
@@ -160,8 +160,8 @@ pub +write_range_spec : {M : Type 1} → statement M
     let some = began.before.before in
     let last = some.before in
     let loop = last.before.before in
-    own_on _ _ _ _ _ _ _ _ _ _ _ _ loop.loop.invariant _ last.last-meeting.ensures some.if1.false _ began.stroke-start.ensures
-    (omega (arith, now.if2.false)) _ _ _ stated.stroke-state.ensures ended.stroke-end.ensures c.earlier-of.ensures _ _ _
+    own_on _ _ _ _ _ _ _ _ _ _ _ _ loop.loop.invariant _ last.last_meeting.ensures some.if1.false _ began.stroke_start.ensures
+    (omega (arith, now.if2.false)) _ _ _ stated.stroke_state.ensures ended.stroke_end.ensures c.earlier_of.ensures _ _ _
     put.put-piece2.ensures (put.put-piece2.auto.0, put.put-piece2.auto.1.0))
     -- nothing is left
     (λ c. c.before.loop.invariant.lengths.0)

@@ -30,7 +30,7 @@ meets-range-requires : tie.Need-meets_range-requires invariant-loop decreases-lo
 meets-range-requires c κs = search rules
 
 returns : tie.Need-returns-then-meets_range invariant-loop decreases-loop
-returns c = last-here _ _ _ _ (omega arith) (sym c.before.meets_range.ensures ∙ c.if-meets_range.true) ∙ c.before.before.before.before.loop-next.invariant.1
+returns c = last-here _ _ _ _ (omega arith) (sym c.meets_range.ensures ∙ c.if-meets_range.true) ∙ c.loop-next.invariant.1
 
 sub-next : tie.Need-overflow_sub-next invariant-loop decreases-loop
 sub-next c = search rules
@@ -40,10 +40,10 @@ loop-less c = search rules
 
 loop-again : tie.Need-loop-next-preserved invariant-loop decreases-loop
 loop-again c =
-    (omega arith, last-below _ _ _ _ (omega arith) (sym c.before.meets_range.ensures ∙ c.if-meets_range.false) ∙ c.before.before.before.before.loop-next.invariant.1)
+    (omega arith, last-below _ _ _ _ (omega arith) (sym c.meets_range.ensures ∙ c.if-meets_range.false) ∙ c.loop-next.invariant.1)
 
 returns-2 : tie.Need-returns invariant-loop decreases-loop
-returns-2 c = last_none _ _ _ _ (omega arith) ∙ c.before.loop-next.invariant.1
+returns-2 c = last_none _ _ _ _ (omega arith) ∙ c.loop-next.invariant.1
 
 pub last_meeting_spec : {M : Type 1} → statement M
 last_meeting_spec =

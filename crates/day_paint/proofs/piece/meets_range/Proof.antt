@@ -21,9 +21,7 @@ returns-2 c = sym (meets-before _ _ _ (omega arith))
 
 returns-3 : tie.Need-returns
 returns-3 c =
-    let stroke-end = c.before.before.before in
-    let entry = stroke-end.before in
-    ap₂ ltb c.before.stroke_start-start.ensures stroke-end.stroke_end-end.ensures ∙ meets-in _ _ _ entry.requires (omega arith) (omega arith)
+    ap₂ ltb c.stroke_start-start.ensures c.stroke_end-end.ensures ∙ meets-in _ _ _ c.requires (omega arith) (omega arith)
 
 pub meets_range_spec : {M : Type 1} → statement M
 meets_range_spec = tie.close (tie.spec stroke-end-requires returns stroke-start-requires returns-2 returns-3)

@@ -8,21 +8,16 @@ use Rattle.day_paint.proofs.piece.write_pieces.Tie as tie
 
 write-range-requires : tie.Need-write_range-m-requires
 write-range-requires c κs =
-    let start = c.before.before.before.before.before in
-    let few = pieces-few start.args.strokes.now start.args.k 0 1440 in
-    (omega (arith, start.requires), omega (arith, few, start.requires), omega (arith, few, start.requires))
+    let few = pieces-few c.args.strokes.now c.args.k 0 1440 in
+    (omega (arith, c.requires), omega (arith, few, c.requires), omega (arith, few, c.requires))
 
 mul-starts : tie.Need-offset_bounds-starts-m
 mul-starts c =
-    let laid = c.before.before.before.before in
-    let start = laid.before.before.before.before.before.before in
-    omega (arith, pieces-few start.args.strokes.now start.args.k 0 1440, start.requires, laid.write_range-m.ensures.2, laid.write_range-m.auto.0)
+    omega (arith, pieces-few c.args.strokes.now c.args.k 0 1440, c.requires, c.write_range-m.ensures.2, c.write_range-m.auto.0)
 
 slice-write-starts : tie.Need-bounds-starts-m
 slice-write-starts c =
-    let laid = c.before.before.before.before in
-    let start = laid.before.before.before.before.before.before in
-    omega (arith, pieces-few start.args.strokes.now start.args.k 0 1440, start.requires, laid.write_range-m.ensures.2, laid.write_range-m.auto.0)
+    omega (arith, pieces-few c.args.strokes.now c.args.k 0 1440, c.requires, c.write_range-m.ensures.2, c.write_range-m.auto.0)
 
 same_length : tie.Need-shape_of-starts
 same_length c = search rules
@@ -31,7 +26,7 @@ same-length-2 : tie.Need-shape_of-states
 same-length-2 c = search rules
 
 returns : tie.Need-returns
-returns c = day-laid _ _ _ _ _ _ _ c.before.before.before.before.write_range-m.ensures
+returns c = day-laid _ _ _ _ _ _ _ c.write_range-m.ensures
 
 pub write_pieces_spec : {M : Type 1} → statement M
 write_pieces_spec =

@@ -16,9 +16,8 @@ same-length-2 c = search rules
 
 returns : tie.Need-returns-then-a-b
 returns c =
-    let put = c.before.before.before.before in
-    let laid = put.put_piece.ensures in
-    (λ h. laid, λ h. absurd (omega (arith, put.before.before.before.if-a-b.true)), omega (arith, laid.2))
+    let laid = c.put_piece.ensures in
+    (λ h. laid, λ h. absurd (omega (arith, c.if-a-b.true)), omega (arith, laid.2))
 
 returns-2 : tie.Need-returns
 returns-2 c = (λ h. absurd (omega arith), λ h. (refl, refl, refl), omega arith)

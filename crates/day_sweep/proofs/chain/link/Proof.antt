@@ -15,7 +15,7 @@ abbrev decreases-loop : tie.decreases-loop-i
 decreases-loop chain₀ heads₀ interval-states n i₀ chain heads i = i
 
 loop-holds : tie.Need-loop-i-init invariant-loop decreases-loop
-loop-holds c = (omega arith, refl, refl, linking-start _ _ (omega arith) _ _ c.before.before.before.requires.1)
+loop-holds c = (omega arith, refl, refl, linking-start _ _ (omega arith) _ _ c.requires.1)
 
 sub-i : tie.Need-overflow_sub-i invariant-loop decreases-loop
 sub-i c = search rules
@@ -61,28 +61,24 @@ loop-less c = search rules
 
 loop-again : tie.Need-loop-i-preserved invariant-loop decreases-loop
 loop-again c =
-    let word = c.before.before in
-    let bucket = word.before.before in
-    let loop = bucket.before.before.before in
-    let entry = loop.before.before.before.before in
-    let i = loop.loop-i.i - 1 in
-    let inv = loop.loop-i.invariant in (
+    let i = c.loop-i.i - 1 in
+    let inv = c.loop-i.invariant in (
       omega arith,
       simp length-set inv.1,
       simp length-set inv.2,
-      linked_on _ _ _ _ i _ (omega arith) (omega arith) inv.3 (omega arith) (omega arith) bucket.u64_to_usize-bucket.result word.u16_to_u64.result
-          c.u64_to_u16.result bucket.u64_to_usize-bucket.ensures word.u16_to_u64.ensures.0
+      linked_on _ _ _ _ i _ (omega arith) (omega arith) inv.3 (omega arith) (omega arith) c.u64_to_usize-bucket.result c.u16_to_u64.result
+          c.u64_to_u16.result c.u64_to_usize-bucket.ensures c.u16_to_u64.ensures.0
           (omega arith),
     )
 
 same_length : tie.Need-shape_of-chain invariant-loop decreases-loop
-same_length c = c.before.loop-i.invariant.1
+same_length c = c.loop-i.invariant.1
 
 same-length-2 : tie.Need-shape_of-heads invariant-loop decreases-loop
-same-length-2 c = c.before.loop-i.invariant.2
+same-length-2 c = c.loop-i.invariant.2
 
 returns : tie.Need-returns invariant-loop decreases-loop
-returns c = linking-ends _ _ _ _ _ (omega arith) c.before.loop-i.invariant.3
+returns c = linking-ends _ _ _ _ _ (omega arith) c.loop-i.invariant.3
 
 pub link_spec : {M : Type 1} → statement M
 link_spec =

@@ -27,8 +27,7 @@ u64-to-usize-requires c κs = search rules
 
 loop-holds : tie.Need-loop-next-init invariant-loop decreases-loop
 loop-holds c =
-    let entry = c.before.before.before.before in
-    let pre = entry.requires in
+    let pre = c.requires in
     hop-first _ _ _ _ _ pre.1.0 pre.1.1 (omega arith) _ c.u64_to_usize-next.ensures
 
 mul-if1 : tie.Need-offset_bounds-interval_states-next invariant-loop decreases-loop
@@ -39,8 +38,7 @@ shared-slice-read-if1 c = search rules
 
 returns : tie.Need-returns-then-interval_states-next invariant-loop decreases-loop
 returns c =
-    let loop = c.before.before.before in
-    let inv = loop.loop-next.invariant in
+    let inv = c.loop-next.invariant in
     (inv.0, omega arith, λ l. c.if-interval_states-next.true, λ k l u. inv.2 k l (omega arith) u)
 
 mul-u64-to-usize-2 : tie.Need-offset_bounds-chain-next invariant-loop decreases-loop
@@ -54,21 +52,16 @@ u64-to-usize-requires-2 c κs = search rules
 
 loop-less : tie.Need-loop-next-smaller invariant-loop decreases-loop
 loop-less c =
-    let loop = c.before.before.before.before.before in
-    let entry = loop.before.before.before.before.before in
-    omega (arith, hop-on _ _ _ _ _ entry.requires.1.0 loop.loop-next.invariant.1 (omega arith), c.u64_to_usize-next-in-loop-next.ensures)
+    omega (arith, hop-on _ _ _ _ _ c.requires.1.0 c.loop-next.invariant.1 (omega arith), c.u64_to_usize-next-in-loop-next.ensures)
 
 loop-again : tie.Need-loop-next-preserved invariant-loop decreases-loop
 loop-again c =
-    let if1 = c.before.before in
-    let loop = if1.before.before.before in
-    let entry = loop.before.before.before.before.before in
-    hop-more _ _ _ _ _ entry.requires.1.0 loop.loop-next.invariant.1 (omega arith) _ c.u64_to_usize-next-in-loop-next.ensures _ loop.loop-next.invariant.0 loop.loop-next.invariant.2
-    if1.if-interval_states-next.false
+    hop-more _ _ _ _ _ c.requires.1.0 c.loop-next.invariant.1 (omega arith) _ c.u64_to_usize-next-in-loop-next.ensures _ c.loop-next.invariant.0 c.loop-next.invariant.2
+    c.if-interval_states-next.false
 
 returns-2 : tie.Need-returns invariant-loop decreases-loop
 returns-2 c =
-    let inv = c.before.loop-next.invariant in
+    let inv = c.loop-next.invariant in
     (omega arith, omega arith, λ l. absurd (omega arith), λ k l u. inv.2 k l u (omega arith))
 
 pub next_of_spec : {M : Type 1} → statement M

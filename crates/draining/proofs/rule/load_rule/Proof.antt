@@ -7,48 +7,35 @@ use Rattle.draining.proofs.RuleReturns.{found-loads, found-stops, spans-early, l
 use Rattle.draining.proofs.rule.load_rule.Statement.{statement}
 use Rattle.draining.proofs.rule.load_rule.Tie as tie
 
-load-spans-requires : tie.Need-load-spans-requires
+load-spans-requires : tie.Need-load_spans-requires
 load-spans-requires c κs =
-    let rule-ranges = c.before.before.before.before.before.before.before.before in
-    let entry = rule-ranges.before.before.before.before.before.before.before in
-    let w = (found-loads _ _ rule-ranges.rule-ranges.result _ _ c.before.before.days.given.1 rule-ranges.rule-ranges.ensures.1).spans in
-    (omega (arith, spans-early w, w.few-spans), omega (arith, w.few-spans, entry.requires.1))
+    let w = (found-loads _ _ c.rule_ranges-days.result _ _ c.in-Spans.is c.rule_ranges-days.ensures.1).spans in
+    (omega (arith, spans-early w, w.few-spans), omega (arith, w.few-spans, c.requires.1))
 
-returns : tie.Need-returns
+returns : tie.Need-returns-then-load_spans
 returns c =
-    let load-spans = c.before.before.before in
-    let days = load-spans.before.before.before in
-    let rule-ranges = days.before.before.before.before.before.before in
-    let shared-slice-known = rule-ranges.before.before.before.before.before.before in
-    let entry = shared-slice-known.before in
-    let s = entry.args.sheet.now in
-    let w = found-loads _ _ rule-ranges.rule-ranges.result _ _ days.days.given.1 rule-ranges.rule-ranges.ensures.1 in
-    let done = load-spans-stop s (known_bytes s (λ j. omega (arith, shared-slice-known.shared-slice-known.given j))) _ _ _ w.spans w.passes _ _ _
-    load-spans.load-spans.ensures.1 _ load-spans.load-spans.ensures.0 c.if1.true in
-    (done.0, done.1, ap (λ x. x.ranges) rule-ranges.rule-ranges.ensures.0, ap (λ x. x.counts) rule-ranges.rule-ranges.ensures.0)
+    let s = c.args.sheet.now in
+    let w = found-loads _ _ c.rule_ranges-days.result _ _ c.in-Spans.is c.rule_ranges-days.ensures.1 in
+    let done = load-spans-stop s (known_bytes s (λ j. omega (arith, c.shared_slice_known-1.given j))) _ _ _ w.spans w.passes _ _ _
+    c.load_spans.ensures.1 _ c.load_spans.ensures.0 c.if-load_spans.true in
+    (done.0, done.1, ap (λ x. x.ranges) c.rule_ranges-days.ensures.0, ap (λ x. x.counts) c.rule_ranges-days.ensures.0)
 
-returns-2 : tie.Need-returns-2
+returns-2 : tie.Need-returns-else-load_spans
 returns-2 c =
-    let load-spans = c.before.before.before in
-    let days = load-spans.before.before.before in
-    let rule-ranges = days.before.before.before.before.before.before in
-    let shared-slice-known = rule-ranges.before.before.before.before.before.before in
-    let entry = shared-slice-known.before in
-    let s = entry.args.sheet.now in
-    let w = found-loads _ _ rule-ranges.rule-ranges.result _ _ days.days.given.1 rule-ranges.rule-ranges.ensures.1 in
-    let done = load-passes s (known_bytes s (λ j. omega (arith, shared-slice-known.shared-slice-known.given j))) _ _ _ w.spans w.passes _ _ _
-    load-spans.load-spans.ensures.1 _ load-spans.load-spans.ensures.0 c.if1.false in
-    (done.0, done.1, ap (λ x. x.ranges) rule-ranges.rule-ranges.ensures.0, ap (λ x. x.counts) rule-ranges.rule-ranges.ensures.0)
+    let s = c.args.sheet.now in
+    let w = found-loads _ _ c.rule_ranges-days.result _ _ c.in-Spans.is c.rule_ranges-days.ensures.1 in
+    let done = load-passes s (known_bytes s (λ j. omega (arith, c.shared_slice_known-1.given j))) _ _ _ w.spans w.passes _ _ _
+    c.load_spans.ensures.1 _ c.load_spans.ensures.0 c.if-load_spans.false in
+    (done.0, done.1, ap (λ x. x.ranges) c.rule_ranges-days.ensures.0, ap (λ x. x.counts) c.rule_ranges-days.ensures.0)
 
-returns-3 : tie.Need-returns-3
+returns-3 : tie.Need-returns-in-Stops
 returns-3 c =
-    let rule-ranges = c.before.before.before.before.before.before in
-    let done = load-days-stop _ (found-stops _ _ rule-ranges.rule-ranges.result c.enum_told.given.1 rule-ranges.rule-ranges.ensures.1) _ _
+    let done = load-days-stop _ (found-stops _ _ c.rule_ranges-days.result c.in-Stops.is c.rule_ranges-days.ensures.1) _ _
     in
-    (done.0, done.1, ap (λ x. x.ranges) rule-ranges.rule-ranges.ensures.0, ap (λ x. x.counts) rule-ranges.rule-ranges.ensures.0)
+    (done.0, done.1, ap (λ x. x.ranges) c.rule_ranges-days.ensures.0, ap (λ x. x.counts) c.rule_ranges-days.ensures.0)
 
-pub load-rule-spec : {M : Type 1} → statement M
-load-rule-spec =
+pub load_rule_spec : {M : Type 1} → statement M
+load_rule_spec =
     tie.close
     (tie.spec (λ c κs. search rules) (λ c. search rules) (λ c. search rules) load-spans-requires
     (λ c. search rules) (λ c. search rules) (λ c. search rules) returns (λ c. search rules)

@@ -10,40 +10,29 @@ use Rattle.draining.proofs.RuleReturns.{set-fallback, set-rule, comment-low}
 use Rattle.draining.proofs.rule.set_rule.Statement.{statement}
 use Rattle.draining.proofs.rule.set_rule.Tie as tie
 
-returns : tie.Need-returns
+returns : tie.Need-returns-then-is_fallback
 returns c =
-    let after-title = c.before.before.before in
-    let after-title-at = after-title.before.before in
-    let entry = after-title-at.before.before.before.before.before in
-    let v = after-title.title.given.0 in
-    set-fallback _ _ _ entry.requires.0 v.0 v.1.0 v.1.1.0 _ _ _ (sym after-title-at.title-at.ensures ∙ ap as_title after-title.title.given.1) _ _ _ _
-    c.before.is-fallback.ensures c.if1.true
+    let v = c.title-1.given.0 in
+    set-fallback _ _ _ c.requires.0 v.0 v.1.0 v.1.1.0 _ _ _ (sym c.title_at-title.ensures ∙ ap as_title c.in-Title.is) _ _ _ _
+    c.is_fallback.ensures c.if-is_fallback.true
 
-state-number-requires : tie.Need-state-number-requires
+state-number-requires : tie.Need-state_number-requires
 state-number-requires c κs =
-    let after-title-at = c.before.before.before.before.before in
-    let known = after-title-at.before.before.before.before in
-    let entry = known.before in
-    let s = entry.args.sheet.now in
-    comment-low _ (narrow entry.args.form) s (known_bytes s (λ j. omega (arith, known.shared-slice-known.given j))) _ entry.requires.0 _ _ _ _
-    (sym after-title-at.title-at.ensures ∙ ap as_title c.before.before.before.title.given.1)
+    let s = c.args.sheet.now in
+    comment-low _ (narrow c.args.form) s (known_bytes s (λ j. omega (arith, c.shared_slice_known-1.given j))) _ c.requires.0 _ _ _ _
+    (sym c.title_at-title.ensures ∙ ap as_title c.in-Title.is)
 
-returns-2 : tie.Need-returns-2
+returns-2 : tie.Need-returns-else-is_fallback
 returns-2 c =
-    let after-fallback = c.before.before.before.before in
-    let after-title = after-fallback.before.before in
-    let after-title-at = after-title.before.before in
-    let entry = after-title-at.before.before.before.before.before in
-    let v = after-title.title.given.0 in
-    set-rule _ _ _ entry.requires.0 v.0 v.1.0 v.1.1.0 _ _ _ (sym after-title-at.title-at.ensures ∙ ap as_title after-title.title.given.1) _ _ _ _
-    after-fallback.is-fallback.ensures _ _ _ c.before.before.before.if1.false
-    c.before.before.state-number.ensures c.before.u64-to-u8.ensures c.replace-number.ensures
+    let v = c.title-1.given.0 in
+    set-rule _ _ _ c.requires.0 v.0 v.1.0 v.1.1.0 _ _ _ (sym c.title_at-title.ensures ∙ ap as_title c.in-Title.is) _ _ _ _
+    c.is_fallback.ensures _ _ _ c.if-is_fallback.false
+    c.state_number.ensures c.u64_to_u8.ensures c.replace_number.ensures
 
-pub set-rule-spec : {M : Type 1} → statement M
-set-rule-spec =
+pub set_rule_spec : {M : Type 1} → statement M
+set_rule_spec =
     tie.close
     (tie.spec (λ c κs. search rules) (λ c. search rules) (λ c κs. search rules) returns state-number-requires (λ c. search rules) (λ c. search rules) (λ c κs. search rules)
     (λ c. search rules) (λ c κs. search rules) (λ c. search rules) (λ c. search rules) (λ c. search rules) (λ c. search rules) (λ c. search rules) returns-2
     (λ c.
-    let entry = c.before.before.before.before.before.before.before.before in
-    title-refused _ _ _ entry.requires.0 _ _ (sym c.before.before.before.title-at.ensures ∙ ap as_title c.before.title2.given.1)))
+    title-refused _ _ _ c.requires.0 _ _ (sym c.title_at-title.ensures ∙ ap as_title c.in-Refused.is)))

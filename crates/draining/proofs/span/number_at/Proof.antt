@@ -12,33 +12,26 @@ use Rattle.draining.proofs.SpanReturns.{bit_below, number-goes}
 use Rattle.draining.proofs.span.number_at.Statement.{statement}
 use Rattle.draining.proofs.span.number_at.Tie as tie
 
-span-requires : tie.Need-span-requires
+span-requires : tie.Need-span-number-requires
 span-requires c κs =
-    let last = c.before.before in
-    let first = last.before.before.before in
-    let start : first.before.u64-to-u16.result < 4096 = omega (arith, first.before.u64-to-u16.ensures, first.before.before.part.ensures) in
-    let end : last.before.u64-to-u162.result < 4096 = omega (arith, last.before.u64-to-u162.ensures, last.before.before.part2.ensures) in (
-      omega (arith, first.fixed-time.ensures, time-below (fixed first.before.u64-to-u16.result) start),
-      omega (arith, last.fixed-time2.ensures, time-below (fixed last.before.u64-to-u162.result) end),
-      bit_below (eqb c.before.part3.result 1) _ c.open-bit.ensures,
+    let start : c.u64_to_u16.result < 4096 = omega (arith, c.u64_to_u16.ensures, c.part.ensures) in
+    let end : c.u64_to_u16-then-simple_span.result < 4096 = omega (arith, c.u64_to_u16-then-simple_span.ensures, c.part-then-simple_span.ensures) in (
+      omega (arith, c.fixed_time-first.ensures, time-below (fixed c.u64_to_u16.result) start),
+      omega (arith, c.fixed_time-last.ensures, time-below (fixed c.u64_to_u16-then-simple_span.result) end),
+      bit_below (eqb c.part-then-simple_span-2.result 1) _ c.open_bit.ensures,
       omega arith,
     )
 
-at_once : tie.Need-returns
+at_once : tie.Need-returns-then-simple_span
 at_once c =
-    let bit = c.before in
-    let last = bit.before.before in
-    let first = last.before.before.before in
-    let simple = first.before.before.before.before in
-    let wide = simple.before in
-    let bits = wide.wide_at.result in
+    let bits = c.wide_at-bits.result in
     number-goes _ _ (fixed (bits / 2 ^ 43 % 2 ^ 12)) (fixed (bits / 2 ^ 30 % 2 ^ 12)) (bits / 2 ^ 29 % 2 ^ 1) 0 _ _ _ _ _
-    (simple.simple-span.ensures first.before.before.before.if2.true _ _ wide.wide_at.ensures)
-    (first.fixed-time.ensures ∙ ap (λ m. time_number (fixed m)) (first.before.u64-to-u16.ensures ∙ first.before.before.part.ensures))
-    (last.fixed-time2.ensures ∙ ap (λ m. time_number (fixed m)) (last.before.u64-to-u162.ensures ∙ last.before.before.part2.ensures))
-    (bit.open-bit.ensures ∙ ap (λ v. cond (eqb v 1) 1 0) bit.before.part3.ensures) c.span.ensures
+    (c.simple_span.ensures c.if-simple_span.true _ _ c.wide_at-bits.ensures)
+    (c.fixed_time-first.ensures ∙ ap (λ m. time_number (fixed m)) (c.u64_to_u16.ensures ∙ c.part.ensures))
+    (c.fixed_time-last.ensures ∙ ap (λ m. time_number (fixed m)) (c.u64_to_u16-then-simple_span.ensures ∙ c.part-then-simple_span.ensures))
+    (c.open_bit.ensures ∙ ap (λ v. cond (eqb v 1) 1 0) c.part-then-simple_span-2.ensures) c.span_number.ensures
 
-pub number-at-spec : {M : Type 1} → statement M
-number-at-spec =
+pub number_at_spec : {M : Type 1} → statement M
+number_at_spec =
     tie.close
     (tie.spec (λ c. search rules) (λ c κs. search rules) (λ c κs. search rules) (λ c κs. search rules) (λ c κs. search rules) (λ c κs. search rules) (λ c κs. search rules) (λ c κs. search rules) (λ c κs. search rules) (λ c κs. search rules) (λ c κs. search rules) span-requires (λ c. search rules) at_once (λ c κs. search rules) (λ c. search rules))

@@ -37,12 +37,12 @@ rise : (size : tie.After-u16-to-usize3 invariant-loop decreases-loop)
 rise size k low high =
     let pre = (start size).requires in
     let a = (start size).args in
-    row-rising-at a.row-starts.now a.sizes.now a.cuts.now _ pre.0.rising a.dimension pre.1.0.0 _ _ (first size).u16-to-usize2.ensures.0 size.u16-to-usize3.ensures.0 k low (omega arith)
+    row-rising-at a.row_starts.now a.sizes.now a.cuts.now _ pre.0.rising a.dimension pre.1.0.0 _ _ (first size).u16-to-usize2.ensures.0 size.u16-to-usize3.ensures.0 k low (omega arith)
 
-few-ranges : (size : tie.After-u16-to-usize3 invariant-loop decreases-loop) → (first size).before.before.u16-to-usize.result * 2 ≤ range_places
+few-ranges : (size : tie.After-u16-to-usize3 invariant-loop decreases-loop) → (first size).before.before.u16_to_usize.result * 2 ≤ range_places
 few-ranges size =
     let pre = (start size).requires in
-    omega (arith, pre.0.count (start size).args.dimension pre.1.0.0, (first size).before.before.u16-to-usize.ensures.0)
+    omega (arith, pre.0.count (start size).args.dimension pre.1.0.0, (first size).before.before.u16_to_usize.ensures.0)
 
 pub find_row_spec : {M : Type 1} → statement M
 find_row_spec =
@@ -50,47 +50,40 @@ find_row_spec =
     (tie.spec
     invariant-loop decreases-loop
     (λ c. search rules)
-    (λ c. let pre = c.before.before.before.before.before.before.before.requires in omega (arith, pre.0.all-counts, pre.1.0.0))
+    (λ c. let pre = c.requires in omega (arith, pre.0.all-counts, pre.1.0.0))
     (λ c κs. search rules)
     (λ c. search rules)
-    (λ c. let pre = c.before.before.before.before.before.before.before.before.before.requires in omega (arith, pre.0.all-rows, pre.1.0.0))
+    (λ c. let pre = c.requires in omega (arith, pre.0.all-rows, pre.1.0.0))
     (λ c κs. search rules) (λ c. search rules) (λ c. search rules) (λ c κs. search rules)
     (λ c. search rules)
     (λ c. (omega arith, refl, (start c).requires.1.1, λ r l. absurd (omega arith)))
-    (λ c. let entry = start c.before.before.before in omega (arith, entry.pre.1.0.1, entry.good))
-    (λ c. let size = c.before.before.before in omega (arith, c.before.loop-test.true, (first size).before.before.u16-to-usize.ensures.1))
-    (λ c. let size = c.before.before.before in omega (arith, c.before.loop-test.true, (first size).before.before.u16-to-usize.ensures.1, (start size).requires.1.0.1, (start size).well-formed))
+    (λ c. let entry = start c in omega (arith, entry.pre.1.0.1, entry.good))
+    (λ c. omega (arith, c.loop-range-test.true, (first c).before.before.u16_to_usize.ensures.1))
+    (λ c. omega (arith, c.loop-range-test.true, (first c).before.before.u16_to_usize.ensures.1, (start c).requires.1.0.1, (start c).well_formed))
     (λ c κs.
-    let test = c.before in
-    let size = test.before.before in
-    let pre = (start size).requires in
-    let few = few-ranges size in (
-      (omega (arith, test.loop-test.true, few, pre.1.0.1, test.before.loop.invariant.1), omega (arith, test.loop-test.true, few, pre.0.all-ranges, pre.1.0.0)),
-      ((omega arith, omega (arith, row_in size), omega (arith, size.u16-to-usize3.ensures.1)), rise size),
+    let pre = (start c).requires in
+    let few = few-ranges c in (
+      (omega (arith, c.loop-range-test.true, few, pre.1.0.1, c.loop-range.invariant.1), omega (arith, c.loop-range-test.true, few, pre.0.all-ranges, pre.1.0.0)),
+      ((omega arith, omega (arith, row_in c), omega (arith, c.u16_to_usize.ensures.1)), rise c),
     ))
     (λ c.
-    let test = c.before.before.before.before in
-    omega (arith, test.loop-test.true, (first test.before.before).before.before.u16-to-usize.ensures.1))
+    omega (arith, c.loop-range-test.true, (first c).before.before.u16_to_usize.ensures.1))
     (λ c. search rules)
     (λ c.
-    let found = c.before.before in
-    let test = found.before.before in
-    let size = test.before.before in
-    let inv = test.before.loop.invariant in
-    let pre = (start size).requires in
-    let a = (start size).args in
-    let width = size.u16-to-usize3.ensures.0 in
+    let inv = c.loop-range.invariant in
+    let pre = (start c).requires in
+    let a = (start c).args in
+    let width = c.u16_to_usize.ensures.0 in
     let more =
-    run_more a.sizes.now a.row-starts.now a.cuts.now a.ranges.now _ _ a.dimension test.before.loop.range
-    (first size).u16-to-usize2.result ((first size).u16-to-usize2.result + size.u16-to-usize3.result) _
-    (first size).u16-to-usize2.ensures.0 (omega (arith, width)) refl (rise size) found.find-run.ensures a.range-counts.now
+    run_more a.sizes.now a.row_starts.now a.cuts.now a.ranges.now _ _ a.dimension c.loop-range.range
+    (first c).u16-to-usize2.result ((first c).u16-to-usize2.result + c.u16_to_usize.result) _
+    (first c).u16-to-usize2.ensures.0 (omega (arith, width)) refl (rise c) c.find_run.ensures a.range_counts.now
     (λ j l. pre.0.count j (omega (arith, pre.1.0.0))) inv.2 inv.3 in
-    (omega (arith, test.loop-test.true), found.find-run.auto.0 ∙ inv.1, more.0, more.1))
-    (λ c. c.before.loop.invariant.1)
+    (omega (arith, c.loop-range-test.true), c.find_run.auto.0 ∙ inv.1, more.0, more.1))
+    (λ c. c.loop-range.invariant.1)
     (λ c.
-    let inv = c.before.loop.invariant in
-    let size = c.before.before in
-    let a = (start size).args in
-    let all : c.before.loop.range ≡ get_or a.range-counts.now a.dimension 0 = omega (arith, c.loop-test.false, inv.0, (first size).before.before.u16-to-usize.ensures.0) in
-    below_more (λ i. RowRuns a.sizes.now a.row-starts.now a.cuts.now a.ranges.now c.before.loop.runs i (get_or a.range-counts.now i 0)) a.dimension
+    let inv = c.loop-range.invariant in
+    let a = (start c).args in
+    let all : c.loop-range.range ≡ get_or a.range_counts.now a.dimension 0 = omega (arith, c.loop-range-test.false, inv.0, (first c).before.before.u16_to_usize.ensures.0) in
+    below_more (λ i. RowRuns a.sizes.now a.row_starts.now a.cuts.now a.ranges.now c.loop-range.runs i (get_or a.range_counts.now i 0)) a.dimension
     inv.2 (rw (← all) inv.3)))

@@ -11,10 +11,8 @@ find_run_spec =
     (tie.spec
     (λ c. search rules) (λ c. search rules) (λ c κs. search rules) (λ c. search rules) (λ c. search rules) (λ c. search rules)
     (λ c κs.
-    let begin = c.before in
-    let entry = begin.before.before.before.before.before in
-    let pre = entry.requires in
-    ((begin.IsPlace-in.ensures.to_end, pre.1.0.1), rising-later entry.args.cuts.now _ _ _ begin.IsPlace-in.ensures.from_first pre.1.1))
+    let pre = c.requires in
+    ((c.IsPlace-in.ensures.to_end, pre.1.0.1), rising-later c.args.cuts.now _ _ _ c.IsPlace-in.ensures.from_first pre.1.1))
     (λ c. search rules) (λ c. search rules) (λ c. search rules) (λ c. search rules) (λ c. search rules)
     (λ c. search rules) (λ c. search rules) (λ c. search rules) (λ c. search rules) (λ c. search rules)
-    (λ c. placed c.before.before.before.before.before.before.before.requires.0.0 c.before.before.IsPlace-in.ensures c.place-in2.ensures))
+    (λ c. placed c.requires.0.0 c.IsPlace-in.ensures c.place_in-stop.ensures))

@@ -21,15 +21,13 @@ find_runs_spec =
     invariant-loop decreases-loop
     (λ c. (omega arith, refl, λ i l. absurd (omega arith)))
     (λ c κs.
-    let test = c.before in
-    let inv = test.before.loop.invariant in
-    let pre = test.before.before.before.before.before.before.before.before.requires in
-    (pre.0, ((omega (arith, test.loop-test.true, pre.1.0), omega (arith, test.loop-test.true, pre.1.1, inv.1)), inv.2)))
+    let inv = c.loop-dimension.invariant in
+    let pre = c.requires in
+    (pre.0, ((omega (arith, c.loop-dimension-test.true, pre.1.0), omega (arith, c.loop-dimension-test.true, pre.1.1, inv.1)), inv.2)))
     (λ c. search rules) (λ c. search rules)
     (λ c.
-    let found = c.before.before.find-row in
-    let test = c.before.before.before.before in
-    let inv = test.before.loop.invariant in
-    (omega (arith, test.loop-test.true), found.auto.0 ∙ inv.1, found.ensures))
-    (λ c. c.before.loop.invariant.1)
-    (λ c. let inv = c.before.loop.invariant in let e : c.before.loop.dimension ≡ 4 = omega (arith, c.loop-test.false, inv.0) in rw e at inv.2))
+    let found = c.find_row in
+    let inv = c.loop-dimension.invariant in
+    (omega (arith, c.loop-dimension-test.true), found.auto.0 ∙ inv.1, found.ensures))
+    (λ c. c.loop-dimension.invariant.1)
+    (λ c. let inv = c.loop-dimension.invariant in let e : c.loop-dimension.dimension ≡ 4 = omega (arith, c.loop-dimension-test.false, inv.0) in rw e at inv.2))

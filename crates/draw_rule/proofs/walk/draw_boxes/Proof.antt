@@ -8,6 +8,6 @@ draw_boxes_spec =
     tie.close
     (tie.spec
     (λ c κs. search rules) (λ c κs. search rules) (λ c. search rules) (λ c. search rules) (λ c. search rules)
-    (λ c. rw c.before.before.before.before.before.before.before.before.before.before.if1.true c.before.before.before.before.before.before.draw-each.ensures)
+    (λ c. rw c.if-replaces.true c.draw_each.ensures)
     (λ c. search rules) (λ c. search rules) (λ c. search rules)
-    (λ c. rw c.before.before.before.before.before.before.before.before.before.before.if1.false c.before.before.before.before.before.before.draw-each2.ensures))
+    (λ c. rw c.if-replaces.false c.draw_each-else-replaces.ensures))

@@ -23,31 +23,26 @@ draw_each_spec =
     tie.close
     (tie.spec
     invariant-loop decreases-loop
-    (λ c. let pre = c.before.before.before.requires in (omega arith, pre.1.0, refl, refl, refl, walked_as (boxes-none _) (walked_none pre.0)))
+    (λ c. let pre = c.requires in (omega arith, pre.1.0, refl, refl, refl, walked_as (boxes-none _) (walked_none pre.0)))
     (λ c κs.
-    let loop = c.before.before.before.before in
-    let inv = loop.loop.invariant in
-    (inv.5.making, omega (arith, c.before.before.before.loop-test.true, inv.2, loop.before.before.before.before.requires.1.1)))
+    let inv = c.loop-box_index.invariant in
+    (inv.5.making, omega (arith, c.loop-box_index-test.true, inv.2, c.requires.1.1)))
     (λ c.
-    let test = c.before.before.before.before.before.before.before.before.before.before in
-    omega (arith, test.loop-test.true, test.before.before.before.before.before.well-formed))
-    (λ c. omega (arith, c.before.before.before.before.before.before.before.before.before.before.loop-test.true))
+    omega (arith, c.loop-box_index-test.true, c.well_formed))
+    (λ c. omega (arith, c.loop-box_index-test.true))
     (λ c.
-    let draw = c.before.before.before.before.before.before in
-    let test = draw.before.before.before.before in
-    let loop = test.before in
-    let inv = loop.loop.invariant in
-    let inside = test.loop-test.true in
-    let kept = draw.draw.auto in (
+    let inv = c.loop-box_index.invariant in
+    let inside = c.loop-box_index-test.true in
+    let kept = c.draw-drawn.auto in (
       omega (arith, inv.0),
       omega (arith, inside),
       kept.0 ∙ inv.2,
       kept.1.0 ∙ inv.3,
       kept.1.1.0 ∙ inv.4,
-      walked_as (boxes-more _ _ inv.0) (walked-append loop.before.before.before.before.requires.0 inv.5 draw.draw.ensures),
+      walked_as (boxes-more _ _ inv.0) (walked-append c.requires.0 inv.5 c.draw-drawn.ensures),
     ))
-    (λ c. c.before.loop.invariant.2) (λ c. c.before.loop.invariant.3) (λ c. c.before.loop.invariant.4)
+    (λ c. c.loop-box_index.invariant.2) (λ c. c.loop-box_index.invariant.3) (λ c. c.loop-box_index.invariant.4)
     (λ c.
-    let inv = c.before.loop.invariant in
-    let e : c.before.loop.box-index ≡ c.before.before.before.before.before.args.end = omega (arith, c.loop-test.false, inv.1) in
+    let inv = c.loop-box_index.invariant in
+    let e : c.loop-box_index.box_index ≡ c.args.end = omega (arith, c.loop-box_index-test.false, inv.1) in
     rw e at inv.5))

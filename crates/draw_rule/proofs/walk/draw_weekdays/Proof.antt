@@ -21,37 +21,28 @@ draw_weekdays_spec =
     tie.close
     (tie.spec
     invariant-loop decreases-loop
-    (λ c. let pre = c.before.before.before.before.before.before.before.requires in omega (arith, pre.1.0.all-counts))
+    (λ c. let pre = c.requires in omega (arith, pre.1.0.all-counts))
     (λ c κs. search rules)
     (λ c. let pre = (start c).requires in level-start pre.0 pre.1.1.1)
     (λ c κs.
-    let test = c.before in
-    let level = test.before.loop.invariant in
-    let count = test.before.before in
-    let pre = (start count).requires in
-    let there = run-there level test.loop-test.true c.if1.true pre.1.0 (omega arith) count.u16-to-usize.ensures.0 pre.1.1.0 in
-    ((there.0, there.1), omega (arith, there.2, (start count).well-formed)))
+    let level = c.loop-node.invariant in
+    let pre = (start c).requires in
+    let there = run-there level c.loop-node-test.true c.if-range-count.true pre.1.0 (omega arith) c.u16_to_usize-count.ensures.0 pre.1.1.0 in
+    ((there.0, there.1), omega (arith, there.2, (start c).well_formed)))
     (λ c κs.
-    let run = c.before.before.before in
-    let test = run.before.before in
-    let level = test.before.loop.invariant in
-    let count = test.before.before in
-    let pre = (start count).requires in
-    let nodes = run-nodes level test.loop-test.true run.before.if1.true pre.1.0 (omega arith) count.u16-to-usize.ensures.0 pre.1.1.0 run.run-below.ensures.0 run.run-below.ensures.1 in
+    let level = c.loop-node.invariant in
+    let pre = (start c).requires in
+    let nodes = run-nodes level c.loop-node-test.true c.if-range-count.true pre.1.0 (omega arith) c.u16_to_usize-count.ensures.0 pre.1.1.0 c.run_below-run.ensures.0 c.run_below-run.ensures.1 in
     (level.walked.making, (pre.1.0, nodes)))
     (λ c.
-    let if1 = c.before.before.before.before.before.before.before.before.before.before.before in
-    omega (arith, if1.if1.true, if1.before.before.before.u16-to-usize.ensures.1))
-    (λ c. omega (arith, c.before.before.before.before.before.before.before.before.before.before.before.if1.true))
+    omega (arith, c.if-range-count.true, c.u16_to_usize-count.ensures.1))
+    (λ c. omega (arith, c.if-range-count.true))
     (λ c.
-    let draw = c.before.before.before.before.before.before in
-    let run = draw.before.before.before.before in
-    let test = run.before.before in
-    let kept = draw.draw-weeks.auto in
-    level-run test.before.loop.invariant test.loop-test.true run.before.if1.true (start test.before.before).pre.0 kept.0 kept.1.0 kept.1.1.0 run.run-below.ensures.0
-    run.run-below.ensures.1 draw.draw-weeks.ensures)
-    (λ c. omega (arith, c.before.loop-test.true, (start c.before.before.before).good))
-    (λ c. omega (arith, c.before.loop-test.true, c.before.before.before.u16-to-usize.ensures.1))
-    (λ c. level-node c.before.before.loop.invariant c.before.loop-test.true c.if1.false c.before.before.before.u16-to-usize.ensures.0)
-    (λ c. c.before.loop.invariant.cells-kept) (λ c. c.before.loop.invariant.lists-kept) (λ c. c.before.loop.invariant.memo-kept)
-    (λ c. level-end c.before.loop.invariant c.loop-test.false))
+    let kept = c.draw_weeks-drawn.auto in
+    level-run c.loop-node.invariant c.loop-node-test.true c.if-range-count.true (start c).pre.0 kept.0 kept.1.0 kept.1.1.0 c.run_below-run.ensures.0
+    c.run_below-run.ensures.1 c.draw_weeks-drawn.ensures)
+    (λ c. omega (arith, c.loop-node-test.true, (start c).good))
+    (λ c. omega (arith, c.loop-node-test.true, c.u16_to_usize-count.ensures.1))
+    (λ c. level-node c.loop-node.invariant c.loop-node-test.true c.if-range-count.false c.u16_to_usize-count.ensures.0)
+    (λ c. c.loop-node.invariant.cells-kept) (λ c. c.loop-node.invariant.lists-kept) (λ c. c.loop-node.invariant.memo-kept)
+    (λ c. level-end c.loop-node.invariant c.loop-node-test.false))

@@ -13,15 +13,15 @@ start c = c.before.before.before.before
 put-folded-requires : tie.Need-put-folded-requires
 put-folded-requires c κs =
     let branch = c.before.before.before.before.before in
-    has_room 7 (length (start branch.before).args.lent.now) _ branch.before.lacks-room.ensures branch.if1.false
+    has_room 7 (length (start branch.before).args.lent.now) _ branch.before.lacks_room.ensures branch.if1.false
 
 returns-2 : tie.Need-returns-2
 returns-2 c =
     let put = c.before.before in
     let branch = put.before.before.before.before.before.before in
-    let answer = put.before.before.before.before.fold-by.ensures in (
-      long-enough 7 (length (start branch.before).args.lent.now) _ branch.before.lacks-room.ensures branch.if1.false,
-      put.put-folded.ensures ∙ ap (λ n. buffer n (start branch.before).args.lent.now) answer.0,
+    let answer = put.before.before.before.before.fold_by.ensures in (
+      long-enough 7 (length (start branch.before).args.lent.now) _ branch.before.lacks_room.ensures branch.if1.false,
+      put.put_folded.ensures ∙ ap (λ n. buffer n (start branch.before).args.lent.now) answer.0,
       answer.1,
     )
 
@@ -29,5 +29,5 @@ pub put-fold-spec : {M : Type 1} → statement M
 put-fold-spec =
     tie.close
     (tie.spec (λ c κs. search rules)
-    (λ c. (too_short 7 (length (start c.before).args.lent.now) _ c.before.lacks-room.ensures c.if1.true, refl, refl))
+    (λ c. (too_short 7 (length (start c.before).args.lent.now) _ c.before.lacks_room.ensures c.if1.true, refl, refl))
     (λ c κs. search rules) put-folded-requires (λ c. search rules) (λ c. search rules) returns-2)

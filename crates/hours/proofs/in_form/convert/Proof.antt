@@ -35,7 +35,7 @@ returns c =
     let read = rules-read _ _ _ check.check.ensures.0 _ _ check.check.ensures.1 (start check).requires (bytes check) (narrow a.form) _ _
     checked.checked.given.1 in
     let same = converts-read _ _ a.sheet.now (length a.out.now) read.0 _ read.1.0.read in
-    of-same written_numbers (λ w. w.result) _ same (moved.convert-rules.ensures read.0 read.1.0 read.1.1)
+    of-same written_numbers (λ w. w.result) _ same (moved.convert_rules.ensures read.0 read.1.0 read.1.1)
 
 returns-2 : tie.Need-returns-2
 returns-2 c =

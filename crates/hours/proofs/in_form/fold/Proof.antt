@@ -29,7 +29,7 @@ returns-2 c =
     let check = checked2.before.before.before.before in
     let a = (start check).args in
     let refusal = sheet-refused _ a.sheet.now _ check.check.ensures.0 _ _ checked2.checked2.given.1 in
-    answers.sheet-refused _ a.sheet.now a.out.now _ _ _ refusal c.fold-refused.ensures
+    answers.sheet-refused _ a.sheet.now a.out.now _ _ _ refusal c.fold_refused.ensures
 
 pub fold-spec : {M : Type 1} → statement M
 fold-spec =

@@ -31,7 +31,7 @@ returns-2 c =
     let check = checked2.before.before.before.before in
     let a = (start check).args in
     let refusal = sheet-refused _ a.sheet.now _ check.check.ensures.0 _ _ checked2.checked2.given.1 in
-    c.lookup-refused.ensures ∙ sym (look-refused _ a.sheet.now a.year a.month a.day a.minute _ _ refusal)
+    c.lookup_refused.ensures ∙ sym (look-refused _ a.sheet.now a.year a.month a.day a.minute _ _ refusal)
 
 pub lookup-spec : {M : Type 1} → statement M
 lookup-spec =

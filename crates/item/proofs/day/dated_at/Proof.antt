@@ -14,7 +14,6 @@ dated_at_spec =
     (λ c κs. search rules)
     (λ c. search rules) (λ c. search rules) (λ c κs. search rules)
     (λ c.
-    let take = c.before.before.before in
-    monthday-stops _ _ _ c.refused.ensures c.before.enum_told.given.1
-    (via-stops _ _ _ _ _ (stopped _ _ _ take.take_at.ensures c.before.enum_told.given.1)))
-    (λ c. sym (via-goes _ _ _ _ _ (took _ _ _ c.before.before.before.take_at.ensures c.before.first.given.1))))
+    monthday-stops _ _ _ c.refused.ensures c.in_default.is
+    (via-stops _ _ _ _ _ (stopped _ _ _ c.take_at-first.ensures c.in_default.is)))
+    (λ c. sym (via-goes _ _ _ _ _ (took _ _ _ c.take_at-first.ensures c.in-Value.is))))

@@ -15,122 +15,75 @@ fixed_days_at_spec =
     (λ c κs. search rules)
     (λ c. search rules) (λ c. search rules) (λ c κs. search rules)
     (λ c.
-    let weekday = c.before.before.before in
-    weekday-stops _ _ _ c.refused.ensures c.before.enum_told.given.1
-    (via-stops _ _ _ _ _ (then-stops _ _ _ _ (stopped _ _ _ weekday.weekday-at.ensures c.before.enum_told.given.1))))
+    weekday-stops _ _ _ c.refused.ensures c.in_default.is
+    (via-stops _ _ _ _ _ (then-stops _ _ _ _ (stopped _ _ _ c.weekday_at-first.ensures c.in_default.is))))
     (λ c κs.
-    let weekday = c.before.before.before in
-    omega (arith, took-end _ _ _ _ _ weekday.weekday-at.ensures c.before.first.given.1))
+    omega (arith, took-end _ _ _ _ _ c.weekday_at-first.ensures c.in-Value.is))
     (λ c. search rules) (λ c. search rules) (λ c κs. search rules)
     (λ c.
-    let weekday2 = c.before.before.before in
-    let first = weekday2.before.before in
-    let weekday = first.before.before in
-    weekday-stops _ _ _ c.refused2.ensures c.before.enum-told2.given.1
+    weekday-stops _ _ _ c.refused-in_default-second.ensures c.in_default-second.is
     (via-stops _ _ _ _ _
-    (then-stops-later _ _ _ _ (took _ _ _ weekday.weekday-at.ensures first.first.given.1)
-    (then-stops _ _ _ _ (stopped _ _ _ weekday2.weekday-at2.ensures c.before.enum-told2.given.1)))))
+    (then-stops-later _ _ _ _ (took _ _ _ c.weekday_at-first.ensures c.in-Value.is)
+    (then-stops _ _ _ _ (stopped _ _ _ c.weekday_at-second.ensures c.in_default-second.is)))))
     (λ c κs.
-    let weekday2 = c.before.before.before in
-    let first = weekday2.before.before in
-    let weekday = first.before.before in (
+    (
       omega arith,
       omega (
         arith,
-        took-end _ _ _ _ _ weekday.weekday-at.ensures first.first.given.1,
-        took-end _ _ _ _ _ weekday2.weekday-at2.ensures c.before.second.given.1,
+        took-end _ _ _ _ _ c.weekday_at-first.ensures c.in-Value.is,
+        took-end _ _ _ _ _ c.weekday_at-second.ensures c.in-Value-second.is,
       ),
     ))
     (λ c. search rules) (λ c. search rules) (λ c κs. search rules)
     (λ c.
-    let take = c.before.before.before in
-    let second = take.before.before in
-    let weekday2 = second.before.before in
-    let first = weekday2.before.before in
-    let weekday = first.before.before in
-    weekday-stops _ _ _ c.refused3.ensures c.before.enum-told3.given.1
+    weekday-stops _ _ _ c.refused-in_default-third.ensures c.in_default-third.is
     (via-stops _ _ _ _ _
-    (then-stops-later _ _ _ _ (took _ _ _ weekday.weekday-at.ensures first.first.given.1)
-    (then-stops-later _ _ _ _ (took _ _ _ weekday2.weekday-at2.ensures second.second.given.1)
-    (then-stops _ _ _ _ (stopped _ _ _ take.take_at.ensures c.before.enum-told3.given.1))))))
+    (then-stops-later _ _ _ _ (took _ _ _ c.weekday_at-first.ensures c.in-Value.is)
+    (then-stops-later _ _ _ _ (took _ _ _ c.weekday_at-second.ensures c.in-Value-second.is)
+    (then-stops _ _ _ _ (stopped _ _ _ c.take_at-third.ensures c.in_default-third.is))))))
     (λ c κs.
-    let take = c.before.before.before in
-    let second = take.before.before in
-    let weekday2 = second.before.before in
-    let first = weekday2.before.before in
-    let weekday = first.before.before in (
+    (
       omega arith,
       omega (
         arith,
-        took-end _ _ _ _ _ weekday.weekday-at.ensures first.first.given.1,
-        took-end _ _ _ _ _ weekday2.weekday-at2.ensures second.second.given.1,
-        took-end _ _ _ _ _ take.take_at.ensures c.before.third.given.1,
+        took-end _ _ _ _ _ c.weekday_at-first.ensures c.in-Value.is,
+        took-end _ _ _ _ _ c.weekday_at-second.ensures c.in-Value-second.is,
+        took-end _ _ _ _ _ c.take_at-third.ensures c.in-Value-third.is,
       ),
     ))
     (λ c. search rules) (λ c. search rules) (λ c κs. search rules)
     (λ c.
-    let take2 = c.before.before.before in
-    let third = take2.before.before in
-    let take = third.before.before in
-    let second = take.before.before in
-    let weekday2 = second.before.before in
-    let first = weekday2.before.before in
-    let weekday = first.before.before in
-    weekday-stops _ _ _ c.refused4.ensures c.before.enum-told4.given.1
+    weekday-stops _ _ _ c.refused-in_default-fourth.ensures c.in_default-fourth.is
     (via-stops _ _ _ _ _
-    (then-stops-later _ _ _ _ (took _ _ _ weekday.weekday-at.ensures first.first.given.1)
-    (then-stops-later _ _ _ _ (took _ _ _ weekday2.weekday-at2.ensures second.second.given.1)
-    (then-stops-later _ _ _ _ (took _ _ _ take.take_at.ensures third.third.given.1)
-    (then-stops _ _ _ _ (stopped _ _ _ take2.take-at2.ensures c.before.enum-told4.given.1)))))))
+    (then-stops-later _ _ _ _ (took _ _ _ c.weekday_at-first.ensures c.in-Value.is)
+    (then-stops-later _ _ _ _ (took _ _ _ c.weekday_at-second.ensures c.in-Value-second.is)
+    (then-stops-later _ _ _ _ (took _ _ _ c.take_at-third.ensures c.in-Value-third.is)
+    (then-stops _ _ _ _ (stopped _ _ _ c.take_at-fourth.ensures c.in_default-fourth.is)))))))
     (λ c κs.
-    let take2 = c.before.before.before in
-    let third = take2.before.before in
-    let take = third.before.before in
-    let second = take.before.before in
-    let weekday2 = second.before.before in
-    let first = weekday2.before.before in
-    let weekday = first.before.before in (
+    (
       omega arith,
       omega (
         arith,
-        took-end _ _ _ _ _ weekday.weekday-at.ensures first.first.given.1,
-        took-end _ _ _ _ _ weekday2.weekday-at2.ensures second.second.given.1,
-        took-end _ _ _ _ _ take.take_at.ensures third.third.given.1,
-        took-end _ _ _ _ _ take2.take-at2.ensures c.before.fourth.given.1,
+        took-end _ _ _ _ _ c.weekday_at-first.ensures c.in-Value.is,
+        took-end _ _ _ _ _ c.weekday_at-second.ensures c.in-Value-second.is,
+        took-end _ _ _ _ _ c.take_at-third.ensures c.in-Value-third.is,
+        took-end _ _ _ _ _ c.take_at-fourth.ensures c.in-Value-fourth.is,
       ),
     ))
     (λ c. search rules) (λ c. search rules) (λ c κs. search rules)
     (λ c.
-    let take3 = c.before.before.before in
-    let fourth = take3.before.before in
-    let take2 = fourth.before.before in
-    let third = take2.before.before in
-    let take = third.before.before in
-    let second = take.before.before in
-    let weekday2 = second.before.before in
-    let first = weekday2.before.before in
-    let weekday = first.before.before in
-    weekday-stops _ _ _ c.refused5.ensures c.before.enum-told5.given.1
+    weekday-stops _ _ _ c.refused-in_default-fifth.ensures c.in_default-fifth.is
     (via-stops _ _ _ _ _
-    (then-stops-later _ _ _ _ (took _ _ _ weekday.weekday-at.ensures first.first.given.1)
-    (then-stops-later _ _ _ _ (took _ _ _ weekday2.weekday-at2.ensures second.second.given.1)
-    (then-stops-later _ _ _ _ (took _ _ _ take.take_at.ensures third.third.given.1)
-    (then-stops-later _ _ _ _ (took _ _ _ take2.take-at2.ensures fourth.fourth.given.1)
-    (stopped _ _ _ take3.take-at3.ensures c.before.enum-told5.given.1)))))))
+    (then-stops-later _ _ _ _ (took _ _ _ c.weekday_at-first.ensures c.in-Value.is)
+    (then-stops-later _ _ _ _ (took _ _ _ c.weekday_at-second.ensures c.in-Value-second.is)
+    (then-stops-later _ _ _ _ (took _ _ _ c.take_at-third.ensures c.in-Value-third.is)
+    (then-stops-later _ _ _ _ (took _ _ _ c.take_at-fourth.ensures c.in-Value-fourth.is)
+    (stopped _ _ _ c.take_at-fifth.ensures c.in_default-fifth.is)))))))
     (λ c.
-    let take3 = c.before.before.before in
-    let fourth = take3.before.before in
-    let take2 = fourth.before.before in
-    let third = take2.before.before in
-    let take = third.before.before in
-    let second = take.before.before in
-    let weekday2 = second.before.before in
-    let first = weekday2.before.before in
-    let weekday = first.before.before in
     sym
     (via-goes _ _ _ _ _
-    (then-goes _ _ _ _ (took _ _ _ weekday.weekday-at.ensures first.first.given.1)
-    (then-goes _ _ _ _ (took _ _ _ weekday2.weekday-at2.ensures second.second.given.1)
-    (then-goes _ _ _ _ (took _ _ _ take.take_at.ensures third.third.given.1)
-    (then-goes _ _ _ _ (took _ _ _ take2.take-at2.ensures fourth.fourth.given.1)
-    (took _ _ _ take3.take-at3.ensures c.before.fifth.given.1))))))))
+    (then-goes _ _ _ _ (took _ _ _ c.weekday_at-first.ensures c.in-Value.is)
+    (then-goes _ _ _ _ (took _ _ _ c.weekday_at-second.ensures c.in-Value-second.is)
+    (then-goes _ _ _ _ (took _ _ _ c.take_at-third.ensures c.in-Value-third.is)
+    (then-goes _ _ _ _ (took _ _ _ c.take_at-fourth.ensures c.in-Value-fourth.is)
+    (took _ _ _ c.take_at-fifth.ensures c.in-Value-fifth.is))))))))

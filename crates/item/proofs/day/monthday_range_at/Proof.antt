@@ -18,40 +18,27 @@ monthday_range_at_spec =
     (tie.spec
     (λ c κs. search rules) (λ c. search rules) (λ c. search rules) (λ c κs. search rules)
     (λ c.
-    let choice = c.before.before.before in
-    monthday-stops _ _ _ c.refused.ensures c.before.enum_told.given.1
-    (tagged-stops _ _ _ _ _ (stopped _ _ _ choice.choice-at.ensures c.before.enum_told.given.1)))
+    monthday-stops _ _ _ c.refused.ensures c.in_default.is
+    (tagged-stops _ _ _ _ _ (stopped _ _ _ c.choice_at-tag.ensures c.in_default.is)))
     (λ c κs.
-    let tag = c.before.before in
-    let choice = tag.before.before in
-    omega (arith, took-end _ _ _ _ _ choice.choice-at.ensures tag.tag.given.1))
+    omega (arith, took-end _ _ _ _ _ c.choice_at-tag.ensures c.in-Value.is))
     (λ c κs.
-    let tag = c.before.before in
-    let choice = tag.before.before in
-    omega (arith, took-end _ _ _ _ _ choice.choice-at.ensures tag.tag.given.1))
+    omega (arith, took-end _ _ _ _ _ c.choice_at-tag.ensures c.in-Value.is))
     (λ c κs.
-    let tag = c.before.before in
-    let choice = tag.before.before in
-    omega (arith, took-end _ _ _ _ _ choice.choice-at.ensures tag.tag.given.1))
+    omega (arith, took-end _ _ _ _ _ c.choice_at-tag.ensures c.in-Value.is))
     (λ c.
-    let tag = c.before.before.before in
-    let choice = tag.before.before in
     sym
-    (tagged-goes _ _ _ _ _ (took _ _ _ choice.choice-at.ensures tag.tag.given.1)
-    (body _ _ _ _ _ (as-months tag.tag.given.0.0 (eq-eqb tag.tag.given.0.0 0 (omega arith))) c.months-at.ensures)))
+    (tagged-goes _ _ _ _ _ (took _ _ _ c.choice_at-tag.ensures c.in-Value.is)
+    (body _ _ _ _ _ (as-months c.in-Value.which (eq-eqb c.in-Value.which 0 (omega arith))) c.months_at.ensures)))
     (λ c.
-    let tag = c.before.before.before in
-    let choice = tag.before.before in
     sym
-    (tagged-goes _ _ _ _ _ (took _ _ _ choice.choice-at.ensures tag.tag.given.1)
+    (tagged-goes _ _ _ _ _ (took _ _ _ c.choice_at-tag.ensures c.in-Value.is)
     (body _ _ _ _ _
-    (as-months-of tag.tag.given.0.0 (ne_eqb tag.tag.given.0.0 0 (omega arith)) (eq-eqb tag.tag.given.0.0 1 (omega arith)))
-    c.months-of-at.ensures)))
+    (as-months-of c.in-Value.which (ne_eqb c.in-Value.which 0 (omega arith)) (eq-eqb c.in-Value.which 1 (omega arith)))
+    c.months_of_at.ensures)))
     (λ c.
-    let tag = c.before.before.before in
-    let choice = tag.before.before in
     sym
-    (tagged-goes _ _ _ _ _ (took _ _ _ choice.choice-at.ensures tag.tag.given.1)
+    (tagged-goes _ _ _ _ _ (took _ _ _ c.choice_at-tag.ensures c.in-Value.is)
     (body _ _ _ _ _
-    (as-dated tag.tag.given.0.0 (ne_eqb tag.tag.given.0.0 0 (omega arith)) (ne_eqb tag.tag.given.0.0 1 (omega arith)))
-    c.dated-at.ensures))))
+    (as-dated c.in-Value.which (ne_eqb c.in-Value.which 0 (omega arith)) (ne_eqb c.in-Value.which 1 (omega arith)))
+    c.dated_at.ensures))))

@@ -15,26 +15,18 @@ months_at_spec =
     (λ c κs. search rules)
     (λ c. search rules) (λ c. search rules) (λ c κs. search rules)
     (λ c.
-    let month = c.before.before.before in
-    monthday-stops _ _ _ c.refused.ensures c.before.enum_told.given.1
-    (via-stops _ _ _ _ _ (then-stops _ _ _ _ (stopped _ _ _ month.month-at.ensures c.before.enum_told.given.1))))
+    monthday-stops _ _ _ c.refused.ensures c.in_default.is
+    (via-stops _ _ _ _ _ (then-stops _ _ _ _ (stopped _ _ _ c.month_at-first.ensures c.in_default.is))))
     (λ c κs.
-    let month = c.before.before.before in
-    omega (arith, took-end _ _ _ _ _ month.month-at.ensures c.before.first.given.1))
+    omega (arith, took-end _ _ _ _ _ c.month_at-first.ensures c.in-Value.is))
     (λ c. search rules) (λ c. search rules) (λ c κs. search rules)
     (λ c.
-    let month2 = c.before.before.before in
-    let first = month2.before.before in
-    let month = first.before.before in
-    monthday-stops _ _ _ c.refused2.ensures c.before.enum-told2.given.1
+    monthday-stops _ _ _ c.refused-in_default-second.ensures c.in_default-second.is
     (via-stops _ _ _ _ _
-    (then-stops-later _ _ _ _ (took _ _ _ month.month-at.ensures first.first.given.1)
-    (stopped _ _ _ month2.month-at2.ensures c.before.enum-told2.given.1))))
+    (then-stops-later _ _ _ _ (took _ _ _ c.month_at-first.ensures c.in-Value.is)
+    (stopped _ _ _ c.month_at-second.ensures c.in_default-second.is))))
     (λ c.
-    let month2 = c.before.before.before in
-    let first = month2.before.before in
-    let month = first.before.before in
     sym
     (via-goes _ _ _ _ _
-    (then-goes _ _ _ _ (took _ _ _ month.month-at.ensures first.first.given.1)
-    (took _ _ _ month2.month-at2.ensures c.before.second.given.1)))))
+    (then-goes _ _ _ _ (took _ _ _ c.month_at-first.ensures c.in-Value.is)
+    (took _ _ _ c.month_at-second.ensures c.in-Value-second.is)))))

@@ -15,50 +15,32 @@ months_of_at_spec =
     (λ c κs. search rules)
     (λ c. search rules) (λ c. search rules) (λ c κs. search rules)
     (λ c.
-    let month = c.before.before.before in
-    monthday-stops _ _ _ c.refused.ensures c.before.enum_told.given.1
-    (via-stops _ _ _ _ _ (then-stops _ _ _ _ (stopped _ _ _ month.month-at.ensures c.before.enum_told.given.1))))
+    monthday-stops _ _ _ c.refused.ensures c.in_default.is
+    (via-stops _ _ _ _ _ (then-stops _ _ _ _ (stopped _ _ _ c.month_at-first.ensures c.in_default.is))))
     (λ c κs.
-    let month = c.before.before.before in
-    omega (arith, took-end _ _ _ _ _ month.month-at.ensures c.before.first.given.1))
+    omega (arith, took-end _ _ _ _ _ c.month_at-first.ensures c.in-Value.is))
     (λ c. search rules) (λ c. search rules) (λ c κs. search rules)
     (λ c.
-    let month2 = c.before.before.before in
-    let first = month2.before.before in
-    let month = first.before.before in
-    monthday-stops _ _ _ c.refused2.ensures c.before.enum-told2.given.1
+    monthday-stops _ _ _ c.refused-in_default-second.ensures c.in_default-second.is
     (via-stops _ _ _ _ _
-    (then-stops-later _ _ _ _ (took _ _ _ month.month-at.ensures first.first.given.1)
-    (then-stops _ _ _ _ (stopped _ _ _ month2.month-at2.ensures c.before.enum-told2.given.1)))))
+    (then-stops-later _ _ _ _ (took _ _ _ c.month_at-first.ensures c.in-Value.is)
+    (then-stops _ _ _ _ (stopped _ _ _ c.month_at-second.ensures c.in_default-second.is)))))
     (λ c κs.
-    let month2 = c.before.before.before in
-    let first = month2.before.before in
-    let month = first.before.before in
     omega (
       arith,
-      took-end _ _ _ _ _ month.month-at.ensures first.first.given.1,
-      took-end _ _ _ _ _ month2.month-at2.ensures c.before.second.given.1,
+      took-end _ _ _ _ _ c.month_at-first.ensures c.in-Value.is,
+      took-end _ _ _ _ _ c.month_at-second.ensures c.in-Value-second.is,
     ))
     (λ c. search rules) (λ c. search rules) (λ c κs. search rules)
     (λ c.
-    let year = c.before.before.before in
-    let second = year.before.before in
-    let month2 = second.before.before in
-    let first = month2.before.before in
-    let month = first.before.before in
-    monthday-stops _ _ _ c.refused3.ensures c.before.enum-told3.given.1
+    monthday-stops _ _ _ c.refused-in_default-third.ensures c.in_default-third.is
     (via-stops _ _ _ _ _
-    (then-stops-later _ _ _ _ (took _ _ _ month.month-at.ensures first.first.given.1)
-    (then-stops-later _ _ _ _ (took _ _ _ month2.month-at2.ensures second.second.given.1)
-    (stopped _ _ _ year.year-at.ensures c.before.enum-told3.given.1)))))
+    (then-stops-later _ _ _ _ (took _ _ _ c.month_at-first.ensures c.in-Value.is)
+    (then-stops-later _ _ _ _ (took _ _ _ c.month_at-second.ensures c.in-Value-second.is)
+    (stopped _ _ _ c.year_at-third.ensures c.in_default-third.is)))))
     (λ c.
-    let year = c.before.before.before in
-    let second = year.before.before in
-    let month2 = second.before.before in
-    let first = month2.before.before in
-    let month = first.before.before in
     sym
     (via-goes _ _ _ _ _
-    (then-goes _ _ _ _ (took _ _ _ month.month-at.ensures first.first.given.1)
-    (then-goes _ _ _ _ (took _ _ _ month2.month-at2.ensures second.second.given.1)
-    (took _ _ _ year.year-at.ensures c.before.third.given.1))))))
+    (then-goes _ _ _ _ (took _ _ _ c.month_at-first.ensures c.in-Value.is)
+    (then-goes _ _ _ _ (took _ _ _ c.month_at-second.ensures c.in-Value-second.is)
+    (took _ _ _ c.year_at-third.ensures c.in-Value-third.is))))))

@@ -18,26 +18,17 @@ week_day_range_at_spec =
     (tie.spec
     (λ c κs. search rules) (λ c. search rules) (λ c. search rules) (λ c κs. search rules)
     (λ c.
-    let take = c.before.before.before in
-    weekday-stops _ _ _ c.refused.ensures c.before.enum_told.given.1
-    (tagged-stops _ _ _ _ _ (stopped _ _ _ take.take_at.ensures c.before.enum_told.given.1)))
+    weekday-stops _ _ _ c.refused.ensures c.in_default.is
+    (tagged-stops _ _ _ _ _ (stopped _ _ _ c.take_at-tag.ensures c.in_default.is)))
     (λ c κs.
-    let tag = c.before.before in
-    let take = tag.before.before in
-    omega (arith, took-end _ _ _ _ _ take.take_at.ensures tag.tag.given.1))
+    omega (arith, took-end _ _ _ _ _ c.take_at-tag.ensures c.in-Value.is))
     (λ c κs.
-    let tag = c.before.before in
-    let take = tag.before.before in
-    omega (arith, took-end _ _ _ _ _ take.take_at.ensures tag.tag.given.1))
+    omega (arith, took-end _ _ _ _ _ c.take_at-tag.ensures c.in-Value.is))
     (λ c.
-    let tag = c.before.before.before in
-    let take = tag.before.before in
     sym
-    (tagged-goes _ _ _ _ _ (took _ _ _ take.take_at.ensures tag.tag.given.1)
-    (body _ _ _ _ _ (as-fixed-days tag.tag.given.0.0 (eq-eqb tag.tag.given.0.0 0 (omega arith))) c.fixed-days-at.ensures)))
+    (tagged-goes _ _ _ _ _ (took _ _ _ c.take_at-tag.ensures c.in-Value.is)
+    (body _ _ _ _ _ (as-fixed-days c.in-Value.which (eq-eqb c.in-Value.which 0 (omega arith))) c.fixed_days_at.ensures)))
     (λ c.
-    let tag = c.before.before.before in
-    let take = tag.before.before in
     sym
-    (tagged-goes _ _ _ _ _ (took _ _ _ take.take_at.ensures tag.tag.given.1)
-    (body _ _ _ _ _ (as-holiday tag.tag.given.0.0 (ne_eqb tag.tag.given.0.0 0 (omega arith))) c.holiday-at.ensures))))
+    (tagged-goes _ _ _ _ _ (took _ _ _ c.take_at-tag.ensures c.in-Value.is)
+    (body _ _ _ _ _ (as-holiday c.in-Value.which (ne_eqb c.in-Value.which 0 (omega arith))) c.holiday_at.ensures))))

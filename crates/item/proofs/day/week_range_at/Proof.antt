@@ -17,52 +17,35 @@ week_range_at_spec =
     (λ c κs. search rules)
     (λ c. search rules) (λ c. search rules) (λ c κs. search rules)
     (λ c.
-    let week = c.before.before.before in
-    stepped-stops _ _ _ _ c.refused.ensures c.before.enum_told.given.1
-    (via-stops _ _ _ _ _ (then-stops _ _ _ _ (stopped _ _ _ week.week-at.ensures c.before.enum_told.given.1))))
+    stepped-stops _ _ _ _ c.refused.ensures c.in_default.is
+    (via-stops _ _ _ _ _ (then-stops _ _ _ _ (stopped _ _ _ c.week_at-first.ensures c.in_default.is))))
     (λ c κs.
-    let week = c.before.before.before in
-    omega (arith, took-end _ _ _ _ _ week.week-at.ensures c.before.first.given.1))
+    omega (arith, took-end _ _ _ _ _ c.week_at-first.ensures c.in-Value.is))
     (λ c. search rules) (λ c. search rules) (λ c κs. search rules)
     (λ c.
-    let week2 = c.before.before.before in
-    let first = week2.before.before in
-    let week = first.before.before in
-    stepped-stops _ _ _ _ c.refused2.ensures c.before.enum-told2.given.1
+    stepped-stops _ _ _ _ c.refused-in_default-second.ensures c.in_default-second.is
     (via-stops _ _ _ _ _
-    (then-stops-later _ _ _ _ (took _ _ _ week.week-at.ensures first.first.given.1)
-    (then-stops _ _ _ _ (stopped _ _ _ week2.week-at2.ensures c.before.enum-told2.given.1)))))
+    (then-stops-later _ _ _ _ (took _ _ _ c.week_at-first.ensures c.in-Value.is)
+    (then-stops _ _ _ _ (stopped _ _ _ c.week_at-second.ensures c.in_default-second.is)))))
     (λ c κs.
-    let week2 = c.before.before.before in
-    let first = week2.before.before in
-    let week = first.before.before in (
+    (
       omega arith,
       omega (
         arith,
-        took-end _ _ _ _ _ week.week-at.ensures first.first.given.1,
-        took-end _ _ _ _ _ week2.week-at2.ensures c.before.second.given.1,
+        took-end _ _ _ _ _ c.week_at-first.ensures c.in-Value.is,
+        took-end _ _ _ _ _ c.week_at-second.ensures c.in-Value-second.is,
       ),
     ))
     (λ c. search rules) (λ c. search rules) (λ c κs. search rules)
     (λ c.
-    let step = c.before.before.before in
-    let second = step.before.before in
-    let week2 = second.before.before in
-    let first = week2.before.before in
-    let week = first.before.before in
-    stepped-stops _ _ _ _ c.refused3.ensures c.before.enum-told3.given.1
+    stepped-stops _ _ _ _ c.refused-in_default-third.ensures c.in_default-third.is
     (via-stops _ _ _ _ _
-    (then-stops-later _ _ _ _ (took _ _ _ week.week-at.ensures first.first.given.1)
-    (then-stops-later _ _ _ _ (took _ _ _ week2.week-at2.ensures second.second.given.1)
-    (stopped _ _ _ step.step-at.ensures c.before.enum-told3.given.1)))))
+    (then-stops-later _ _ _ _ (took _ _ _ c.week_at-first.ensures c.in-Value.is)
+    (then-stops-later _ _ _ _ (took _ _ _ c.week_at-second.ensures c.in-Value-second.is)
+    (stopped _ _ _ c.step_at-third.ensures c.in_default-third.is)))))
     (λ c.
-    let step = c.before.before.before in
-    let second = step.before.before in
-    let week2 = second.before.before in
-    let first = week2.before.before in
-    let week = first.before.before in
     sym
     (via-goes _ _ _ _ _
-    (then-goes _ _ _ _ (took _ _ _ week.week-at.ensures first.first.given.1)
-    (then-goes _ _ _ _ (took _ _ _ week2.week-at2.ensures second.second.given.1)
-    (took _ _ _ step.step-at.ensures c.before.third.given.1))))))
+    (then-goes _ _ _ _ (took _ _ _ c.week_at-first.ensures c.in-Value.is)
+    (then-goes _ _ _ _ (took _ _ _ c.week_at-second.ensures c.in-Value-second.is)
+    (took _ _ _ c.step_at-third.ensures c.in-Value-third.is))))))

@@ -14,7 +14,6 @@ fixed_time_at_spec =
     (λ c κs. search rules)
     (λ c. search rules) (λ c. search rules) (λ c κs. search rules)
     (λ c.
-    let minutes = c.before.before.before in
-    time-stops _ _ _ c.refused.ensures c.before.enum_told.given.1
-    (via-stops _ _ _ _ _ (stopped _ _ _ minutes.minutes-at.ensures c.before.enum_told.given.1)))
-    (λ c. sym (via-goes _ _ _ _ _ (took _ _ _ c.before.before.before.minutes-at.ensures c.before.first.given.1))))
+    time-stops _ _ _ c.refused.ensures c.in_default.is
+    (via-stops _ _ _ _ _ (stopped _ _ _ c.minutes_at-first.ensures c.in_default.is)))
+    (λ c. sym (via-goes _ _ _ _ _ (took _ _ _ c.minutes_at-first.ensures c.in-Value.is))))

@@ -18,38 +18,25 @@ repeats_at_spec =
     tie.close
     (tie.spec
     (λ c κs. search rules) (λ c. search rules) (λ c. search rules)
-    (λ c. ap as_repeats c.enum_told.given.1 ∙ sym (tagged-stops _ _ _ _ _ (stopped _ _ _ c.before.before.take_at.ensures c.enum_told.given.1)))
+    (λ c. ap as_repeats c.in_default.is ∙ sym (tagged-stops _ _ _ _ _ (stopped _ _ _ c.take_at-flag.ensures c.in_default.is)))
     (λ c.
-    let flag = c.before.before in
-    let take = flag.before.before in
     sym
-    (tagged-goes _ _ _ _ _ (took _ _ _ take.take_at.ensures flag.flag.given.1)
-    (no-repeats _ _ _ (eq-eqb flag.flag.given.0.0 0 (omega arith)))))
+    (tagged-goes _ _ _ _ _ (took _ _ _ c.take_at-flag.ensures c.in-Value.is)
+    (no-repeats _ _ _ (eq-eqb c.in-Value.set 0 (omega arith)))))
     (λ c κs.
-    let flag = c.before.before in
-    let take = flag.before.before in
-    (omega arith, omega (arith, took-end _ _ _ _ _ take.take_at.ensures flag.flag.given.1)))
+    (omega arith, omega (arith, took-end _ _ _ _ _ c.take_at-flag.ensures c.in-Value.is)))
     (λ c. search rules) (λ c. search rules)
     (λ c.
-    let take2 = c.before.before in
-    let flag = take2.before.before.before in
-    let take = flag.before.before in
-    ap as_repeats c.enum-told2.given.1
-    ∙ sym (tagged-goes _ _ _ _ _ (took _ _ _ take.take_at.ensures flag.flag.given.1)
-    (repeats-stops _ _ _ _ _ (ne_eqb flag.flag.given.0.0 0 (omega arith)) (stopped _ _ _ take2.take-at2.ensures c.enum-told2.given.1))))
+    ap as_repeats c.in_default-field.is
+    ∙ sym (tagged-goes _ _ _ _ _ (took _ _ _ c.take_at-flag.ensures c.in-Value.is)
+    (repeats-stops _ _ _ _ _ (ne_eqb c.in-Value.set 0 (omega arith)) (stopped _ _ _ c.take_at-field.ensures c.in_default-field.is))))
     (λ c.
-    let take2 = c.before.before.before in
-    let known = take2.before.before.before.before.before.before in
-    let entry = known.before in
     omega (
       arith,
-      value-below _ (known_bytes entry.args.sheet.now (λ j. omega (arith, known.shared-slice-known.given j))) _ _ 12 _ _ _
-          (took _ _ _ take2.take-at2.ensures c.before.field.given.1),
+      value-below _ (known_bytes c.args.sheet.now (λ j. omega (arith, c.shared_slice_known-1.given j))) _ _ 12 _ _ _
+          (took _ _ _ c.take_at-field.ensures c.in-Value-field.is),
     ))
     (λ c.
-    let take2 = c.before.before.before in
-    let flag = take2.before.before.before in
-    let take = flag.before.before in
     sym
-    (tagged-goes _ _ _ _ _ (took _ _ _ take.take_at.ensures flag.flag.given.1)
-    (repeats-goes _ _ _ _ _ (ne_eqb flag.flag.given.0.0 0 (omega arith)) (took _ _ _ take2.take-at2.ensures c.before.field.given.1)))))
+    (tagged-goes _ _ _ _ _ (took _ _ _ c.take_at-flag.ensures c.in-Value.is)
+    (repeats-goes _ _ _ _ _ (ne_eqb c.in-Value.set 0 (omega arith)) (took _ _ _ c.take_at-field.ensures c.in-Value-field.is)))))

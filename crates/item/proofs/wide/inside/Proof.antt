@@ -7,5 +7,5 @@ use Rattle.item.proofs.wide.inside.Tie as tie
 pub inside_spec : {M : Type 1} → statement M
 inside_spec =
     tie.close
-    (tie.spec (λ c. sym (rw (lt-leb c.before.args.lowest c.before.args.value c.if1.true)))
-    (λ c. sym (rw (le-leb c.before.args.lowest c.before.args.value c.if1.false))))
+    (tie.spec (λ c. sym (rw (lt-leb c.args.lowest c.args.value c.if-value-lowest.true)))
+    (λ c. sym (rw (le-leb c.args.lowest c.args.value c.if-value-lowest.false))))

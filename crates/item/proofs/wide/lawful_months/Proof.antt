@@ -9,13 +9,9 @@ use Rattle.item.proofs.wide.lawful_months.Tie as tie
 
 returns : tie.Need-returns-then-inside
 returns c t s p wide =
-    let part3 = c.before in
-    let inside = part3.before.before in
-    let part2 = inside.before in
-    let part = part2.before.before in
-    wide-months wide (sym part.part.ensures ∙ part2.before.if-part-eq0.true)
-    (kept month_bounds inside.inside.ensures part2.part-then-part-eq0.ensures part3.before.if-inside.true)
-    (kept month_bounds c.inside-then-inside.ensures part3.part-then-inside.ensures t)
+    wide-months wide (sym c.part.ensures ∙ c.if-part-eq0.true)
+    (kept month_bounds c.inside.ensures c.part-then-part-eq0.ensures c.if-inside.true)
+    (kept month_bounds c.inside-then-inside.ensures c.part-then-inside.ensures t)
 
 pub lawful_months_spec : {M : Type 1} → statement M
 lawful_months_spec =

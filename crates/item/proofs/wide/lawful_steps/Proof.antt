@@ -10,16 +10,11 @@ use Rattle.item.proofs.wide.lawful_steps.Tie as tie
 
 returns : tie.Need-returns-then-inside-2
 returns c t s p wide =
-    let inside2 = c.before in
-    let inside = inside2.before.before in
-    let part3 = inside.before in
-    let part2 = part3.before in
-    let part = part2.before in
-    let args = part.before.args in
-    wide-steps wide args.width args.step-width args.lowest args.upper part.before.requires
-    (kept (args.lowest, args.upper) inside.inside.ensures part.part-start.ensures inside2.before.if-inside.true)
-    (kept (args.lowest, args.upper) inside2.inside-then-inside.ensures part2.part-end.ensures c.if-inside-2.true)
-    (subst (0 <◌) part3.part-step.ensures (ltb-true 0 part3.part-step.result t))
+    let args = c.args in
+    wide-steps wide args.width args.step_width args.lowest args.upper c.requires
+    (kept (args.lowest, args.upper) c.inside.ensures c.part-start.ensures c.if-inside.true)
+    (kept (args.lowest, args.upper) c.inside-then-inside.ensures c.part-end.ensures c.if-inside-2.true)
+    (subst (0 <◌) c.part-step.ensures (ltb-true 0 c.part-step.result t))
 
 pub lawful_steps_spec : {M : Type 1} → statement M
 lawful_steps_spec =

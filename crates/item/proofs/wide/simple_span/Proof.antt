@@ -10,12 +10,8 @@ use Rattle.item.proofs.wide.simple_span.Tie as tie
 
 returns : tie.Need-returns-then-part-le2880
 returns c t s p wide =
-    let start = c.before.before in
-    let flag = start.before.before in
-    let second = flag.before.before in
-    let first = second.before.before in
-    wide-simple wide (sym first.part.ensures ∙ second.before.if-part-eq0.true) (sym second.part-then-part-eq0.ensures ∙ flag.before.if-part-eq0-2.true)
-    (sym flag.part-then-part-eq0-2.ensures ∙ start.before.if-part-eq0-3.true) (subst (◌≤ 2880) start.part-then-part-eq0-3.ensures c.before.if-part-le2880.true)
+    wide-simple wide (sym c.part.ensures ∙ c.if-part-eq0.true) (sym c.part-then-part-eq0.ensures ∙ c.if-part-eq0-2.true)
+    (sym c.part-then-part-eq0-2.ensures ∙ c.if-part-eq0-3.true) (subst (◌≤ 2880) c.part-then-part-eq0-3.ensures c.if-part-le2880.true)
     (subst (◌≤ 2880) c.part-then-part-le2880.ensures (leb-true c.part-then-part-le2880.result 2880 t))
 
 pub simple_span_spec : {M : Type 1} → statement M

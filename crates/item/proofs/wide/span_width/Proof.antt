@@ -8,28 +8,20 @@ use Rattle.item.proofs.wide.span_width.Tie as tie
 
 no-repeats : tie.Need-returns-then-part-eq0
 no-repeats c =
-    let part3 = c.before in
-    let last = part3.before.before in
-    let part2 = last.before in
-    let first = part2.before.before in
-    let part = first.before in (
-      omega (arith, first.time_width-first.ensures.0, last.time_width-second.ensures.0),
-      λ l s p wide. wide-span wide first.time_width-first.result last.time_width-second.result first.time_width-first.ensures.0 last.time_width-second.ensures.0
-          _ _ part.part.ensures part2.part-2.ensures (first.time_width-first.ensures.1 (omega arith)) (last.time_width-second.ensures.1 (omega arith))
-          (sym part3.part-3.ensures ∙ c.if-part-eq0.true),
+    (
+      omega (arith, c.time_width-first.ensures.0, c.time_width-second.ensures.0),
+      λ l s p wide. wide-span wide c.time_width-first.result c.time_width-second.result c.time_width-first.ensures.0 c.time_width-second.ensures.0
+          _ _ c.part.ensures c.part-2.ensures (c.time_width-first.ensures.1 (omega arith)) (c.time_width-second.ensures.1 (omega arith))
+          (sym c.part-3.ensures ∙ c.if-part-eq0.true),
     )
 
 repeats : tie.Need-returns
 repeats c =
-    let part3 = c.before in
-    let last = part3.before.before in
-    let part2 = last.before in
-    let first = part2.before.before in
-    let part = first.before in (
-      omega (arith, first.time_width-first.ensures.0, last.time_width-second.ensures.0),
-      λ l s p wide. wide-repeats wide first.time_width-first.result last.time_width-second.result first.time_width-first.ensures.0 last.time_width-second.ensures.0
-          _ _ part.part.ensures part2.part-2.ensures (first.time_width-first.ensures.1 (omega arith)) (last.time_width-second.ensures.1 (omega arith))
-          (λ e. c.if-part-eq0.false (part3.part-3.ensures ∙ e)),
+    (
+      omega (arith, c.time_width-first.ensures.0, c.time_width-second.ensures.0),
+      λ l s p wide. wide-repeats wide c.time_width-first.result c.time_width-second.result c.time_width-first.ensures.0 c.time_width-second.ensures.0
+          _ _ c.part.ensures c.part-2.ensures (c.time_width-first.ensures.1 (omega arith)) (c.time_width-second.ensures.1 (omega arith))
+          (λ e. c.if-part-eq0.false (c.part-3.ensures ∙ e)),
     )
 
 pub span_width_spec : {M : Type 1} → statement M

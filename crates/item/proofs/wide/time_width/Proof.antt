@@ -10,12 +10,11 @@ use Rattle.item.proofs.wide.time_width.Tie as tie
 pub time_width_spec : {M : Type 1} → statement M
 time_width_spec =
     tie.close
-    (tie.spec (λ c κs. search rules) (λ c. (omega arith, λ l s p wide. wide-variable wide (λ e. c.if1.true (c.before.part.ensures ∙ e))))
+    (tie.spec (λ c κs. search rules) (λ c. (omega arith, λ l s p wide. wide-variable wide (λ e. c.if-part-ne0.true (c.part.ensures ∙ e))))
     (λ c κs. search rules)
     (λ c.
-    let part2 = c.before in
-    let part = part2.before.before in (
+    (
       omega arith,
-      λ l s p wide. wide-fixed wide (sym part.part.ensures ∙ part2.before.if1.false) (subst (◌≤ 2880) part2.part2.ensures c.if2.true),
+      λ l s p wide. wide-fixed wide (sym c.part.ensures ∙ c.if-part-ne0.false) (subst (◌≤ 2880) c.part-2.ensures c.if-part-le2880.true),
     ))
     (λ c. (omega arith, λ l. absurd (omega arith))))

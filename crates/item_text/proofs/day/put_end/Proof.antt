@@ -14,32 +14,29 @@ use Rattle.item_text.proofs.day.put_end.Tie as tie
 
 put-four-requires : tie.Need-put_four-requires
 put-four-requires c κs =
-    let entry = c.before.before.before in
-    let args = entry.args in
-    let pre = entry.requires in
+    let args = c.args in
+    let pre = c.requires in
     let e = years-end args.sort args.value (eq-eqb args.sort 0 (omega arith)) in
     ((holds-in args.value year_bounds (sym e.1 ∙ pre.0)).1, omega (arith, pre.1, ap length e.0, length_digits 4 args.value))
 
 put-month-requires : tie.Need-put_month-requires
 put-month-requires c κs =
-    let args = c.before.before.before.args in
+    let args = c.args in
     let e = months-end args.sort args.value (ne_eqb args.sort 0 (omega arith)) (eq-eqb args.sort 1 (omega arith)) in
-    (sym e.1 ∙ c.before.before.before.requires.0, omega (arith, c.before.before.before.requires.1, ap length e.0))
+    (sym e.1 ∙ c.requires.0, omega (arith, c.requires.1, ap length e.0))
 
 put-two-requires : tie.Need-put_two-requires
 put-two-requires c κs =
-    let entry = c.before.before.before in
-    let args = entry.args in
-    let pre = entry.requires in
+    let args = c.args in
+    let pre = c.requires in
     let e = weeks-end args.sort args.value (ne_eqb args.sort 0 (omega arith)) (ne_eqb args.sort 1 (omega arith))
     (eq-eqb args.sort 2 (omega arith)) in
     (omega (arith, holds-in args.value week_bounds (sym e.1 ∙ pre.0)), omega (arith, pre.1, ap length e.0, length_digits 2 args.value))
 
 put-weekday-requires : tie.Need-put_weekday-requires
 put-weekday-requires c κs =
-    let entry = c.before.before.before in
-    let args = entry.args in
-    let pre = entry.requires in
+    let args = c.args in
+    let pre = c.requires in
     let e = weekdays-end args.sort args.value (ne_eqb args.sort 0 (omega arith)) (ne_eqb args.sort 1 (omega arith))
     (ne_eqb args.sort 2 (omega arith)) in
     (sym e.1 ∙ pre.0, omega (arith, pre.1, ap length e.0))
@@ -50,27 +47,19 @@ put_end_spec =
     (tie.spec put-four-requires put-month-requires put-two-requires put-weekday-requires
     (λ c. search rules)
     (λ c.
-    let put_four = c.before.before in
-    let entry = put_four.before.before.before.before in
-    put_as (sym (years-end _ _ (eq-eqb entry.args.sort 0 (omega arith))).0) put_four.put_four.ensures)
+    put_as (sym (years-end _ _ (eq-eqb c.args.sort 0 (omega arith))).0) c.put_four.ensures)
     (λ c. search rules)
     (λ c.
-    let put-month = c.before.before in
-    let entry = put-month.before.before.before.before in
-    let args = entry.args in
-    put_as (sym (months-end _ _ (ne_eqb args.sort 0 (omega arith)) (eq-eqb args.sort 1 (omega arith))).0) put-month.put-month.ensures)
+    let args = c.args in
+    put_as (sym (months-end _ _ (ne_eqb args.sort 0 (omega arith)) (eq-eqb args.sort 1 (omega arith))).0) c.put_month.ensures)
     (λ c. search rules)
     (λ c.
-    let put_two = c.before.before in
-    let entry = put_two.before.before.before.before in
-    let args = entry.args in
+    let args = c.args in
     put_as (sym (weeks-end _ _ (ne_eqb args.sort 0 (omega arith)) (ne_eqb args.sort 1 (omega arith)) (eq-eqb args.sort 2 (omega arith))).0)
-    put_two.put_two.ensures)
+    c.put_two.ensures)
     (λ c. search rules)
     (λ c.
-    let put-weekday = c.before.before in
-    let entry = put-weekday.before.before.before.before in
-    let args = entry.args in
+    let args = c.args in
     put_as
     (sym (weekdays-end _ _ (ne_eqb args.sort 0 (omega arith)) (ne_eqb args.sort 1 (omega arith)) (ne_eqb args.sort 2 (omega arith))).0)
-    put-weekday.put-weekday.ensures))
+    c.put_weekday.ensures))

@@ -12,31 +12,23 @@ use Rattle.item_text.proofs.day.put_item.Tie as tie
 
 put-behind-requires : tie.Need-put_behind-requires
 put-behind-requires c κs =
-    let once = c.before.before in
-    let put-end = once.before.before.before in
-    let entry = put-end.before.before.before in
-    let args = entry.args in
-    let pre = entry.requires in
-    let both = item-both args.sort args.last args.step args.first (sym once.once.ensures ∙ c.before.if-once.false) in
+    let args = c.args in
+    let pre = c.requires in
+    let both = item-both args.sort args.last args.step args.first (sym c.once.ensures ∙ c.if-once.false) in
     let long = length-append ((end_text args.sort).write args.first) (behind args.sort args.last args.step) in
-    (pre.1, omega (arith, pre.2, ap length both, long, put-end.put_end-end.ensures.ends))
+    (pre.1, omega (arith, pre.2, ap length both, long, c.put_end-end.ensures.ends))
 
 pub put_item_spec : {M : Type 1} → statement M
 put_item_spec =
     tie.close
     (tie.spec
     (λ c κs.
-    let entry = c.before.before in
-    let args = entry.args in
-    let pre = entry.requires in
+    let args = c.args in
+    let pre = c.requires in
     (pre.0, omega (arith, pre.2, item-least args.sort args.last args.step args.first)))
     (λ c κs. search rules) (λ c. search rules)
-    (λ c. put_as (sym (item-once _ _ _ _ (sym c.before.once.ensures ∙ c.if1.true))) c.before.before.before.before.put-end.ensures)
+    (λ c. put_as (sym (item-once _ _ _ _ (sym c.once.ensures ∙ c.if-once.true))) c.put_end-end.ensures)
     put-behind-requires (λ c. search rules)
     (λ c.
-    let put-behind = c.before.before in
-    let if1 = put-behind.before.before in
-    let once = if1.before in
-    let put-end = once.before.before.before in
-    put_as (sym (item-both _ _ _ _ (sym once.once.ensures ∙ if1.if1.false)))
-    (put_then put-end.put-end.ensures put-behind.put-behind.ensures)))
+    put_as (sym (item-both _ _ _ _ (sym c.once.ensures ∙ c.if-once.false)))
+    (put_then c.put_end-end.ensures c.put_behind.ensures)))

@@ -9,19 +9,16 @@ use Rattle.item_text.proofs.day.put_month.Tie as tie
 
 put-name-requires : tie.Need-put_name-requires
 put-name-requires c κs =
-    let entry = c.before.before.before in
-    let pre = entry.requires in
-    let k = month-found entry.args.month pre.0 in
+    let pre = c.requires in
+    let k = month-found c.args.month pre.0 in
     (omega (arith, k.0, k.1), omega (arith, k.3, pre.1))
 
 returns : tie.Need-returns
 unfolding ascii
 returns c =
-    let put-name = c.before.before in
-    let entry = put-name.before.before.before.before in
-    put_as (month-found entry.args.month entry.requires.0).2 put-name.put_name.ensures
+    put_as (month-found c.args.month c.requires.0).2 c.put_name.ensures
 
 pub put_month_spec : {M : Type 1} → statement M
 put_month_spec = tie.close
-    (tie.spec (λ c. search rules) (λ c. (month-found c.before.before.before.args.month c.before.before.before.requires.0).0) put-name-requires
+    (tie.spec (λ c. search rules) (λ c. (month-found c.args.month c.requires.0).0) put-name-requires
     (λ c. search rules) returns)

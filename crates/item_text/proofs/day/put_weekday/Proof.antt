@@ -9,17 +9,14 @@ use Rattle.item_text.proofs.day.put_weekday.Tie as tie
 
 put-name-requires : tie.Need-put_name-requires
 put-name-requires c κs =
-    let entry = c.before.before.before in
-    let pre = entry.requires in
-    let k = weekday-found entry.args.weekday pre.0 in
+    let pre = c.requires in
+    let k = weekday-found c.args.weekday pre.0 in
     (omega (arith, k.0), omega (arith, k.2, pre.1))
 
 returns : tie.Need-returns
 unfolding ascii
 returns c =
-    let put-name = c.before.before in
-    let entry = put-name.before.before.before.before in
-    put_as (weekday-found entry.args.weekday entry.requires.0).1 put-name.put_name.ensures
+    put_as (weekday-found c.args.weekday c.requires.0).1 c.put_name.ensures
 
 pub put_weekday_spec : {M : Type 1} → statement M
 put_weekday_spec = tie.close (tie.spec (λ c. search rules) put-name-requires (λ c. search rules) returns)

@@ -17,24 +17,16 @@ put_before_spec =
     omega (arith, c.before.before.before.before.requires, ap length (before-normal c.before.before.before.before.args.operator (omega arith))))
     (λ c. search rules)
     (λ c κs.
-    let entry = c.before.before.before.before in
-    omega (arith, entry.requires, ap length (before-additional entry.args.operator (omega arith) (omega arith))))
+    omega (arith, c.requires, ap length (before-additional c.args.operator (omega arith) (omega arith))))
     (λ c. search rules)
     (λ c κs.
-    let entry = c.before.before.before.before in
-    omega (arith, entry.requires, ap length (before-fallback entry.args.operator (omega arith) (omega arith))))
+    omega (arith, c.requires, ap length (before-fallback c.args.operator (omega arith) (omega arith))))
     (λ c. search rules)
     (λ c.
-    let put_word = c.before.before in
-    let entry = put_word.before.before.before.before.before in
-    put_as (before-normal entry.args.operator (omega arith)) put_word.put_word.ensures)
+    put_as (before-normal c.args.operator (omega arith)) c.put_word.ensures)
     (λ c. search rules)
     (λ c.
-    let put-word2 = c.before.before in
-    let entry = put-word2.before.before.before.before.before in
-    put_as (before-additional entry.args.operator (omega arith) (omega arith)) put-word2.put-word2.ensures)
+    put_as (before-additional c.args.operator (omega arith) (omega arith)) c.put_word-in-1.ensures)
     (λ c. search rules)
     (λ c.
-    let put-word3 = c.before.before in
-    let entry = put-word3.before.before.before.before.before in
-    put_as (before-fallback entry.args.operator (omega arith) (omega arith)) put-word3.put-word3.ensures))
+    put_as (before-fallback c.args.operator (omega arith) (omega arith)) c.put_word-in_default.ensures))

@@ -15,36 +15,22 @@ put_comment_spec =
     (λ c. put_as (sym (comment-none (state_of c.before.before.args.kind c.before.before.args.comment) c.if1.true)) (put-none _ _))
     (λ c. search rules)
     (λ c κs.
-    let if1 = c.before.before in
-    let entry = if1.before.before in
-    let args = entry.args in
-    omega (arith, entry.requires, comment-long (state_of args.kind args.comment) if1.if1.false))
+    let args = c.args in
+    omega (arith, c.requires, comment-long (state_of args.kind args.comment) c.if-comment-eq0.false))
     (λ c κs.
-    let put_word = c.before.before.before in
-    let if1 = put_word.before.before.before in
-    let entry = if1.before.before in
-    let args = entry.args in
-    omega (arith, entry.requires, comment-long (state_of args.kind args.comment) if1.if1.false, put_word.put_word.ensures.ends))
+    let args = c.args in
+    omega (arith, c.requires, comment-long (state_of args.kind args.comment) c.if-comment-eq0.false, c.put_word-open.ensures.ends))
     (λ c κs.
-    let put-decimal = c.before.before.before in
-    let put_word = put-decimal.before.before.before.before in
-    let if1 = put_word.before.before.before in
-    let entry = if1.before.before in
-    let args = entry.args in
+    let args = c.args in
     omega (
       arith,
-      entry.requires,
-      comment-long (state_of args.kind args.comment) if1.if1.false,
-      put_word.put_word.ensures.ends,
-      put-decimal.put-decimal.ensures.ends,
+      c.requires,
+      comment-long (state_of args.kind args.comment) c.if-comment-eq0.false,
+      c.put_word-open.ensures.ends,
+      c.put_decimal-close.ensures.ends,
     ))
     (λ c. search rules)
     (λ c.
-    let put_byte = c.before.before in
-    let put-decimal = put_byte.before.before.before.before in
-    let put_word = put-decimal.before.before.before.before in
-    let if1 = put_word.before.before.before in
-    let entry = if1.before.before in
-    let args = entry.args in
-    put_as (sym (comment-some (state_of args.kind args.comment) if1.if1.false))
-    (put_then put_word.put_word.ensures (put_then put-decimal.put-decimal.ensures put_byte.put_byte.ensures))))
+    let args = c.args in
+    put_as (sym (comment-some (state_of args.kind args.comment) c.if-comment-eq0.false))
+    (put_then c.put_word-open.ensures (put_then c.put_decimal-close.ensures c.put_byte.ensures))))

@@ -21,30 +21,21 @@ put_kind_spec =
     omega (arith, entry.requires, ap length (kind-open args.kind args.comment (omega arith) if1.if1.false)))
     (λ c. search rules)
     (λ c κs.
-    let entry = c.before.before.before.before in
-    let args = entry.args in
-    omega (arith, entry.requires, ap length (kind-closed args.kind args.comment (omega arith) (omega arith))))
+    let args = c.args in
+    omega (arith, c.requires, ap length (kind-closed args.kind args.comment (omega arith) (omega arith))))
     (λ c. search rules)
     (λ c κs.
-    let entry = c.before.before.before.before in
-    let args = entry.args in
-    omega (arith, entry.requires, ap length (kind-unknown args.kind args.comment (omega arith) (omega arith))))
+    let args = c.args in
+    omega (arith, c.requires, ap length (kind-unknown args.kind args.comment (omega arith) (omega arith))))
     (λ c. search rules)
     (λ c.
-    let put_word = c.before.before in
-    let if1 = put_word.before.before.before in
-    let entry = if1.before.before.before in
-    let args = entry.args in
-    put_as (kind-open args.kind args.comment (omega arith) if1.if1.false) put_word.put_word.ensures)
+    let args = c.args in
+    put_as (kind-open args.kind args.comment (omega arith) c.if-comment-eq0.false) c.put_word.ensures)
     (λ c. search rules)
     (λ c.
-    let put-word2 = c.before.before in
-    let entry = put-word2.before.before.before.before.before in
-    let args = entry.args in
-    put_as (kind-closed args.kind args.comment (omega arith) (omega arith)) put-word2.put-word2.ensures)
+    let args = c.args in
+    put_as (kind-closed args.kind args.comment (omega arith) (omega arith)) c.put_word-in-1.ensures)
     (λ c. search rules)
     (λ c.
-    let put-word3 = c.before.before in
-    let entry = put-word3.before.before.before.before.before in
-    let args = entry.args in
-    put_as (kind-unknown args.kind args.comment (omega arith) (omega arith)) put-word3.put-word3.ensures))
+    let args = c.args in
+    put_as (kind-unknown args.kind args.comment (omega arith) (omega arith)) c.put_word-in_default.ensures))

@@ -12,13 +12,11 @@ pub put_state_spec : {M : Type 1} → statement M
 put_state_spec =
     tie.close
     (tie.spec
-    (λ c κs. omega (arith, c.before.before.requires, state-long (state_of c.before.before.args.kind c.before.before.args.comment)))
+    (λ c κs. omega (arith, c.requires, state-long (state_of c.args.kind c.args.comment)))
     (λ c κs.
-    let put-kind = c.before.before.before in
-    let entry = put-kind.before.before.before in
-    let args = entry.args in
-    omega (arith, entry.requires, state-long (state_of args.kind args.comment), put-kind.put-kind.ensures.ends))
+    let args = c.args in
+    omega (arith, c.requires, state-long (state_of args.kind args.comment), c.put_kind-next.ensures.ends))
     (λ c. search rules)
     (λ c.
     put_as (sym (state-text _))
-    (put_then c.before.before.before.before.before.before.put-kind.ensures c.before.before.put-comment.ensures)))
+    (put_then c.put_kind-next.ensures c.put_comment.ensures)))

@@ -8,9 +8,8 @@ use Rattle.item_writer.proofs.day.put_weekdays.Tie as tie
 
 put-three-requires : tie.Need-put_three-requires
 put-three-requires c κs =
-    let entry = c.before.before.before in
-    let args = entry.args in
-    let pre = entry.requires in
+    let args = c.args in
+    let pre = c.requires in
     let made = c.joined.ensures in (
       ((omega arith, omega (arith, pre.0, made)), (omega arith, omega arith), (omega arith, omega arith), omega arith),
       room_as (days-joined args.start args.end pre.0.0 pre.0.1 _ made) pre.1,
@@ -18,12 +17,9 @@ put-three-requires c κs =
 
 returns : tie.Need-returns
 returns c =
-    let put_three = c.before.before in
-    let joined = put_three.before in
-    let entry = joined.before.before.before in
-    let args = entry.args in
-    let pre = entry.requires.0 in
-    wrote_as (days-joined args.start args.end pre.0 pre.1 _ joined.joined.ensures) put_three.put_three.ensures
+    let args = c.args in
+    let pre = c.requires.0 in
+    wrote_as (days-joined args.start args.end pre.0 pre.1 _ c.joined.ensures) c.put_three.ensures
 
 pub put_weekdays_spec : {M : Type 1} → statement M
 put_weekdays_spec =

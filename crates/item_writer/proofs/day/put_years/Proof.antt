@@ -9,13 +9,12 @@ use Rattle.item_writer.proofs.day.put_years.Tie as tie
 put-three-requires : tie.Need-put_three-requires
 unfolding year_range via ◌then◌ field
 put-three-requires c κs =
-    let entry = c.before.before in
-    let pre = entry.requires in
+    let pre = c.requires in
     (((omega arith, omega (arith, pre.0)), (omega arith, omega (arith, pre.0)), (omega arith, omega arith), omega arith), pre.1)
 
 returns : tie.Need-returns
 unfolding year_range via ◌then◌ field
-returns c = c.before.before.put_three.ensures
+returns c = c.put_three.ensures
 
 pub put_years_spec : {M : Type 1} → statement M
 put_years_spec = tie.close (tie.spec put-three-requires (λ c. search rules) returns)

@@ -10,27 +10,23 @@ use Rattle.item_writer.proofs.put.put_three.Statement.{statement}
 use Rattle.item_writer.proofs.put.put_three.Tie as tie
 
 joined-requires : tie.Need-joined-requires
-joined-requires c κs = let fits = c.before.before.requires.0 in joinable _ _ _ _ fits.1 fits.2 (omega (arith, fits.3))
+joined-requires c κs = let fits = c.requires.0 in joinable _ _ _ _ fits.1 fits.2 (omega (arith, fits.3))
 
 put-two-requires : tie.Need-put_two-requires
 put-two-requires c κs =
-    let entry = c.before.before.before in
-    let args = entry.args in
-    let fits = entry.requires.0 in
+    let args = c.args in
+    let fits = c.requires.0 in
     let made = c.joined.ensures in (
       (fits.0, joined-fits _ _ _ _ fits.1 fits.2 (omega (arith, fits.3)) _ made, omega (arith, fits.3)),
-      room_as (ap (bits args.width args.value ++◌) (joined-bits _ _ _ _ fits.1 fits.2 (omega (arith, fits.3)) _ made)) entry.requires.1,
+      room_as (ap (bits args.width args.value ++◌) (joined-bits _ _ _ _ fits.1 fits.2 (omega (arith, fits.3)) _ made)) c.requires.1,
     )
 
 returns : tie.Need-returns
 returns c =
-    let put_two = c.before.before in
-    let joined = put_two.before in
-    let entry = joined.before.before.before in
-    let args = entry.args in
-    let fits = entry.requires.0 in
-    wrote_as (ap (bits args.width args.value ++◌) (joined-bits _ _ _ _ fits.1 fits.2 (omega (arith, fits.3)) _ joined.joined.ensures))
-    put_two.put_two.ensures
+    let args = c.args in
+    let fits = c.requires.0 in
+    wrote_as (ap (bits args.width args.value ++◌) (joined-bits _ _ _ _ fits.1 fits.2 (omega (arith, fits.3)) _ c.joined.ensures))
+    c.put_two.ensures
 
 pub put_three_spec : {M : Type 1} → statement M
 put_three_spec = tie.close (tie.spec (λ c. search rules) joined-requires put-two-requires (λ c. search rules) returns)

@@ -8,31 +8,23 @@ use Rattle.item_writer.proofs.time.put_repeats.Tie as tie
 
 put-requires : tie.Need-put-requires
 put-requires c κs =
-    let entry = c.before.before.before in
-    ((omega arith, omega arith), room_as (no-repeats entry.args.number c.before.if-number-eq0.true) entry.requires.1)
+    ((omega arith, omega arith), room_as (no-repeats c.args.number c.if-number-eq0.true) c.requires.1)
 
 returns : tie.Need-returns-then-number-eq0
 returns c =
-    let put = c.before.before in
-    let if1 = put.before.before in
-    let entry = if1.before.before in
-    wrote_as (no-repeats entry.args.number if1.if-number-eq0.true) put.put.ensures
+    wrote_as (no-repeats c.args.number c.if-number-eq0.true) c.put.ensures
 
 put-two-requires : tie.Need-put_two-requires
 put-two-requires c κs =
-    let entry = c.before.before.before in
-    let some = c.before.if-number-eq0.false in
-    let number = entry.args.number in (
-      ((omega arith, omega arith), (omega arith, repeats-low number some entry.requires.0), omega arith),
-      room_as (repeats-bits number some) entry.requires.1,
+    let some = c.if-number-eq0.false in
+    let number = c.args.number in (
+      ((omega arith, omega arith), (omega arith, repeats-low number some c.requires.0), omega arith),
+      room_as (repeats-bits number some) c.requires.1,
     )
 
 returns-2 : tie.Need-returns
 returns-2 c =
-    let put_two = c.before.before in
-    let if1 = put_two.before.before in
-    let entry = if1.before.before in
-    wrote_as (repeats-bits entry.args.number if1.if-number-eq0.false) put_two.put_two.ensures
+    wrote_as (repeats-bits c.args.number c.if-number-eq0.false) c.put_two.ensures
 
 pub put_repeats_spec : {M : Type 1} → statement M
 put_repeats_spec =

@@ -9,23 +9,17 @@ use Rattle.item_writer.proofs.time.put_simple_span.Tie as tie
 
 put-three-requires : tie.Need-put_three-requires
 put-three-requires c κs =
-    let start_of_lem = c.before in
-    let entry = start_of_lem.before.before.before in
-    let number = entry.args.number in
-    let starts = start_of_lem.start_of_lem.ensures in
-    let ends = c.end_of_lem.ensures in
-    let within = simple-bounds number entry.requires.0 in (
+    let number = c.args.number in
+    let starts = c.start_of.ensures in
+    let ends = c.end_of.ensures in
+    let within = simple-bounds number c.requires.0 in (
       ((omega arith, omega (arith, within, starts)), (omega arith, omega (arith, within, ends)), (omega arith, omega arith), omega arith),
-      room_as (simple-bits number _ _ starts ends entry.requires.0) entry.requires.1,
+      room_as (simple-bits number _ _ starts ends c.requires.0) c.requires.1,
     )
 
 returns : tie.Need-returns
 returns c =
-    let put_three = c.before.before in
-    let end_of_lem = put_three.before in
-    let start_of_lem = end_of_lem.before in
-    let entry = start_of_lem.before.before.before in
-    wrote_as (simple-bits entry.args.number _ _ start_of_lem.start_of_lem.ensures end_of_lem.end_of_lem.ensures entry.requires.0) put_three.put_three.ensures
+    wrote_as (simple-bits c.args.number _ _ c.start_of.ensures c.end_of.ensures c.requires.0) c.put_three.ensures
 
 pub put_simple_span_spec : {M : Type 1} → statement M
 put_simple_span_spec =

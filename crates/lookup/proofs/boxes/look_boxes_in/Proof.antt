@@ -18,7 +18,7 @@ draw-rules-requires c κs =
 returns : tie.Need-returns
 returns c =
     let drawing = c.before.before.before.before.before.before.before.before.before.before.before in λ rs given.
-    let told = drawing.draw-rules.ensures _ (given.to-draw.drawable, given.to-draw.passed.apart) in
+    let told = drawing.draw_rules.ensures _ (given.to-draw.drawable, given.to-draw.passed.apart) in
     let held = listing-held _ _ _ _ _ _ _ told _ c.before.before.before.listed2.given.1 in
     left-refused rs _ _ _ given.to-draw.passed.apart (boxes-few _ _ _ _ _ _ _ _ _ _ given.to-draw) held.0
     (omega (arith, c.before.if1.true, given.counted, given.to-draw.times.all-states)) c.lookup-refused2.ensures
@@ -28,20 +28,20 @@ look-requires c κs =
     let drawing = c.before.before.before.before.before.before.before.before.before.before.before.before in
     let pre = drawing.before.before.before.before.before.before.before.before.before.before.before.before.before.before.before.before.requires in
     let given = pre.0.1.to-draw in
-    let held = listing-held _ _ _ _ _ _ _ (drawing.draw-rules.ensures _ (given.drawable, given.passed.apart)) _ c.before.before.before.before.listed2.given.1 in
+    let held = listing-held _ _ _ _ _ _ _ (drawing.draw_rules.ensures _ (given.drawable, given.passed.apart)) _ c.before.before.before.before.listed2.given.1 in
     ((_, _, given.times, held.1), pre.1.0)
 
 returns-2 : tie.Need-returns-2
 returns-2 c =
     let drawing = c.before.before.before.before.before.before.before.before.before.before in λ rs given.
-    let told = drawing.draw-rules.ensures _ (given.to-draw.drawable, given.to-draw.passed.apart) in
+    let told = drawing.draw_rules.ensures _ (given.to-draw.drawable, given.to-draw.passed.apart) in
     list-refused rs _ _ _ given.to-draw.passed.apart (boxes-few _ _ _ _ _ _ _ _ _ _ given.to-draw) _ _
-    (listing-refused _ _ _ _ _ _ _ told _ _ c.before.before.listed.given.1) c.lookup-refused.ensures
+    (listing-refused _ _ _ _ _ _ _ told _ _ c.before.before.listed.given.1) c.lookup_refused.ensures
 
 returns-3 : tie.Need-returns-3
 returns-3 c =
     let drawing = c.before.before.before.before.before.before.before.before.before.before.before.before.before.before in λ rs given.
-    let told = drawing.draw-rules.ensures _ (given.to-draw.drawable, given.to-draw.passed.apart) in
+    let told = drawing.draw_rules.ensures _ (given.to-draw.drawable, given.to-draw.passed.apart) in
     let held = listing-held _ _ _ _ _ _ _ told _ c.before.before.before.before.before.before.listed2.given.1 in
     state-found rs _ _ _ given.to-draw.passed.apart (boxes-few _ _ _ _ _ _ _ _ _ _ given.to-draw) held.0
     (omega (arith, c.before.before.before.before.if1.false, given.counted, given.to-draw.times.all-states))

@@ -22,22 +22,22 @@ start c = c.before.before.before.before.before.before.before.before.before.befor
 
 -- neither 6 nor 14 is met
 none-met : (c : tie.Else1) → let a = (start c).args in (rs : List Rule)
-    → Lookable a.states.now a.span_counts.now a.spans.now a.replacing.now a.range-counts.now a.ranges.now a.row-starts.now a.sizes.now a.cuts.now a.rules-left rs
+    → Lookable a.states.now a.span_counts.now a.spans.now a.replacing.now a.range_counts.now a.ranges.now a.row_starts.now a.sizes.now a.cuts.now a.rules_left rs
     → first_refused sheet_limits (drained rs) ≡ none
-none-met c rs given = c.before.few-lists.ensures (not-false _ c.if1.left) _ (lookable-days _ _ _ _ _ _ _ _ _ _ rs given)
+none-met c rs given = c.before.few_lists.ensures (not-false _ c.if1.left) _ (lookable-days _ _ _ _ _ _ _ _ _ _ rs given)
 
 returns-2 : tie.Need-returns-2
 returns-2 c =
     let few = c.before.before in λ rs given.
     left-refused rs _ _ _ given.to-draw.passed.apart (boxes-few _ _ _ _ _ _ _ _ _ _ given.to-draw) (none-met few rs given)
-    (omega (arith, c.before.if2.taken, given.counted, given.to-draw.times.all-states)) c.lookup-refused.ensures
+    (omega (arith, c.before.if2.taken, given.counted, given.to-draw.times.all-states)) c.lookup_refused.ensures
 
 returns-3 : tie.Need-returns-3
 returns-3 c =
     let few = c.before.before.before in λ rs given.
     state-found rs _ _ _ given.to-draw.passed.apart (boxes-few _ _ _ _ _ _ _ _ _ _ given.to-draw) (none-met few rs given)
     (omega (arith, c.before.before.if2.left, given.counted, given.to-draw.times.all-states))
-    (c.Numbers-of.ensures ∙ c.before.point-state.ensures _ (lookable-rules _ _ _ _ _ _ _ _ _ _ rs given))
+    (c.Numbers-of.ensures ∙ c.before.point_state.ensures _ (lookable-rules _ _ _ _ _ _ _ _ _ _ rs given))
 
 pub look-drained-spec : {M : Type 1} → statement M
 look-drained-spec =

@@ -76,21 +76,21 @@ pub +fold-boxes-spec : {M : Type 1} → statement M
     let wanted = c.before.before in
     let sized = wanted.before.before.before in
     let pre = sized.before.before.before.before.before.before.before.before.before.before.before.before.requires in
-    (pre.1.0, omega (arith, c.before.if4.true, wanted.buffers-for.ensures, sized.type_size.ensures)))
+    (pre.1.0, omega (arith, c.before.if4.true, wanted.buffers_for.ensures, sized.type_size.ensures)))
     (λ c. search rules)
     (λ c. search rules)
     (λ c κs.
     let wanted = c.before.before.before in
     let sized = wanted.before.before.before in
     let pre = sized.before.before.before.before.before.before.before.before.before.before.before.before.requires in
-    (pre.1.0, omega (arith, c.before.if5.true, wanted.buffers-for.ensures, sized.type_size.ensures)))
+    (pre.1.0, omega (arith, c.before.if5.true, wanted.buffers_for.ensures, sized.type_size.ensures)))
     (λ c. search rules)
     (λ c. search rules)
     (λ c κs.
     let wanted = c.before.before.before.before in
     let sized = wanted.before.before.before in
     let pre = sized.before.before.before.before.before.before.before.before.before.before.before.before.requires in
-    (pre.1.0, omega (arith, c.before.if6.true, wanted.buffers-for.ensures, sized.type_size.ensures)))
+    (pre.1.0, omega (arith, c.before.if6.true, wanted.buffers_for.ensures, sized.type_size.ensures)))
     (λ c. search rules)
     (λ c. search rules)
     (λ c κs. c.before.before.before.before.before.before.before.before.before.before.before.before.before.before.before.before.before.before.before.requires.1.0)

@@ -18,7 +18,7 @@ returns c =
     let entry = refused told in
     let given = entry.pre.1 in
     list-refused _ entry.args.sheet.now entry.args.out.now _ _ _ given.read given.apart given.few-boxes _ _
-    (paved-refused _ _ _ _ _ _ _ given.paves _ _ told.before.paved.given.1) c.fold-refused.ensures
+    (paved-refused _ _ _ _ _ _ _ given.paves _ _ told.before.paved.given.1) c.fold_refused.ensures
 
 emit-requires : tie.Need-emit-requires
 emit-requires c κs =

@@ -20,5 +20,5 @@ all_short_spec =
     tie.close
     (tie.spec invariant-loop decreases-loop (λ c. (omega arith, λ i l. absurd (omega arith))) (λ c. search rules) (λ c. search rules) (λ c. search rules)
     (λ c e. absurd (true≢false (sym e))) (λ c. search rules) (λ c. search rules)
-    (λ c. (omega arith, below_more _ _ c.before.before.before.loop.invariant.1 (omega (arith, c.if1.false))))
-    (λ c e i l. c.before.loop.invariant.1 i (omega (arith, c.loop-test.false))))
+    (λ c. (omega arith, below_more _ _ c.loop-place.invariant.1 (omega (arith, c.if-lists-place-gt4.false))))
+    (λ c e i l. c.loop-place.invariant.1 i (omega (arith, c.loop-place-test.false))))

@@ -27,38 +27,34 @@ module _ (c : tie.In-loop invariant-loop decreases-loop) where
       PageReady given.0 given.1 given.2 given.3 entry.args.lists.now entry.args.pages.now day_room c.before.loop.here
   here-ready = let given = entry.pre in next-ready c.before.loop.invariant c.loop-test.true given.4
 
-named : (c : tie.After-u16-to-usize invariant-loop decreases-loop) → c.u16-to-usize.result - 1 ≡ get_or (entry c.before.before).args.pages.now c.before.before.before.loop.here 0 - 1
-named c = ap (◌- 1) c.u16-to-usize.ensures.0
+named : (c : tie.After-u16-to-usize invariant-loop decreases-loop) → c.u16_to_usize.result - 1 ≡ get_or (entry c.before.before).args.pages.now c.before.before.before.loop.here 0 - 1
+named c = ap (◌- 1) c.u16_to_usize.ensures.0
 
-inside : (c : tie.After-u16-to-usize invariant-loop decreases-loop) → (c.u16-to-usize.result - 1) * list_places + list_places ≤ length (entry c.before.before).args.lists.now
+inside : (c : tie.After-u16-to-usize invariant-loop decreases-loop) → (c.u16_to_usize.result - 1) * list_places + list_places ≤ length (entry c.before.before).args.lists.now
 inside c = omega (arith, named c, (here-ready c.before.before).ready.there)
 
 loop-again : tie.Need-loop-pages_left-preserved invariant-loop decreases-loop
 loop-again c =
-    let cast = c.before.before.before in
-    let tested = cast.before.before in
-    one-passed tested.before.loop-pages_left.invariant tested.loop-pages_left-test.true
-    (rw (sym (named cast)) (omega (arith, c.before.if-lists-place-gt4.false))) _ c.page_size-here.ensures
+    one-passed c.loop-pages_left.invariant c.loop-pages_left-test.true
+    (rw (sym (named c)) (omega (arith, c.if-lists-place-gt4.false))) _ c.page_size-here.ensures
 
 pub all_short_spec : {M : Type 1} → statement M
 all_short_spec =
     tie.close
     (tie.spec invariant-loop decreases-loop (λ c. none_passed _ _ _)
-    (λ c. omega (arith, (here-ready c).inside, (entry c).well-formed))
-    (λ c. let tested = c.before in omega (arith, (here-ready tested).inside, size_low (entry tested).args.pages.now tested.before.loop.here))
+    (λ c. omega (arith, (here-ready c).inside, (entry c).well_formed))
+    (λ c. omega (arith, (here-ready c).inside, size_low (entry c).args.pages.now c.loop-pages_left.here))
     (λ c κs. search rules)
-    (λ c. omega (arith, (here-ready c.before.before).numbered, c.u16-to-usize.ensures.0))
-    (λ c. omega (arith, inside c, (entry c.before.before).good))
-    (λ c. omega (arith, inside c, (entry c.before.before).good))
-    (λ c. omega (arith, inside c.before))
+    (λ c. omega (arith, (here-ready c).numbered, c.u16_to_usize-place.ensures.0))
+    (λ c. omega (arith, inside c, (entry c).good))
+    (λ c. omega (arith, inside c, (entry c).good))
+    (λ c. omega (arith, inside c))
     (λ c e. absurd (true≢false (sym e)))
     (λ c κs.
-    let tested = c.before.before.before.before in
-    omega (arith, (here-ready tested).inside, size_low (entry tested).args.pages.now tested.before.loop.here))
+    omega (arith, (here-ready c).inside, size_low (entry c).args.pages.now c.loop-pages_left.here))
     (λ c.
-    let tested = c.before.before.before.before.before in
-    omega (arith, (here-ready tested).inside, c.page-size.ensures, (entry tested).well-formed))
-    (λ c. omega (arith, c.before.before.before.before.before.loop-test.true))
-    (λ c. omega (arith, c.before.before.before.before.before.loop-test.true))
+    omega (arith, (here-ready c).inside, c.page_size-here.ensures, (entry c).well_formed))
+    (λ c. omega (arith, c.loop-pages_left-test.true))
+    (λ c. omega (arith, c.loop-pages_left-test.true))
     loop-again
-    (λ c e form states counts spans p. all-passed c.before.loop.invariant (omega (arith, c.loop-test.false)) form states counts spans p))
+    (λ c e form states counts spans p. all-passed c.loop-pages_left.invariant (omega (arith, c.loop-pages_left-test.false)) form states counts spans p))

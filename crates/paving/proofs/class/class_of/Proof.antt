@@ -11,5 +11,5 @@ class_of_spec =
     tie.close
     (tie.spec
     (λ c κs. search rules) (λ c. search rules)
-    (λ c. rw c.before.before.u16-to-usize.ensures.0)
-    (λ c. sym (get_or-eq_default c.before.before.before.args.classes.now 0 (omega (arith, c.if1.false, c.before.u16-to-usize.ensures.0)))))
+    (λ c. rw c.u16_to_usize-k.ensures.0)
+    (λ c. sym (get_or-eq_default c.args.classes.now 0 (omega (arith, c.if-k-classes.false, c.u16_to_usize-k.ensures.0)))))

@@ -9,5 +9,5 @@ in_class_spec =
     tie.close
     (tie.spec
     (λ c κs. search rules) (λ c κs. search rules)
-    (λ c. below-class _ _ _ _ _ c.before.before.class_of.ensures c.before.lowest-class.ensures c.if1.true)
-    (λ c. from-class _ _ _ _ _ c.before.before.class_of.ensures c.before.lowest-class.ensures c.if1.false))
+    (λ c. below-class _ _ _ _ _ c.class_of-own.ensures c.lowest_class.ensures c.if-own-lowest_class.true)
+    (λ c. from-class _ _ _ _ _ c.class_of-own.ensures c.lowest_class.ensures c.if-own-lowest_class.false))

@@ -16,20 +16,17 @@ decreases-loop sizes left size₀ dimension₀ size dimension = left - dimension
 
 mul-size : tie.Need-overflow_mul-size invariant-loop decreases-loop
 mul-size c =
-    let turn = c.before.before in
-    let loop = turn.before in
-    let start = loop.before.before in
-    let pre = start.requires in
-    omega (arith, size_fits _ _ _ _ _ pre.1 turn.loop-dimension-test.true loop.loop-dimension.invariant.1 c.u16_to_usize-size.ensures.0, pre.2)
+    let pre = c.requires in
+    omega (arith, size_fits _ _ _ _ _ pre.1 c.loop-dimension-test.true c.loop-dimension.invariant.1 c.u16_to_usize-size.ensures.0, pre.2)
 
 loop-again : tie.Need-loop-dimension-preserved invariant-loop decreases-loop
-loop-again c = (omega arith, size-next _ _ _ _ c.before.before.before.loop-dimension.invariant.1 c.u16_to_usize-size.ensures.0)
+loop-again c = (omega arith, size-next _ _ _ _ c.loop-dimension.invariant.1 c.u16_to_usize-size.ensures.0)
 
 returns : tie.Need-returns invariant-loop decreases-loop
 returns c =
-    let args = c.before.before.before.args in
-    let all : c.before.loop-dimension.dimension ≡ args.dims-left = omega arith in
-    c.before.loop-dimension.invariant.1 ∙ ap (size_of args.sizes.now) all
+    let args = c.args in
+    let all : c.loop-dimension.dimension ≡ args.dims_left = omega arith in
+    c.loop-dimension.invariant.1 ∙ ap (size_of args.sizes.now) all
 
 pub size_of_spec : {M : Type 1} → statement M
 size_of_spec =

@@ -16,17 +16,17 @@ decreases-loop cells classes class first end at₀ at = end - at
 
 returns : tie.Need-returns-then-in_class invariant-loop decreases-loop
 returns c =
-    let i = c.before.before.before.before.loop-at.invariant in
-    (i.0, i.1, i.2, λ h. sym c.before.in_class.ensures ∙ c.if-in_class.true)
+    let i = c.loop-at.invariant in
+    (i.0, i.1, i.2, λ h. sym c.in_class.ensures ∙ c.if-in_class.true)
 
 loop-again : tie.Need-loop-at-preserved invariant-loop decreases-loop
 loop-again c =
-    let i = c.before.before.before.before.loop-at.invariant in
-    (omega (arith, i.0), omega arith, none_more _ _ _ _ _ i.2 c.before.in_class.ensures c.if-in_class.false)
+    let i = c.loop-at.invariant in
+    (omega (arith, i.0), omega arith, none_more _ _ _ _ _ i.2 c.in_class.ensures c.if-in_class.false)
 
 returns-2 : tie.Need-returns invariant-loop decreases-loop
 returns-2 c =
-    let i = c.before.loop-at.invariant in
+    let i = c.loop-at.invariant in
     (i.0, i.1, i.2, λ h. absurd (omega arith))
 
 pub next_cell_spec : {M : Type 1} → statement M

@@ -18,44 +18,36 @@ decreases-loop cells₀ sizes marks boxes box₀ cells box = boxes - box
 
 size-of-requires : tie.Need-size_of-boxes-requires invariant-loop decreases-loop
 size-of-requires c κs =
-    let start = c.before.before.before in
-    let room = start.requires in
-    (room.column.dims, room.column.filled, omega (arith, room-size _ _ _ _ _ _ room, start.well-formed))
+    let room = c.requires in
+    (room.column.dims, room.column.filled, omega (arith, room-size _ _ _ _ _ _ room, c.well_formed))
 
 is-marked-requires : tie.Need-is_marked-requires invariant-loop decreases-loop
 is-marked-requires c κs =
-    let start = c.before.before.before.before.before.before in
-    let room = start.requires in
-    ((room.column.dims, room.column.filled, omega (arith, room-size _ _ _ _ _ _ room, start.well-formed)), room.marked)
+    let room = c.requires in
+    ((room.column.dims, room.column.filled, omega (arith, room-size _ _ _ _ _ _ room, c.well_formed)), room.marked)
 
 slice-write-cells : tie.Need-bounds-cells-box_index invariant-loop decreases-loop
 slice-write-cells c =
-    let loop = c.before.before.before in
-    let start = loop.before.before.before.before.before in
-    omega (arith, room-size _ _ _ _ _ _ start.requires, loop.before.type_size.ensures, loop.loop-box_index.invariant.1, c.before.before.loop-box_index-test.true)
+    omega (arith, room-size _ _ _ _ _ _ c.requires, c.type_size.ensures, c.loop-box_index.invariant.1, c.loop-box_index-test.true)
 
 loop-again : tie.Need-loop-box_index-preserved invariant-loop decreases-loop
 loop-again c =
-    let loop = c.before.before.before in
-    let start = loop.before.before.before.before.before in
-    let inv = loop.loop-box_index.invariant in
-    let on = c.before.before.loop-box_index-test.true in
-    let marked = c.before.is_marked.ensures in
-    let cell : loop.loop-box_index.box-index < length loop.loop-box_index.cells = omega (arith, room-size _ _ _ _ _ _ start.requires, loop.before.type_size.ensures, inv.1, on) in
+    let inv = c.loop-box_index.invariant in
+    let on = c.loop-box_index-test.true in
+    let marked = c.is_marked.ensures in
+    let cell : c.loop-box_index.box_index < length c.loop-box_index.cells = omega (arith, room-size _ _ _ _ _ _ c.requires, c.type_size.ensures, inv.1, on) in
     ⊎_elim
     (λ w. (omega (arith, on), ap length w.1 ∙ simp length-set inv.1, emptied-in _ _ _ _ _ _ _ _ inv.2 marked w.0.taken cell w.1))
     (λ w. (omega (arith, on), ap length w.1 ∙ inv.1, emptied-out _ _ _ _ _ _ _ _ inv.2 marked w.0.left w.1)) c.if-is_marked.branch
 
 returns : tie.Need-returns invariant-loop decreases-loop
 returns c =
-    let loop = c.before in
-    let start = loop.before.before.before.before.before in
-    let sized = loop.before.type_size.ensures in
-    emptied-end _ _ _ _ _ _ start.requires.column.filled (omega (arith, sized, c.loop-box_index-test.false, loop.loop-box_index.invariant.0)) loop.loop-box_index.invariant.2
+    let sized = c.type_size.ensures in
+    emptied-end _ _ _ _ _ _ c.requires.column.filled (omega (arith, sized, c.loop-box_index-test.false, c.loop-box_index.invariant.0)) c.loop-box_index.invariant.2
 
 pub empty_group_spec : {M : Type 1} → statement M
 empty_group_spec =
     tie.close
     (tie.spec invariant-loop decreases-loop size-of-requires (λ c. (omega arith, refl, emptied-begin _ _ _ _)) is-marked-requires
-    (λ c. search rules) slice-write-cells (λ c. omega (arith, c.before.before.loop-test.true)) (λ c. omega (arith, c.before.before.loop-test.true)) loop-again
-    (λ c. c.before.loop.invariant.1) returns)
+    (λ c. search rules) slice-write-cells (λ c. omega (arith, c.loop-box_index-test.true)) (λ c. omega (arith, c.loop-box_index-test.true)) loop-again
+    (λ c. c.loop-box_index.invariant.1) returns)

@@ -19,51 +19,40 @@ decreases-loop cells sizes marks value left block base size box₀ end box = end
 
 size-of-requires : tie.Need-size_of-size-requires invariant-loop decreases-loop
 size-of-requires c κs =
-    let start = c.before.before.before in
-    let room = start.requires in
-    (room.column.dims, room.column.filled, omega (arith, room-size _ _ _ _ _ _ room, start.well-formed))
+    let room = c.requires in
+    (room.column.dims, room.column.filled, omega (arith, room-size _ _ _ _ _ _ room, c.well_formed))
 
 add-end : tie.Need-overflow_add-end invariant-loop decreases-loop
 add-end c =
-    let start = c.before.before.before.before in
-    let a = start.args in
-    omega (arith, block-fits (length a.cells.now) a.sizes.now a.dims-left a.block c.type_size.result c.type_size.ensures start.requires.column, start.well-formed)
+    let a = c.args in
+    omega (arith, block-fits (length a.cells.now) a.sizes.now a.dims_left a.block c.type_size.result c.type_size.ensures c.requires.column, c.well_formed)
 
 mul-if1 : tie.Need-offset_bounds-cells-box_index invariant-loop decreases-loop
 mul-if1 c =
-    let sized = c.before.before in
-    let start = sized.before.before.before.before in
-    let a = start.args in
-    let fits = block-fits (length a.cells.now) a.sizes.now a.dims-left a.block sized.type_size.result sized.type_size.ensures start.requires.column in
-    omega (arith, fits, c.loop-box_index-test.true, start.well-formed)
+    let a = c.args in
+    let fits = block-fits (length a.cells.now) a.sizes.now a.dims_left a.block c.type_size.result c.type_size.ensures c.requires.column in
+    omega (arith, fits, c.loop-box_index-test.true, c.well_formed)
 
 shared-slice-read-if1 : tie.Need-bounds-cells-box_index invariant-loop decreases-loop
 shared-slice-read-if1 c =
-    let sized = c.before.before.before in
-    let start = sized.before.before.before.before in
-    let a = start.args in
-    let fits = block-fits (length a.cells.now) a.sizes.now a.dims-left a.block sized.type_size.result sized.type_size.ensures start.requires.column in
-    omega (arith, fits, c.before.loop-box_index-test.true)
+    let a = c.args in
+    let fits = block-fits (length a.cells.now) a.sizes.now a.dims_left a.block c.type_size.result c.type_size.ensures c.requires.column in
+    omega (arith, fits, c.loop-box_index-test.true)
 
 is-marked-requires : tie.Need-is_marked-requires invariant-loop decreases-loop
 is-marked-requires c κs =
-    let start = c.before.before.before.before.before.before.before.before in
-    let room = start.requires in
-    ((room.column.dims, room.column.filled, omega (arith, room-size _ _ _ _ _ _ room, start.well-formed)), room.marked)
+    let room = c.requires in
+    ((room.column.dims, room.column.filled, omega (arith, room-size _ _ _ _ _ _ room, c.well_formed)), room.marked)
 
 returns : tie.Need-returns-then-is_marked invariant-loop decreases-loop
 returns c =
-    let loop = c.before.before.before.before.before in
-    let sized = loop.before in
-    let start = sized.before.before.before.before in
-    good-no _ _ _ _ _ _ start.requires.column.filled _ _ sized.type_size.ensures _ _ loop.loop-box_index.invariant.0 (omega (arith, c.before.before.before.before.loop-box_index-test.true))
-    c.before.is_marked.ensures c.if-is_marked.true c.before.before.if-cells-box_index.true
+    good-no _ _ _ _ _ _ c.requires.column.filled _ _ c.type_size.ensures _ _ c.loop-box_index.invariant.0 (omega (arith, c.loop-box_index-test.true))
+    c.is_marked.ensures c.if-is_marked.true c.if-cells-box_index.true
 
 loop-again : tie.Need-loop-box_index-preserved invariant-loop decreases-loop
 loop-again c =
-    let loop = c.before.before.before in
-    let inv = loop.loop-box_index.invariant in
-    let on = c.before.before.loop-box_index-test.true in (
+    let inv = c.loop-box_index.invariant in
+    let on = c.loop-box_index-test.true in (
       omega (arith, inv.0),
       omega (arith, on),
       are-more _ _ _ _ _ _ _ _ inv.2
@@ -72,14 +61,11 @@ loop-again c =
 
 returns-2 : tie.Need-returns invariant-loop decreases-loop
 returns-2 c =
-    let loop = c.before in
-    let sized = loop.before in
-    let start = sized.before.before.before.before in
-    good-end _ _ _ _ _ _ start.requires.column.filled _ _ sized.type_size.ensures _ (omega (arith, c.loop-box_index-test.false)) loop.loop-box_index.invariant.2
+    good-end _ _ _ _ _ _ c.requires.column.filled _ _ c.type_size.ensures _ (omega (arith, c.loop-box_index-test.false)) c.loop-box_index.invariant.2
 
 pub is_good_spec : {M : Type 1} → statement M
 is_good_spec =
     tie.close
     (tie.spec invariant-loop decreases-loop size-of-requires (λ c. omega (arith, add-end c)) add-end (λ c. (omega arith, omega arith, are-begin _ _ _ _ _ _ _))
-    mul-if1 shared-slice-read-if1 is-marked-requires returns (λ c. omega (arith, add-end c.before.before.before.before, c.before.before.loop-test.true))
-    (λ c. omega (arith, c.before.before.loop-test.true)) loop-again returns-2)
+    mul-if1 shared-slice-read-if1 is-marked-requires returns (λ c. omega (arith, add-end c, c.loop-box_index-test.true))
+    (λ c. omega (arith, c.loop-box_index-test.true)) loop-again returns-2)

@@ -22,72 +22,59 @@ decreases-loop sizes marks box left base dimension₀ place₀ dimension place =
 
 digit-requires : tie.Need-digit-requires invariant-loop decreases-loop
 digit-requires c κs =
-    let loop = c.before in
-    let start = loop.before.before.before in
-    let i = loop.loop-dimension.dimension - 1 in
-    let pre = start.requires.0 in (
-      omega (arith, pre.0, loop.loop-dimension.invariant.0, c.loop-dimension-test.true),
-      (λ k le. pre.1 k (omega (arith, loop.loop-dimension.invariant.0, c.loop-dimension-test.true))),
-      omega (arith, size-le start.args.sizes.now i start.args.dims-left pre.1 (omega (arith, loop.loop-dimension.invariant.0)), pre.2),
+    let i = c.loop-dimension.dimension - 1 in
+    let pre = c.requires.0 in (
+      omega (arith, pre.0, c.loop-dimension.invariant.0, c.loop-dimension-test.true),
+      (λ k le. pre.1 k (omega (arith, c.loop-dimension.invariant.0, c.loop-dimension-test.true))),
+      omega (arith, size-le c.args.sizes.now i c.args.dims_left pre.1 (omega (arith, c.loop-dimension.invariant.0)), pre.2),
     )
 
 add-if1 : tie.Need-overflow_add-place invariant-loop decreases-loop
 add-if1 c =
-    let loop = c.before.before in
-    let start = loop.before.before.before in
-    let l = loop.loop-dimension.dimension in
-    let on = c.before.loop-dimension-test.true in
-    let some = start.requires.0.1 (l - 1) (omega (arith, loop.loop-dimension.invariant.0, on)) in
-    let room : loop.loop-dimension.place + width_of start.args.sizes.now l ≤ length start.args.marks.now = omega (arith, loop.loop-dimension.invariant.1, start.requires.1) in
-    omega (arith, mark-there _ start.args.marks.now _ (l - 1) l _ _ (omega (arith, on)) some c.digit.ensures _ room, start.well-formed)
+    let l = c.loop-dimension.dimension in
+    let on = c.loop-dimension-test.true in
+    let some = c.requires.0.1 (l - 1) (omega (arith, c.loop-dimension.invariant.0, on)) in
+    let room : c.loop-dimension.place + width_of c.args.sizes.now l ≤ length c.args.marks.now = omega (arith, c.loop-dimension.invariant.1, c.requires.1) in
+    omega (arith, mark-there _ c.args.marks.now _ (l - 1) l _ _ (omega (arith, on)) some c.digit.ensures _ room, c.well_formed)
 
 shared-slice-read-if1 : tie.Need-bounds-marks-place invariant-loop decreases-loop
 shared-slice-read-if1 c =
-    let loop = c.before.before.before in
-    let start = loop.before.before.before in
-    let l = loop.loop-dimension.dimension in
-    let on = c.before.before.loop-dimension-test.true in
-    let some = start.requires.0.1 (l - 1) (omega (arith, loop.loop-dimension.invariant.0, on)) in
-    mark-there _ start.args.marks.now _ (l - 1) l _ _ (omega (arith, on)) some c.before.digit.ensures _ (omega (arith, loop.loop-dimension.invariant.1, start.requires.1))
+    let l = c.loop-dimension.dimension in
+    let on = c.loop-dimension-test.true in
+    let some = c.requires.0.1 (l - 1) (omega (arith, c.loop-dimension.invariant.0, on)) in
+    mark-there _ c.args.marks.now _ (l - 1) l _ _ (omega (arith, on)) some c.digit.ensures _ (omega (arith, c.loop-dimension.invariant.1, c.requires.1))
 
 returns : tie.Need-returns-then-marks-place-ne1 invariant-loop decreases-loop
 returns c =
-    let loop = c.before.before.before.before in
-    let start = loop.before.before.before in
-    let on = c.before.before.before.loop-dimension-test.true in
-    let i = loop.loop-dimension.dimension - 1 in
-    let some = start.requires.0.1 i (omega (arith, loop.loop-dimension.invariant.0, on)) in
-    marked-out _ _ _ i _ _ _ (omega (arith, on)) some c.before.before.digit.ensures c.if-marks-place-ne1.true ∙ loop.loop-dimension.invariant.2
+    let on = c.loop-dimension-test.true in
+    let i = c.loop-dimension.dimension - 1 in
+    let some = c.requires.0.1 i (omega (arith, c.loop-dimension.invariant.0, on)) in
+    marked-out _ _ _ i _ _ _ (omega (arith, on)) some c.digit.ensures c.if-marks-place-ne1.true ∙ c.loop-dimension.invariant.2
 
 add-place : tie.Need-overflow_add-place invariant-loop decreases-loop
 add-place c =
-    let loop = c.before.before.before.before.before.before in
-    let start = loop.before.before.before in
-    let l = loop.loop.dimension in
-    let on = c.before.before.before.before.before.loop-test.true in
-    omega (arith, width-next start.args.sizes.now (l - 1) l (omega (arith, on)), c.u16-to-usize.ensures.0, loop.loop.invariant.1, start.requires.1, start.well-formed)
+    let l = c.loop.dimension in
+    let on = c.loop-dimension-test.true in
+    omega (arith, width-next c.args.sizes.now (l - 1) l (omega (arith, on)), c.u16_to_usize.ensures.0, c.loop.invariant.1, c.requires.1, c.well_formed)
 
 loop-again : tie.Need-loop-dimension-preserved invariant-loop decreases-loop
 loop-again c =
-    let loop = c.before.before.before.before.before.before in
-    let start = loop.before.before.before in
-    let l = loop.loop-dimension.dimension in
-    let on = c.before.before.before.before.before.loop-dimension-test.true in
-    let some = start.requires.0.1 (l - 1) (omega (arith, loop.loop-dimension.invariant.0, on)) in
+    let l = c.loop-dimension.dimension in
+    let on = c.loop-dimension-test.true in
+    let some = c.requires.0.1 (l - 1) (omega (arith, c.loop-dimension.invariant.0, on)) in
     let width = c.u16_to_usize-place.ensures.0 in (
-      omega (arith, loop.loop-dimension.invariant.0),
-      omega (arith, width-next start.args.sizes.now (l - 1) l (omega (arith, on)), width, loop.loop-dimension.invariant.1),
-      marked-in _ _ _ (l - 1) _ _ _ (omega (arith, on)) some c.before.before.before.before.digit.ensures _ width c.before.before.if-marks-place-ne1.false ∙ loop.loop-dimension.invariant.2,
+      omega (arith, c.loop-dimension.invariant.0),
+      omega (arith, width-next c.args.sizes.now (l - 1) l (omega (arith, on)), width, c.loop-dimension.invariant.1),
+      marked-in _ _ _ (l - 1) _ _ _ (omega (arith, on)) some c.digit.ensures _ width c.if-marks-place-ne1.false ∙ c.loop-dimension.invariant.2,
     )
 
 returns-2 : tie.Need-returns invariant-loop decreases-loop
-returns-2 c = marked-none _ _ _ _ _ (omega (arith, c.loop-dimension-test.false)) ∙ c.before.loop-dimension.invariant.2
+returns-2 c = marked-none _ _ _ _ _ (omega (arith, c.loop-dimension-test.false)) ∙ c.loop-dimension.invariant.2
 
 pub is_marked_spec : {M : Type 1} → statement M
 is_marked_spec =
     tie.close
     (tie.spec invariant-loop decreases-loop (λ c. (omega arith, refl, refl)) (λ c. omega arith) digit-requires add-if1 shared-slice-read-if1 returns (λ c. search rules)
     (λ c.
-    let loop = c.before.before.before.before.before in
-    omega (arith, loop.loop.invariant.0, loop.before.before.before.requires.0.0, c.before.before.before.before.loop-test.true))
-    (λ c κs. search rules) add-place (λ c. omega (arith, c.before.before.before.before.before.loop-test.true)) loop-again returns-2)
+    omega (arith, c.loop-dimension.invariant.0, c.requires.0.0, c.loop-dimension-test.true))
+    (λ c κs. search rules) add-place (λ c. omega (arith, c.loop-dimension-test.true)) loop-again returns-2)

@@ -6,12 +6,8 @@ use Rattle.plain_groups.proofs.group.mark_group.Tie as tie
 
 returns : tie.Need-returns
 returns c =
-    let weekdays = c.before.before in
-    let weeks = weekdays.before.before.before.before in
-    let months = weeks.before.before.before.before in
-    let years = months.before.before.before.before in
-    let pre = years.before.before.before.before.before.requires in
-    group-all _ _ _ _ _ _ _ _ _ pre.1 pre.0 years.grow.ensures months.grow-2.ensures weeks.grow-3.ensures weekdays.grow-4.ensures
+    let pre = c.requires in
+    group-all _ _ _ _ _ _ _ _ _ pre.1 pre.0 c.grow.ensures c.grow-2.ensures c.grow-3.ensures c.grow-4.ensures
 
 pub mark_group_spec : {M : Type 1} → statement M
 mark_group_spec =

@@ -33,22 +33,21 @@ counts_over_spec =
     invariant-loop decreases-loop
     (λ c. (omega arith, refl, omega arith, kinds-none _ _))
     (λ c κs.
-    let test = c.before in
-    let inv = test.before.loop.invariant in
-    let pre = (start test).requires in
-    (have-first _ _ _ (omega (arith, test.loop-test.true)) pre.0, omega (arith, inv.1, inv.2, pre.1), inv.3))
+    let inv = c.loop-box_index.invariant in
+    let pre = (start c).requires in
+    (have-first _ _ _ (omega (arith, c.loop-box_index-test.true)) pre.0, omega (arith, inv.1, inv.2, pre.1), inv.3))
     (λ c κs. search rules)
-    (λ c. let notes = noted c.before in notes.note.kept.1.0 ∙ (turn notes).before.loop.inv.1)
+    (λ c. let notes = noted c in notes.note.kept.1.0 ∙ (turn notes).before.loop.inv.1)
     (λ c.
-    let notes = noted c.before in
-    many-kinds _ _ _ _ _ notes.note.ensures.1 (omega (arith, (turn notes).loop-test.taken)) (sym c.before.lists-over.ensures ∙ c.if1.true))
+    let notes = noted c in
+    many-kinds _ _ _ _ _ notes.note.ensures.1 (omega (arith, (turn notes).loop-test.taken)) (sym c.lists_over.ensures ∙ c.if-lists_over.true))
     (λ c. search rules) (λ c. search rules)
     (λ c.
-    let notes = noted c.before in (
+    let notes = noted c in (
       omega (arith, (turn notes).loop-test.taken),
       notes.note.kept.1.0 ∙ (turn notes).before.loop.inv.1,
-      ltb-false 512 notes.note.result (sym c.before.lists-over.ensures ∙ c.if1.false),
+      ltb-false 512 notes.note.result (sym c.lists_over.ensures ∙ c.if-lists_over.false),
       notes.note.ensures.1,
     ))
-    (λ c. c.before.loop.invariant.1)
-    (λ c. let inv = c.before.loop.invariant in few-kinds _ _ _ _ _ inv.3 (omega (arith, inv.0, c.loop-test.false)) inv.2))
+    (λ c. c.loop-box_index.invariant.1)
+    (λ c. let inv = c.loop-box_index.invariant in few-kinds _ _ _ _ _ inv.3 (omega (arith, inv.0, c.loop-box_index-test.false)) inv.2))

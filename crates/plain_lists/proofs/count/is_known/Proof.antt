@@ -28,10 +28,10 @@ abbrev start : tie.In-loop invariant-loop decreases-loop → tie.Start invariant
 start c = c.before.before.before.before
 
 compared : (c : tie.After-same-list invariant-loop decreases-loop) → let a = (start (turn c)).args in
-    c.same-list.result ≡ same_list eqb (list_of a.lists.now (get_or a.kinds.now (turn c).before.loop.kind 0)) (list_of a.lists.now a.box-index)
+    c.same_list.result ≡ same_list eqb (list_of a.lists.now (get_or a.kinds.now (turn c).before.loop.kind 0)) (list_of a.lists.now a.box_index)
 compared c =
     let a = (start (turn c)).args in
-    c.same-list.ensures ∙ ap (λ n. same_list eqb (list_of a.lists.now n) (list_of a.lists.now a.box-index)) c.before.u16-to-usize.ensures.0
+    c.same_list.ensures ∙ ap (λ n. same_list eqb (list_of a.lists.now n) (list_of a.lists.now a.box_index)) c.before.u16_to_usize.ensures.0
 
 pub is_known_spec : {M : Type 1} → statement M
 is_known_spec =
@@ -41,22 +41,21 @@ is_known_spec =
     (λ c. (omega arith, λ k l. absurd (omega arith)))
     (λ c. search rules) (λ c. search rules) (λ c κs. search rules)
     (λ c κs.
-    let test = c.before.before in
-    let pre = (start test).requires in
-    (subst (HasList (start test).args.lists.now) (sym c.u16-to-usize.ensures.0) (pre.2 _ test.loop-test.true), pre.0))
+    let pre = (start c).requires in
+    (subst (HasList (start c).args.lists.now) (sym c.u16_to_usize.ensures.0) (pre.2 _ c.loop-kind-test.true), pre.0))
     (λ c.
-    let a = (start (turn c.before)).args in
-    sym (from-any (λ k. same_list eqb (list_of a.lists.now (get_or a.kinds.now k 0)) (list_of a.lists.now a.box-index)) 0 a.count (turn c.before).before.loop.kind
-    (omega arith) (omega (arith, (turn c.before).loop-test.taken)) (sym (compared c.before) ∙ c.if1.true)))
+    let a = (start (turn c)).args in
+    sym (from-any (λ k. same_list eqb (list_of a.lists.now (get_or a.kinds.now k 0)) (list_of a.lists.now a.box_index)) 0 a.count (turn c).before.loop.kind
+    (omega arith) (omega (arith, (turn c).loop-test.taken)) (sym (compared c) ∙ c.if-same_list.true)))
     (λ c. search rules) (λ c. search rules)
     (λ c.
-    let a = (start (turn c.before)).args in
-    let loop = (turn c.before).before in (
-      omega (arith, (turn c.before).loop-test.taken),
-      below_more (λ k. same_list eqb (list_of a.lists.now (get_or a.kinds.now k 0)) (list_of a.lists.now a.box-index) ≡ false) loop.loop.kind loop.loop.inv.1
-          (sym (compared c.before) ∙ c.if1.false),
+    let a = (start (turn c)).args in
+    let loop = (turn c).before in (
+      omega (arith, (turn c).loop-test.taken),
+      below_more (λ k. same_list eqb (list_of a.lists.now (get_or a.kinds.now k 0)) (list_of a.lists.now a.box_index) ≡ false) loop.loop.kind loop.loop.inv.1
+          (sym (compared c) ∙ c.if-same_list.false),
     ))
     (λ c.
-    let a = c.before.before.before.before.args in
-    sym (from-none (λ k. same_list eqb (list_of a.lists.now (get_or a.kinds.now k 0)) (list_of a.lists.now a.box-index)) 0 a.count
-    (λ k _ l. c.before.loop.invariant.1 k (omega (arith, c.loop-test.false))))))
+    let a = c.args in
+    sym (from-none (λ k. same_list eqb (list_of a.lists.now (get_or a.kinds.now k 0)) (list_of a.lists.now a.box_index)) 0 a.count
+    (λ k _ l. c.loop-kind.invariant.1 k (omega (arith, c.loop-kind-test.false))))))

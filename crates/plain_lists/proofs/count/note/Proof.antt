@@ -18,15 +18,15 @@ note_spec =
     (tie.spec
     (λ c. search rules)
     (λ c. search rules)
-    (λ c. let entry = c.before.before.before in omega (arith, (entry.requires.0.each entry.args.box-index (omega arith)).room))
-    (λ c. (omega arith, kinds-empty _ _ _ _ c.before.before.before.before.requires.2 c.if1.true))
+    (λ c. omega (arith, (c.requires.0.each c.args.box_index (omega arith)).room))
+    (λ c. (omega arith, kinds-empty _ _ _ _ c.requires.2 c.if-lists-box_index-eq0.true))
     (λ c κs.
-    let pre = (start c.before).requires in
-    (pre.0.each (start c.before).args.box-index (omega arith), omega (arith, pre.1), λ k l. pre.0.each _ (omega (arith, pre.2.names k l))))
+    let pre = (start c).requires in
+    (pre.0.each (start c).args.box_index (omega arith), omega (arith, pre.1), λ k l. pre.0.each _ (omega (arith, pre.2.names k l))))
     (λ c. search rules)
-    (λ c. (omega arith, kinds-known _ _ _ _ (start (filled c.before)).requires.2 _ c.before.is_Known.ensures c.if2.true))
-    (λ c. let entry = start (filled c.before) in omega (arith, entry.pre.0.few-boxes))
+    (λ c. (omega arith, kinds-known _ _ _ _ (start (filled c)).requires.2 _ c.is_Known.ensures c.if-is_known.true))
+    (λ c. let entry = start (filled c) in omega (arith, entry.pre.0.few-boxes))
     (λ c. search rules) (λ c. search rules) (λ c. search rules) (λ c. search rules)
     (λ c.
-    let entry = start (filled c.before) in
-    (omega arith, kinds-new _ _ _ _ entry.pre.2 _ c.before.is_Known.ensures c.if2.false (filled c.before).if1.false entry.pre.1)))
+    let entry = start (filled c) in
+    (omega arith, kinds-new _ _ _ _ entry.pre.2 _ c.is_Known.ensures c.if-is_known.false (filled c).if1.false entry.pre.1)))

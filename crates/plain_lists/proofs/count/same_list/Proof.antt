@@ -20,15 +20,12 @@ same_list_spec =
     invariant-loop decreases-loop
     (λ c. search rules) (λ c. search rules) (λ c. search rules) (λ c. search rules) (λ c κs. search rules) (λ c. search rules)
     (λ c.
-    let start = c.before.before.before in
-    (omega arith, omega (arith, c.u16-to-usize.ensures.0, start.requires.0.short, list_length start.args.lists.now start.args.first), λ k l. absurd (omega arith)))
+    (omega arith, omega (arith, c.u16_to_usize-end.ensures.0, c.requires.0.short, list_length c.args.lists.now c.args.first), λ k l. absurd (omega arith)))
     (λ c. search rules) (λ c. search rules) (λ c. search rules) (λ c. search rules) (λ c. search rules) (λ c. search rules)
     (λ c.
-    let turn = c.before.before.before in
-    same-no _ _ _ _ (omega (arith, turn.before.before.u16-to-usize.ensures.0)) turn.before.loop.place turn.loop-test.true c.if1.true)
+    same-no _ _ _ _ (omega (arith, c.u16_to_usize-end.ensures.0)) c.loop-place.place c.loop-place-test.true c.if-lists-one.true)
     (λ c. search rules) (λ c. search rules)
     (λ c.
-    let turn = c.before.before.before in
-    let a = turn.before.before.before.before.before.args in
-    (omega (arith, turn.loop-test.true), turn.before.loop.invariant.1, alike_next a.lists.now a.first a.second _ turn.before.loop.invariant.2 c.if1.false))
-    (λ c. same-yes _ _ _ _ (omega (arith, c.before.before.u16-to-usize.ensures.0)) _ c.loop-test.false c.before.loop.invariant.2))
+    let a = c.args in
+    (omega (arith, c.loop-place-test.true), c.loop-place.invariant.1, alike_next a.lists.now a.first a.second _ c.loop-place.invariant.2 c.if-lists-one.false))
+    (λ c. same-yes _ _ _ _ (omega (arith, c.u16_to_usize-end.ensures.0)) _ c.loop-place-test.false c.loop-place.invariant.2))

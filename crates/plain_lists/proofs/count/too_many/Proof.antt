@@ -14,7 +14,7 @@ too_many_spec =
     tie.close
     (tie.spec
     (λ c κs. search rules)
-    (λ c. few-lists _ _ (sym c.before.lists-over.ensures ∙ not-true _ c.if1.true))
+    (λ c. few-lists _ _ (sym c.lists_over.ensures ∙ not-true _ c.if-not-lists_over.true-raw))
     (λ c. sym (length-replicate {A = ℕ} 513 0))
-    (λ c κs. (c.before.before.before.before.requires, omega (arith, length-replicate {A = ℕ} 513 0)))
-    (λ c. c.before.counts-over.ensures))
+    (λ c κs. (c.requires, omega (arith, length-replicate {A = ℕ} 513 0)))
+    (λ c. c.counts_over.ensures))

@@ -26,14 +26,14 @@ abbrev asked : tie.After-holds-in invariant-loop decreases-loop → tie.After-di
 asked c = c.before.before
 
 -- the cut that is read stands in its row
-inside : (c : tie.After-digit invariant-loop decreases-loop) → c.before.u16-to-usize.result + c.digit.result < length (start (placed c)).args.cuts.now
+inside : (c : tie.After-digit invariant-loop decreases-loop) → c.before.u16_to_usize.result + c.digit.result < length (start (placed c)).args.cuts.now
 inside c =
     let test = placed c in
     let pre = (start test).pre in
     let dimension = test.before.loop.dimension in
     let here = test.loop-test.taken in
-    let low = digit_low (start test).args.sizes.now (start test).args.box-index dimension (pre.filled dimension here) in
-    omega (arith, pre.inside dimension here, low, c.digit.ensures, c.before.u16-to-usize.ensures.0)
+    let low = digit_low (start test).args.sizes.now (start test).args.box_index dimension (pre.filled dimension here) in
+    omega (arith, pre.inside dimension here, low, c.digit.ensures, c.before.u16_to_usize.ensures.0)
 
 pub covers_spec : {M : Type 1} → statement M
 covers_spec =
@@ -41,29 +41,28 @@ covers_spec =
     (tie.spec
     invariant-loop decreases-loop
     (λ c. (omega arith, λ k l. absurd (omega arith)))
-    (λ c. omega (arith, c.loop-test.true))
-    (λ c. let test = c.before in omega (arith, test.loop-test.true, (start test).requires.all-rows))
+    (λ c. omega (arith, c.loop-dimension-test.true))
+    (λ c. omega (arith, c.loop-dimension-test.true, (start c).requires.all-rows))
     (λ c κs. search rules)
     (λ c κs.
-    let test = c.before.before in
-    let pre = (start test).requires in
-    let here = test.loop-test.true in
+    let pre = (start c).requires in
+    let here = c.loop-dimension-test.true in
     (omega (arith, here, pre.four), (λ k l. pre.filled k (omega (arith, here))), pre.small _ here))
     (λ c. omega (arith, inside c, (start (placed c)).good))
     (λ c. omega (arith, inside c, (start (placed c)).good))
-    (λ c. omega (arith, inside c.before))
-    (λ c κs. let test = placed c.before in ((start test).pre.ranges-there, test.loop-test.taken))
+    (λ c. omega (arith, inside c))
+    (λ c κs. let test = placed c in ((start test).pre.ranges-there, test.loop-test.taken))
     (λ c.
-    let digit = asked c.before in
+    let digit = asked c in
     let test = placed digit in
-    covers-no _ _ _ _ _ _ _ _ _ _ _ digit.before.u16-to-usize.ensures.0 digit.digit.ensures c.before.holds-in.ensures
-    test.loop-test.taken (not-true _ c.if1.true))
-    (λ c. omega (arith, (placed (asked c.before)).loop-test.taken)) (λ c. omega (arith, (placed (asked c.before)).loop-test.taken))
+    covers-no _ _ _ _ _ _ _ _ _ _ _ digit.before.u16_to_usize.ensures.0 digit.digit.ensures c.holds_in.ensures
+    test.loop-test.taken (not-true _ c.if-not-holds_in.true-raw))
+    (λ c. omega (arith, (placed (asked c)).loop-test.taken)) (λ c. omega (arith, (placed (asked c)).loop-test.taken))
     (λ c.
-    let digit = asked c.before in
+    let digit = asked c in
     let test = placed digit in (
       omega (arith, test.loop-test.taken),
-      covers-next _ _ _ _ _ _ _ _ _ _ _ digit.before.u16-to-usize.ensures.0 digit.digit.ensures c.before.holds-in.ensures
-          test.before.loop.inv.1 (not-false _ c.if1.false),
+      covers-next _ _ _ _ _ _ _ _ _ _ _ digit.before.u16_to_usize.ensures.0 digit.digit.ensures c.holds_in.ensures
+          test.before.loop.inv.1 (not-false _ c.if-not-holds_in.false-raw),
     ))
-    (λ c. covers-yes _ _ _ _ _ _ _ _ c.loop-test.false c.before.loop.invariant.1))
+    (λ c. covers-yes _ _ _ _ _ _ _ _ c.loop-dimension-test.false c.loop-dimension.invariant.1))

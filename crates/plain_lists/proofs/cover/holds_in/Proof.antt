@@ -11,6 +11,6 @@ holds_in_spec =
     (tie.spec
     (λ c. search rules) (λ c. search rules) (λ c. search rules) (λ c. search rules) (λ c κs. search rules) (λ c. search rules) (λ c. search rules) (λ c. search rules)
     (λ c κs.
-    let pre = c.before.before.before.before.requires in
-    omega (arith, pre.0.few _ pre.1, pre.0.all-ranges, pre.1, c.u16-to-usize.ensures.0))
-    (λ c. held-told _ _ _ _ _ _ _ c.before.u16-to-usize.ensures.0 c.in-ranges.ensures))
+    let pre = c.requires in
+    omega (arith, pre.0.few _ pre.1, pre.0.all-ranges, pre.1, c.u16_to_usize-count.ensures.0))
+    (λ c. held-told _ _ _ _ _ _ _ c.u16_to_usize-count.ensures.0 c.in_ranges.ensures))

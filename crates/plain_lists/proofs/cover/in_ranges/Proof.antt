@@ -20,12 +20,11 @@ in_ranges_spec =
     (λ c. (omega arith, λ k l. absurd (omega arith)))
     (λ c. search rules) (λ c. search rules) (λ c. search rules) (λ c. search rules) (λ c. search rules) (λ c. search rules) (λ c. search rules) (λ c κs. search rules)
     (λ c.
-    let turn = c.before.before.before.before in
-    in-yes _ _ _ turn.before.loop.range _ c.before.in-range.ensures _ turn.loop-test.true c.if1.true)
+    in-yes _ _ _ c.loop-range.range _ c.in_range.ensures _ c.loop-range-test.true c.if-in_range.true)
     (λ c. search rules) (λ c. search rules)
     (λ c.
-    let turn = c.before.before.before.before in (
-      omega (arith, turn.loop-test.true),
-      in-next _ _ _ turn.before.loop.range _ c.before.in-range.ensures turn.before.loop.invariant.1 c.if1.false,
+    (
+      omega (arith, c.loop-range-test.true),
+      in-next _ _ _ c.loop-range.range _ c.in_range.ensures c.loop-range.invariant.1 c.if-in_range.false,
     ))
-    (λ c. in-no _ _ _ _ _ c.loop-test.false c.before.loop.invariant.1))
+    (λ c. in-no _ _ _ _ _ c.loop-range-test.false c.loop-range.invariant.1))

@@ -34,15 +34,15 @@ seen c = c.before.before
 
 -- the column's marks are put into the buffer
 abbrev after : tie.After-marks-of invariant-loop decreases-loop → List ℕ
-after c = set (marked c).before.loop.marks (marked c).before.loop.column c.marks-of.result
+after c = set (marked c).before.loop.marks (marked c).before.loop.column c.marks_of.result
 
 marks-put : (c : tie.After-marks-of invariant-loop decreases-loop) → let turn = marked c in let a = (start (placed turn)).args in
-    Marked a.range-counts.now a.ranges.now a.rules a.row-starts.now a.cuts.now a.dimension (after c) (turn.before.loop.column + 1)
+    Marked a.range_counts.now a.ranges.now a.rules a.row_starts.now a.cuts.now a.dimension (after c) (turn.before.loop.column + 1)
 marks-put c =
     let turn = marked c in
     let row = placed turn in
     let inv = turn.before.loop.inv in
-    marked_more _ _ _ _ _ _ turn.before.loop.marks turn.before.loop.column _ _ row.u16-to-usize.ensures.0 c.marks-of.ensures (omega (arith, turn.loop-test.taken, inv.2, (start row).pre.1.2)) inv.3
+    marked_more _ _ _ _ _ _ turn.before.loop.marks turn.before.loop.column _ _ row.u16_to_usize.ensures.0 c.marks_of.ensures (omega (arith, turn.loop-test.taken, inv.2, (start row).pre.1.2)) inv.3
 
 pub count_kinds_spec : {M : Type 1} → statement M
 count_kinds_spec =
@@ -51,19 +51,19 @@ count_kinds_spec =
     invariant-loop decreases-loop
     (λ c. search rules) (λ c. search rules) (λ c κs. search rules)
     (λ c. (omega arith, omega arith, omega arith, (λ x l. absurd (omega arith)), kinds-none _ _ _ _ _ _))
-    (λ c. let row = placed c in omega (arith, c.loop-test.true, row.u16-to-usize.ensures, (start row).pre.1.1, (start row).good))
-    (λ c. let row = placed c in omega (arith, c.loop-test.true, row.u16-to-usize.ensures, (start row).pre.1.1, (start row).good))
-    (λ c. let turn = c.before in let row = placed turn in omega (arith, turn.loop-test.true, row.u16-to-usize.ensures, (start row).pre.1.1))
-    (λ c κs. (start (placed c.before)).pre.0)
+    (λ c. let row = placed c in omega (arith, c.loop-column-test.true, row.u16_to_usize.ensures, (start row).pre.1.1, (start row).good))
+    (λ c. let row = placed c in omega (arith, c.loop-column-test.true, row.u16_to_usize.ensures, (start row).pre.1.1, (start row).good))
+    (λ c. let row = placed c in omega (arith, c.loop-column-test.true, row.u16_to_usize.ensures, (start row).pre.1.1))
+    (λ c κs. (start (placed c)).pre.0)
     (λ c. let turn = marked c in let entry = start (placed turn) in omega (arith, turn.loop-test.taken, turn.before.loop.inv.2, entry.pre.1.2, entry.good))
     (λ c. let turn = marked c in let entry = start (placed turn) in omega (arith, turn.loop-test.taken, turn.before.loop.inv.2, entry.pre.1.2))
-    (λ c κs. let turn = marked c.before in simp length-set (omega (arith, turn.loop-test.taken, turn.before.loop.inv.2, (start (placed turn)).pre.1.2)))
+    (λ c κs. let turn = marked c in simp length-set (omega (arith, turn.loop-test.taken, turn.before.loop.inv.2, (start (placed turn)).pre.1.2)))
     (λ c. search rules) (λ c. search rules)
     (λ c.
-    let put = seen c.before in
+    let put = seen c in
     let turn = marked put in
     let inv = turn.before.loop.inv in
-    let like = c.before.seen-before.ensures c.if1.true in (
+    let like = c.seen_before.ensures c.if-seen_before.true in (
       omega (arith, turn.loop-test.taken),
       omega (arith, inv.1),
       simp length-set inv.2,
@@ -72,8 +72,8 @@ count_kinds_spec =
     ))
     (λ c. search rules) (λ c. search rules) (λ c. search rules)
     (λ c.
-    let turn = marked (seen c.before) in
+    let turn = marked (seen c) in
     let inv = turn.before.loop.inv in
-    (omega (arith, turn.loop-test.taken), omega (arith, inv.1), simp length-set inv.2, marks-put (seen c.before), kinds-new _ _ _ _ _ _ _ _ inv.4))
+    (omega (arith, turn.loop-test.taken), omega (arith, inv.1), simp length-set inv.2, marks-put (seen c), kinds-new _ _ _ _ _ _ _ _ inv.4))
     (λ c. search rules)
-    (λ c. let inv = c.before.loop.invariant in (omega (arith, inv.0, inv.1), kinds-passed _ _ _ _ _ _ _ _ _ (omega (arith, c.loop-test.false)) inv.4)))
+    (λ c. let inv = c.loop-column.invariant in (omega (arith, inv.0, inv.1), kinds-passed _ _ _ _ _ _ _ _ _ (omega (arith, c.loop-column-test.false)) inv.4)))

@@ -10,9 +10,9 @@ kinds_in_spec =
     tie.close
     (tie.spec
     (λ c. search rules) (λ c. search rules) (λ c κs. search rules)
-    (λ c. let size = c.before.u16-to-usize.ensures in (omega (arith, size), kinds-passed _ _ _ _ _ _ _ _ _ (omega (arith, size.0)) (kinds-all _ _ _ _ _ _ _)))
+    (λ c. let size = c.u16_to_usize-size.ensures in (omega (arith, size), kinds-passed _ _ _ _ _ _ _ _ _ (omega (arith, size.0)) (kinds-all _ _ _ _ _ _ _)))
     (λ c. search rules) (λ c κs. search rules)
     (λ c.
-    let size = c.before.before.before.before.u16-to-usize.ensures in
-    let counted = c.before.count-kinds.ensures in
+    let size = c.u16_to_usize-size.ensures in
+    let counted = c.count_kinds.ensures in
     (omega (arith, size.1, counted.0), kinds-passed _ _ _ _ _ _ _ _ _ (omega (arith, size.0)) counted.1)))

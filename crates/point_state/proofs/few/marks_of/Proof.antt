@@ -25,7 +25,7 @@ fits c =
     omega (
       arith,
       c.before.loop.invariant.1,
-      marks-fit a.range-counts.now a.ranges.now a.dimension c.before.loop.rule a.value (omega (arith, c.loop-test.true, (start c).requires.2)),
+      marks-fit a.range_counts.now a.ranges.now a.dimension c.before.loop.rule a.value (omega (arith, c.loop-test.true, (start c).requires.2)),
     )
 
 pub marks_of_spec : {M : Type 1} → statement M
@@ -35,15 +35,15 @@ marks_of_spec =
     invariant-loop decreases-loop
     (λ c. (omega arith, marks-start _ _ _ _))
     (λ c. search (rules, fits c))
-    (λ c κs. let pre = (start c).requires in (pre.0 _ c.loop-test.true, pre.1))
+    (λ c κs. let pre = (start c).requires in (pre.0 _ c.loop-rule-test.true, pre.1))
     (λ c κs. search rules)
-    (λ c. search (rules, fits c.before.before, c.bit.ensures.1))
+    (λ c. search (rules, fits c, c.bit.ensures.1))
     (λ c. search rules) (λ c. search rules)
     (λ c.
-    let turn = c.before.before in (
-      omega (arith, turn.loop-test.true),
-      marks-more _ _ _ _ _ _ _ _ turn.before.loop.invariant.1 c.before.holds-in.ensures c.bit.ensures.0,
+    (
+      omega (arith, c.loop-rule-test.true),
+      marks-more _ _ _ _ _ _ _ _ c.loop-rule.invariant.1 c.holds_in.ensures c.bit.ensures.0,
     ))
     (λ c.
-    let all : c.before.before.before.before.args.rules ≡ c.before.loop.rule = omega (arith, c.loop-test.false, c.before.loop.invariant.0) in
-    rw all c.before.loop.invariant.1))
+    let all : c.args.rules ≡ c.loop-rule.rule = omega (arith, c.loop-rule-test.false, c.loop-rule.invariant.0) in
+    rw all c.loop-rule.invariant.1))

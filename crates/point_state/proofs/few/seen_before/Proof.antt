@@ -20,6 +20,6 @@ seen_before_spec =
     invariant-loop decreases-loop
     (λ c. omega arith)
     (λ c. search rules) (λ c. search rules) (λ c. search rules) (λ c. search rules)
-    (λ c. λ _. (_, c.before.before.before.loop-test.true, c.if1.true))
+    (λ c. λ _. (_, c.loop-earlier-test.true, c.if-marks-earlier.true))
     (λ c. search rules) (λ c. search rules) (λ c. search rules)
     (λ c. λ e. absurd (true≢false (sym e))))

@@ -4,5 +4,5 @@ use Rattle.rule_text.proofs.Rules.{normal-number}
 use Rattle.rule_text.proofs.rule.begins_wrong.Statement.{statement}
 use Rattle.rule_text.proofs.rule.begins_wrong.Tie as tie
 
-pub begins-wrong-spec : {M : Type 1} → statement M
-begins-wrong-spec = tie.close (tie.spec (λ c. sym (rw (c.if1.true, normal-number))) (λ c. sym (rw c.if1.false)))
+pub begins_wrong_spec : {M : Type 1} → statement M
+begins_wrong_spec = tie.close (tie.spec (λ c. sym (rw (c.if-first.true, normal-number))) (λ c. sym (rw c.if-first.false)))

@@ -20,17 +20,13 @@ use Rattle.rule_text.proofs.Bodies.{counts-few, days-told, spans-told}
 use Rattle.rule_text.proofs.rule.show_body.Statement.{statement}
 use Rattle.rule_text.proofs.rule.show_body.Tie as tie
 
-show-days-requires : tie.Need-show-days-requires
+show-days-requires : tie.Need-show_days-days-requires
 show-days-requires c κs =
-    let counts = c.before.before in
-    let at-counts = counts.before.before in
-    let wide = at-counts.before in
-    let entry = wide.before.before.before in
-    let args = entry.args in
-    let pre = entry.requires in
+    let args = c.args in
+    let pre = c.requires in
     let s = sheet_bits args.sheet.now in
-    let behind-title = ap (args.at +◌) wide.title-width.ensures.0 in
-    let read = sym at-counts.counts-at.ensures ∙ ap as_counts counts.counts.given.1 in
+    let behind-title = ap (args.at +◌) c.title_width.ensures.0 in
+    let read = sym c.counts_at-counts.ensures ∙ ap as_counts c.in-Counts.is in
     let few = counts-few _ s args.at pre.0 _ _ _ behind-title read in
     let told = ap (λ x. length x.text) (days-told _ s args.at pre.0 _ _ _ behind-title read) in
     let low = (narrow args.form).head-narrow in (
@@ -38,59 +34,45 @@ show-days-requires c κs =
       omega (arith, pre.1.1, told, body-long (rule_read_at (as_form args.form) s args.at)),
     )
 
-show-items-requires : tie.Need-show-items-requires
+show-items-requires : tie.Need-show_items-times-requires
 show-items-requires c κs =
-    let show-days = c.before.before.before in
-    let counts = show-days.before.before.before in
-    let at-counts = counts.before.before in
-    let wide = at-counts.before in
-    let entry = wide.before.before.before in
-    let args = entry.args in
-    let pre = entry.requires in
+    let args = c.args in
+    let pre = c.requires in
     let s = sheet_bits args.sheet.now in
-    let n = counts.counts.given.0 in
-    let behind-title = ap (args.at +◌) wide.title-width.ensures.0 in
-    let read = sym at-counts.counts-at.ensures ∙ ap as_counts counts.counts.given.1 in
+    let n = c.counts-1.given.0 in
+    let behind-title = ap (args.at +◌) c.title_width.ensures.0 in
+    let read = sym c.counts_at-counts.ensures ∙ ap as_counts c.in-Counts.is in
     let few = counts-few _ s args.at pre.0 _ _ _ behind-title read in
     let near = days-near n.0 n.1.0 n.1.1.0 n.1.1.1.0 s n.1.1.1.1.1.0 in
     let told = days-told _ s args.at pre.0 _ _ _ behind-title read in
-    let days = shows-as told show-days.show-days.ensures in
+    let days = shows-as told c.show_days-days.ensures in
     let spans = ap (λ x. length x.text) (spans-told _ s args.at pre.0 _ _ _ behind-title read _ days.read-to) in
     let low = (narrow args.form).head-narrow in (
-      omega (arith, near, few.0, few.1, few.2, few.3, few.4, few.5, show-days.show-days.ensures.read-to, pre.1.0, low, behind-title),
+      omega (arith, near, few.0, few.1, few.2, few.3, few.4, few.5, c.show_days-days.ensures.read-to, pre.1.0, low, behind-title),
       omega (arith, pre.1.1, days.put.ends, spans, body-long (rule_read_at (as_form args.form) s args.at)),
     )
 
-returns : tie.Need-returns
+returns : tie.Need-returns-in-Counts
 returns c =
-    let show-items = c.before.before.before.before in
-    let show-days = show-items.before.before.before.before in
-    let counts = show-days.before.before.before in
-    let at-counts = counts.before.before in
-    let wide = at-counts.before in
-    let entry = wide.before.before.before in
-    let args = entry.args in
-    let pre = entry.requires in
+    let args = c.args in
+    let pre = c.requires in
     let s = sheet_bits args.sheet.now in
-    let behind-title = ap (args.at +◌) wide.title-width.ensures.0 in
-    let read = sym at-counts.counts-at.ensures ∙ ap as_counts counts.counts.given.1 in
-    let days = shows-as (days-told _ s args.at pre.0 _ _ _ behind-title read) show-days.show-days.ensures in
-    let spans = shows-as (spans-told _ s args.at pre.0 _ _ _ behind-title read _ days.read-to) show-items.show-items.ensures in
+    let behind-title = ap (args.at +◌) c.title_width.ensures.0 in
+    let read = sym c.counts_at-counts.ensures ∙ ap as_counts c.in-Counts.is in
+    let days = shows-as (days-told _ s args.at pre.0 _ _ _ behind-title read) c.show_days-days.ensures in
+    let spans = shows-as (spans-told _ s args.at pre.0 _ _ _ behind-title read _ days.read-to) c.show_items-times.ensures in
     let none = lacks-either (rule_read_at (as_form args.form) s args.at) _ (counts_same _ s args.at pre.0 _ _ _ behind-title read).2 in
     record {
       put = put_as (body-text (rule_read_at (as_form args.form) s args.at)) (put_then days.put spans.put);
-      so = c.either2.ensures ∙ ap₂ ◌||◌ days.lacks
-          (c.before.either.ensures ∙ ap (◌|| eqb counts.counts.given.0.1.1.1.1.0 0) spans.lacks) ∙ none;
+      so = c.either-in-Counts.ensures ∙ ap₂ ◌||◌ days.lacks
+          (c.either.ensures ∙ ap (◌|| eqb c.in-Counts.spans 0) spans.lacks) ∙ none;
     }
 
-pub show-body-spec : {M : Type 1} → statement M
-show-body-spec =
+pub show_body_spec : {M : Type 1} → statement M
+show_body_spec =
     tie.close
-    (tie.spec (λ c κs. search rules) (λ c. omega (arith, c.before.before.before.requires.1.0, c.title-width.ensures.1)) (λ c κs. search rules) (λ c. search rules)
+    (tie.spec (λ c κs. search rules) (λ c. omega (arith, c.requires.1.0, c.title_width.ensures.1)) (λ c κs. search rules) (λ c. search rules)
     show-days-requires show-items-requires (λ c κs. search rules) (λ c κs. search rules) (λ c. search rules) (λ c. search rules) returns
     (λ c.
-    let at-counts = c.before.before.before in
-    let wide = at-counts.before in
-    let entry = wide.before.before.before in
-    counts-refused _ _ _ entry.requires.0 _ _ _ (ap (entry.args.at +◌) wide.title-width.ensures.0)
-    (sym at-counts.counts-at.ensures ∙ ap as_counts c.before.counts2.given.1)))
+    counts-refused _ _ _ c.requires.0 _ _ _ (ap (c.args.at +◌) c.title_width.ensures.0)
+    (sym c.counts_at-counts.ensures ∙ ap as_counts c.in-Refused.is)))

@@ -12,37 +12,31 @@ use Rattle.rule_text.proofs.Rules.{years_part, months_part, days-parts, days-lon
 use Rattle.rule_text.proofs.rule.show_days.Statement.{statement}
 use Rattle.rule_text.proofs.rule.show_days.Tie as tie
 
-show-part-requires : tie.Need-show-part-requires
+show-part-requires : tie.Need-show_part-first-requires
 show-part-requires c κs =
-    let entry = c.before.before.before in
-    let args = entry.args in
-    let pre = entry.requires in
+    let args = c.args in
+    let pre = c.requires in
     let s = sheet_bits args.sheet.now in
     (omega (arith, pre.0), omega (arith, pre.1, days-long args.years args.monthdays args.weeks args.weekdays s args.at))
 
-show-part-requires-2 : tie.Need-show-part-requires-2
+show-part-requires-2 : tie.Need-show_part-second-requires
 show-part-requires-2 c κs =
-    let show-part = c.before.before.before in
-    let entry = show-part.before.before.before.before in
-    let args = entry.args in
-    let pre = entry.requires in
+    let args = c.args in
+    let pre = c.requires in
     let s = sheet_bits args.sheet.now in
-    let first = show-part.show-part.ensures in
+    let first = c.show_part-first.ensures in
     let there = ap (λ q. length (part_told 1 args.monthdays s q).text) first.read-to in (
       omega (arith, pre.0, part-near 0 s args.at args.years, first.read-to),
       omega (arith, pre.1, days-long args.years args.monthdays args.weeks args.weekdays s args.at, first.put.ends, there),
     )
 
-show-part-requires-3 : tie.Need-show-part-requires-3
+show-part-requires-3 : tie.Need-show_part-third-requires
 show-part-requires-3 c κs =
-    let show-part2 = c.before.before.before in
-    let show-part = show-part2.before.before.before.before in
-    let entry = show-part.before.before.before.before in
-    let args = entry.args in
-    let pre = entry.requires in
+    let args = c.args in
+    let pre = c.requires in
     let s = sheet_bits args.sheet.now in
-    let first = show-part.show-part.ensures in
-    let second = shows-as (ap (part_told 1 args.monthdays s) first.read-to) show-part2.show-part2.ensures in
+    let first = c.show_part-first.ensures in
+    let second = shows-as (ap (part_told 1 args.monthdays s) first.read-to) c.show_part-second.ensures in
     let there = ap (λ q. length (part_told 2 args.weeks s q).text) second.read-to in
     let Y = years_part args.years args.monthdays args.weeks args.weekdays s args.at in (
       omega (arith, pre.0, part-near 0 s args.at args.years, part-near 1 s Y.next args.monthdays, second.read-to),
@@ -56,18 +50,14 @@ show-part-requires-3 c κs =
       ),
     )
 
-show-part-requires-4 : tie.Need-show-part-requires-4
+show-part-requires-4 : tie.Need-show_part-fourth-requires
 show-part-requires-4 c κs =
-    let show-part3 = c.before.before.before in
-    let show-part2 = show-part3.before.before.before.before in
-    let show-part = show-part2.before.before.before.before in
-    let entry = show-part.before.before.before.before in
-    let args = entry.args in
-    let pre = entry.requires in
+    let args = c.args in
+    let pre = c.requires in
     let s = sheet_bits args.sheet.now in
-    let first = show-part.show-part.ensures in
-    let second = shows-as (ap (part_told 1 args.monthdays s) first.read-to) show-part2.show-part2.ensures in
-    let third = shows-as (ap (part_told 2 args.weeks s) second.read-to) show-part3.show-part3.ensures in
+    let first = c.show_part-first.ensures in
+    let second = shows-as (ap (part_told 1 args.monthdays s) first.read-to) c.show_part-second.ensures in
+    let third = shows-as (ap (part_told 2 args.weeks s) second.read-to) c.show_part-third.ensures in
     let there = ap (λ q. length (part_told 3 args.weekdays s q).text) third.read-to in
     let Y = years_part args.years args.monthdays args.weeks args.weekdays s args.at in
     let M = months_part args.years args.monthdays args.weeks args.weekdays s args.at in (
@@ -92,23 +82,17 @@ show-part-requires-4 c κs =
 
 returns : tie.Need-returns
 returns c =
-    let either = c.before.before in
-    let show-part4 = either.before.before.before in
-    let show-part3 = show-part4.before.before.before.before in
-    let show-part2 = show-part3.before.before.before.before in
-    let show-part = show-part2.before.before.before.before in
-    let entry = show-part.before.before.before.before in
-    let args = entry.args in
+    let args = c.args in
     let s = sheet_bits args.sheet.now in
-    let first = show-part.show-part.ensures in
-    let second = shows-as (ap (part_told 1 args.monthdays s) first.read-to) show-part2.show-part2.ensures in
-    let third = shows-as (ap (part_told 2 args.weeks s) second.read-to) show-part3.show-part3.ensures in
-    let fourth = shows-as (ap (part_told 3 args.weekdays s) third.read-to) show-part4.show-part4.ensures in
+    let first = c.show_part-first.ensures in
+    let second = shows-as (ap (part_told 1 args.monthdays s) first.read-to) c.show_part-second.ensures in
+    let third = shows-as (ap (part_told 2 args.weeks s) second.read-to) c.show_part-third.ensures in
+    let fourth = shows-as (ap (part_told 3 args.weekdays s) third.read-to) c.show_part-fourth.ensures in
     shows-as (days-parts _ _ _ _ _ _)
-    (shows_then first (shows_then second (shows_then third fourth _ either.either.ensures) _ c.before.either2.ensures) _
-    c.either3.ensures)
+    (shows_then first (shows_then second (shows_then third fourth _ c.either-later.ensures) _ c.either.ensures) _
+    c.either-2.ensures)
 
-pub show-days-spec : {M : Type 1} → statement M
-show-days-spec = tie.close
+pub show_days_spec : {M : Type 1} → statement M
+show_days_spec = tie.close
     (tie.spec show-part-requires show-part-requires-2 show-part-requires-3 show-part-requires-4 (λ c κs. search rules) (λ c κs. search rules)
     (λ c κs. search rules) (λ c. search rules) returns)

@@ -17,43 +17,31 @@ use Rattle.rule_text.proofs.Rules.{state-same, shown-text, shown-long, lacks-wor
 use Rattle.rule_text.proofs.rule.show_rule.Statement.{statement}
 use Rattle.rule_text.proofs.rule.show_rule.Tie as tie
 
-put-start-requires : tie.Need-put-start-requires
+put-start-requires : tie.Need-put_start-start-requires
 put-start-requires c κs =
-    let title = c.before.before in
-    let at-title = title.before.before in
-    let entry = at-title.before.before.before in
-    let args = entry.args in
-    let pre = entry.requires in
+    let args = c.args in
+    let pre = c.requires in
     let s = sheet_bits args.sheet.now in
-    let read = sym at-title.title-at.ensures ∙ ap as_title title.title.given.1 in
+    let read = sym c.title_at-title.ensures ∙ ap as_title c.in-Title.is in
     let same = title-same _ s args.at pre.0 _ _ _ _ read in
     omega (arith, pre.1.1, shown-long args.first (rule_read_at (as_form args.form) s args.at), ap (λ o. length (start_text args.first o)) same.0)
 
-show-body-requires : tie.Need-show-body-requires
+show-body-requires : tie.Need-show_body-body-requires
 show-body-requires c κs =
-    let put-start = c.before.before.before in
-    let title = put-start.before.before.before in
-    let at-title = title.before.before in
-    let entry = at-title.before.before.before in
-    let args = entry.args in
-    let pre = entry.requires in
+    let args = c.args in
+    let pre = c.requires in
     let s = sheet_bits args.sheet.now in
-    let read = sym at-title.title-at.ensures ∙ ap as_title title.title.given.1 in
+    let read = sym c.title_at-title.ensures ∙ ap as_title c.in-Title.is in
     let same = title-same _ s args.at pre.0 _ _ _ _ read in
     let start = ap (λ o. length (start_text args.first o)) same.0 in
-    (pre.0, (pre.1.0, omega (arith, pre.1.1, shown-long args.first (rule_read_at (as_form args.form) s args.at), start, put-start.put-start.ensures.ends)))
+    (pre.0, (pre.1.0, omega (arith, pre.1.1, shown-long args.first (rule_read_at (as_form args.form) s args.at), start, c.put_start-start.ensures.ends)))
 
-put-state-requires : tie.Need-put-state-requires
+put-state-requires : tie.Need-put_state-requires
 put-state-requires c κs =
-    let show-body = c.before.before.before in
-    let put-start = show-body.before.before.before.before in
-    let title = put-start.before.before.before in
-    let at-title = title.before.before in
-    let entry = at-title.before.before.before in
-    let args = entry.args in
-    let pre = entry.requires in
+    let args = c.args in
+    let pre = c.requires in
     let s = sheet_bits args.sheet.now in
-    let read = sym at-title.title-at.ensures ∙ ap as_title title.title.given.1 in
+    let read = sym c.title_at-title.ensures ∙ ap as_title c.in-Title.is in
     let same = title-same _ s args.at pre.0 _ _ _ _ read in
     let start = ap (λ o. length (start_text args.first o)) same.0 in
     let state = ap (λ S. length (state_text.write S)) (state-same (rule_read_at (as_form args.form) s args.at) _ _ same.1 same.2) in
@@ -63,35 +51,27 @@ put-state-requires c κs =
       shown-long args.first (rule_read_at (as_form args.form) s args.at),
       start,
       state,
-      put-start.put-start.ensures.ends,
-      show-body.show-body.ensures.put.ends,
+      c.put_start-start.ensures.ends,
+      c.show_body-body.ensures.put.ends,
     )
 
-returns : tie.Need-returns
+returns : tie.Need-returns-in-Title
 returns c =
-    let put-state = c.before.before.before.before in
-    let show-body = put-state.before.before.before.before in
-    let put-start = show-body.before.before.before.before in
-    let title = put-start.before.before.before in
-    let at-title = title.before.before in
-    let entry = at-title.before.before.before in
-    let args = entry.args in
+    let args = c.args in
     let r = rule_read_at (as_form args.form) (sheet_bits args.sheet.now) args.at in
-    let read = sym at-title.title-at.ensures ∙ ap as_title title.title.given.1 in
-    let same = title-same _ (sheet_bits args.sheet.now) args.at entry.requires.0 _ _ _ _ read in
-    let body = show-body.show-body.ensures in
+    let read = sym c.title_at-title.ensures ∙ ap as_title c.in-Title.is in
+    let same = title-same _ (sheet_bits args.sheet.now) args.at c.requires.0 _ _ _ _ read in
+    let body = c.show_body-body.ensures in
     record {
       put = put_as (shown-text args.first r _ _ same.0 (state-same r _ _ same.1 same.2))
-          (put_then put-start.put-start.ensures (put_then body.put put-state.put-state.ensures));
-      so = c.either.ensures ∙ ap₂ ◌||◌ c.before.begins-wrong.ensures body.so ∙ lacks-words args.first r _ same.0;
+          (put_then c.put_start-start.ensures (put_then body.put c.put_state.ensures));
+      so = c.either.ensures ∙ ap₂ ◌||◌ c.begins_wrong.ensures body.so ∙ lacks-words args.first r _ same.0;
     }
 
-pub show-rule-spec : {M : Type 1} → statement M
-show-rule-spec =
+pub show_rule_spec : {M : Type 1} → statement M
+show_rule_spec =
     tie.close
     (tie.spec (λ c κs. search rules) (λ c. search rules) put-start-requires show-body-requires put-state-requires (λ c κs. search rules)
     (λ c κs. search rules) (λ c. search rules) (λ c. search rules) returns
     (λ c.
-    let title = c.before.before.before in
-    let entry = title.before.before.before in
-    title-refused _ _ _ entry.requires.0 _ _ (sym title.title-at.ensures ∙ ap as_title c.before.title2.given.1)))
+    title-refused _ _ _ c.requires.0 _ _ (sym c.title_at-title.ensures ∙ ap as_title c.in-Refused.is)))

@@ -14,55 +14,42 @@ use Rattle.rule_text.proofs.Items.{month-ends, month-item}
 use Rattle.rule_text.proofs.shown.show_months.Statement.{statement}
 use Rattle.rule_text.proofs.shown.show_months.Tie as tie
 
-put-item-requires : tie.Need-put-item-requires
+put-item-requires : tie.Need-put_item-requires
 put-item-requires c κs =
-    let at_read = c.before.before in
-    let monthday-range = at_read.before.before in
-    let known = monthday-range.before.before in
-    let entry = known.before in
-    let args = entry.args in
-    let read = sym monthday-range.monthday-range-at.ensures ∙ ap as_monthday at_read.read.given.1 in
+    let args = c.args in
+    let read = sym c.monthday_range_at-read.ensures ∙ ap as_monthday c.in-Months.is in
     let fit =
-    month-ends args.sheet.now (known_bytes args.sheet.now (λ j. omega (arith, known.shared-slice-known.given j))) args.at _ _ _ read in (
+    month-ends args.sheet.now (known_bytes args.sheet.now (λ j. omega (arith, c.shared_slice_known-1.given j))) args.at _ _ _ read in (
       fit.0,
       fit.1,
       omega (
         arith,
-        got-within month_text monthday_stops _ _ args.place _ _ read entry.requires.1,
-        ap length (month-item at_read.read.given.0.0 at_read.read.given.0.1.0),
+        got-within month_text monthday_stops _ _ args.place _ _ read c.requires.1,
+        ap length (month-item c.in-Months.first c.in-Months.last),
       ),
     )
 
-returns-2 : tie.Need-returns-2
+returns-2 : tie.Need-returns-in-MonthsOf
 unfolding month_text only
 returns-2 c =
-    let read2 = c.before.before in
-    let monthday-range = read2.before.before in
-    got-silent month_text monthday_stops _ _ _ _ _ _ (sym monthday-range.monthday-range-at.ensures ∙ ap as_monthday read2.read2.given.1) refl
+    got-silent month_text monthday_stops _ _ _ _ _ _ (sym c.monthday_range_at-read.ensures ∙ ap as_monthday c.in-MonthsOf.is) refl
     refl c.silent.ensures
 
-returns-3 : tie.Need-returns-3
+returns-3 : tie.Need-returns-in-Dated
 unfolding month_text only
 returns-3 c =
-    let read3 = c.before.before in
-    let monthday-range = read3.before.before in
-    got-silent month_text monthday_stops _ _ _ _ _ _ (sym monthday-range.monthday-range-at.ensures ∙ ap as_monthday read3.read3.given.1) refl
-    refl c.silent2.ensures
+    got-silent month_text monthday_stops _ _ _ _ _ _ (sym c.monthday_range_at-read.ensures ∙ ap as_monthday c.in-Dated.is) refl
+    refl c.silent-in-Dated.ensures
 
-pub show-months-spec : {M : Type 1} → statement M
-show-months-spec =
+pub show_months_spec : {M : Type 1} → statement M
+show_months_spec =
     tie.close
     (tie.spec (λ c κs. search rules) (λ c. search rules) put-item-requires (λ c. search rules) (λ c κs. search rules) (λ c. search rules)
     (λ c κs. search rules) (λ c. search rules) (λ c κs. search rules) (λ c. search rules)
     (λ c.
-    let put_item = c.before.before in
-    let read = put_item.before.before.before in
-    let monthday-range = read.before.before in
-    got-shows month_text monthday_stops _ _ _ _ _ _ _ (sym monthday-range.monthday-range-at.ensures ∙ ap as_monthday read.read.given.1) refl
-    (put_as (month-item _ _) put_item.put_item.ensures))
+    got-shows month_text monthday_stops _ _ _ _ _ _ _ (sym c.monthday_range_at-read.ensures ∙ ap as_monthday c.in-Months.is) refl
+    (put_as (month-item _ _) c.put_item.ensures))
     returns-2 returns-3
     (λ c.
-    let read4 = c.before.before in
-    let monthday-range = read4.before.before in
-    refused-silent month_text monthday_stops _ _ _ _ _ _ (sym monthday-range.monthday-range-at.ensures ∙ ap as_monthday read4.read4.given.1)
-    c.silent3.ensures))
+    refused-silent month_text monthday_stops _ _ _ _ _ _ (sym c.monthday_range_at-read.ensures ∙ ap as_monthday c.in-Refused.is)
+    c.silent-in-Refused.ensures))

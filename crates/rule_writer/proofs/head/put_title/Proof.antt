@@ -12,35 +12,27 @@ use Rattle.rule_writer.proofs.head.put_title.Tie as tie
 
 put-three-requires : tie.Need-put_three-requires
 put-three-requires c κs =
-    let width = c.before in
-    let kinded = width.before in
-    let entry = kinded.before.before.before.before in
-    let args = entry.args in
-    let pre = entry.requires in
+    let args = c.args in
+    let pre = c.requires in
     let state = args.state in
-    let kind = kinded.u8_to_u64.ensures.0 ∙ kinded.before.kind_of.ensures in
-    let low : (state_coded state).comment < 2 ^ width.comment_width.result = rw width.comment_width.ensures.0 pre.0.1 in (
+    let kind = c.u8_to_u64.ensures.0 ∙ c.kind_of.ensures in
+    let low : (state_coded state).comment < 2 ^ c.comment_width.result = rw c.comment_width.ensures.0 pre.0.1 in (
       (
         (omega arith, omega (arith, pre.0)),
         (omega arith, omega (arith, kind, kind-number state)),
-        (omega (arith, width.comment_width.ensures.1), omega (arith, c.comment_of.ensures, low)),
-        omega (arith, width.comment_width.ensures.1),
+        (omega (arith, c.comment_width.ensures.1), omega (arith, c.comment_of.ensures, low)),
+        omega (arith, c.comment_width.ensures.1),
       ),
-      room_as (title-bits _ args.operator state _ _ _ pre.0.0 kind c.comment_of.ensures width.comment_width.ensures.0) pre.1,
+      room_as (title-bits _ args.operator state _ _ _ pre.0.0 kind c.comment_of.ensures c.comment_width.ensures.0) pre.1,
     )
 
 returns : tie.Need-returns
 returns c =
-    let put_three = c.before.before in
-    let comment-of = put_three.before in
-    let width = comment-of.before in
-    let kinded = width.before in
-    let entry = kinded.before.before.before.before in
-    let args = entry.args in
-    let kind = kinded.u8_to_u64.ensures.0 ∙ kinded.before.kind_of.ensures in
+    let args = c.args in
+    let kind = c.u8_to_u64.ensures.0 ∙ c.kind_of.ensures in
     wrote_as
-    (title-bits _ args.operator args.state _ _ _ entry.requires.0.0 kind comment-of.comment_of.ensures width.comment_width.ensures.0)
-    put_three.put_three.ensures
+    (title-bits _ args.operator args.state _ _ _ c.requires.0.0 kind c.comment_of.ensures c.comment_width.ensures.0)
+    c.put_three.ensures
 
 pub put_title_spec : {M : Type 1} → statement M
 put_title_spec =

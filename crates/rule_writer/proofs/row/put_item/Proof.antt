@@ -8,63 +8,51 @@ use Rattle.rule_writer.proofs.row.put_item.Tie as tie
 
 put-years-requires : tie.Need-put_years-requires
 put-years-requires c κs =
-    let entry = c.before.before.before in
-    let args = entry.args in
-    let pre = entry.requires in
+    let args = c.args in
+    let pre = c.requires in
     let same = as-years args.sort (args.start, args.end) (omega arith) in
     ((omega (arith, same.1, pre.0), omega (arith, same.1, pre.0)), room_as same.0 pre.1)
 
 put-months-requires : tie.Need-put_months-requires
 put-months-requires c κs =
-    let entry = c.before.before.before in
-    let args = entry.args in
-    let pre = entry.requires in
+    let args = c.args in
+    let pre = c.requires in
     let same = as-months args.sort (args.start, args.end) (omega arith) in
     ((omega (arith, same.1, pre.0), omega (arith, same.1, pre.0)), room_as same.0 pre.1)
 
 put-weeks-requires : tie.Need-put_weeks-requires
 put-weeks-requires c κs =
-    let entry = c.before.before.before in
-    let args = entry.args in
-    let pre = entry.requires in
+    let args = c.args in
+    let pre = c.requires in
     let same = as-weeks args.sort (args.start, args.end) (omega arith) in
     ((omega (arith, same.1, pre.0), omega (arith, same.1, pre.0)), room_as same.0 pre.1)
 
 put-weekdays-requires : tie.Need-put_weekdays-requires
 put-weekdays-requires c κs =
-    let entry = c.before.before.before in
-    let args = entry.args in
-    let pre = entry.requires in
+    let args = c.args in
+    let pre = c.requires in
     let same = as-weekdays args.sort (args.start, args.end) (omega arith) in
     ((omega (arith, same.1, pre.0), omega (arith, same.1, pre.0)), room_as same.0 pre.1)
 
 returns : tie.Need-returns-in-0
 returns c =
-    let put-years = c.before.before in
-    let entry = put-years.before.before.before.before in
-    let args = entry.args in
-    wrote_as (as-years args.sort (args.start, args.end) (omega arith)).0 put-years.put_years.ensures
+    let args = c.args in
+    wrote_as (as-years args.sort (args.start, args.end) (omega arith)).0 c.put_years.ensures
 
 returns-2 : tie.Need-returns-in-1
 returns-2 c =
-    let put-months = c.before.before in
-    let entry = put-months.before.before.before.before in
-    let args = entry.args in
-    wrote_as (as-months args.sort (args.start, args.end) (omega arith)).0 put-months.put_months.ensures
+    let args = c.args in
+    wrote_as (as-months args.sort (args.start, args.end) (omega arith)).0 c.put_months.ensures
 
 returns-3 : tie.Need-returns-in-2
 returns-3 c =
-    let put-weeks = c.before.before in
-    let entry = put-weeks.before.before.before.before in
-    let args = entry.args in
-    wrote_as (as-weeks args.sort (args.start, args.end) (omega arith)).0 put-weeks.put_weeks.ensures
+    let args = c.args in
+    wrote_as (as-weeks args.sort (args.start, args.end) (omega arith)).0 c.put_weeks.ensures
 
 returns-4 : tie.Need-returns-in_default
 returns-4 c =
-    let put-weekdays = c.before.before in
-    let entry = put-weekdays.before.before.before.before in
-    let args = entry.args in
-    wrote_as (as-weekdays args.sort (args.start, args.end) (omega arith)).0 put-weekdays.put_weekdays.ensures
+    let args = c.args in
+    wrote_as (as-weekdays args.sort (args.start, args.end) (omega arith)).0 c.put_weekdays.ensures
 
 pub put_item_spec : {M : Type 1} → statement M
 put_item_spec =

@@ -22,42 +22,36 @@ decreases-loop out₀ at sort ends place item_count next₀ from₀ items-left�
 
 put-item-requires : tie.Need-put_item-next-requires invariant-loop decreases-loop
 put-item-requires c κs =
-    let cast = c.before.before in
-    let tested = cast.before.before.before in
-    let loop = tested.before.loop-items_left in
-    let args = tested.before.before.before.before.args in
+    let loop = c.loop-items_left in
+    let args = c.args in
     let ends = args.ends.now in
-    let some : loop.items_left ≡ 0 → ⊥ = λ z. omega (arith, tested.loop-items_left-test) in (
-      (row_lawful ends loop.from loop.items_left some loop.invariant.0 _ _ cast.u16_to_u64.ensures.0 c.u16_to_u64-in-loop-items_left.ensures.0 _ loop.invariant.1).0,
+    let some : loop.items_left ≡ 0 → ⊥ = λ z. omega (arith, c.loop-items_left-test) in (
+      (row_lawful ends loop.from loop.items_left some loop.invariant.0 _ _ c.u16_to_u64.ensures.0 c.u16_to_u64-in-loop-items_left.ensures.0 _ loop.invariant.1).0,
       room-first _ _
-          (room_as (row_more ends loop.from loop.items_left some loop.invariant.0 _ _ cast.u16_to_u64.ensures.0 c.u16_to_u64-in-loop-items_left.ensures.0 args.sort) loop.invariant.2.room),
+          (room_as (row_more ends loop.from loop.items_left some loop.invariant.0 _ _ c.u16_to_u64.ensures.0 c.u16_to_u64-in-loop-items_left.ensures.0 args.sort) loop.invariant.2.room),
     )
 
 loop-again : tie.Need-loop-items_left-preserved invariant-loop decreases-loop
 loop-again c =
-    let put_item = c.before.before in
-    let cast2 = put_item.before in
-    let cast = cast2.before.before in
-    let tested = cast.before.before.before in
-    let loop = tested.before.loop-items_left in
-    let args = tested.before.before.before.before.args in
+    let loop = c.loop-items_left in
+    let args = c.args in
     let ends = args.ends.now in
-    let some : loop.items_left ≡ 0 → ⊥ = λ z. omega (arith, tested.loop-items_left-test) in (
-      omega (arith, loop.invariant.0, tested.loop-items_left-test),
-      (row_lawful ends loop.from loop.items_left some loop.invariant.0 _ _ cast.u16_to_u64.ensures.0 cast2.u16_to_u64-in-loop-items_left.ensures.0 _ loop.invariant.1).1,
+    let some : loop.items_left ≡ 0 → ⊥ = λ z. omega (arith, c.loop-items_left-test) in (
+      omega (arith, loop.invariant.0, c.loop-items_left-test),
+      (row_lawful ends loop.from loop.items_left some loop.invariant.0 _ _ c.u16_to_u64.ensures.0 c.u16_to_u64-in-loop-items_left.ensures.0 _ loop.invariant.1).1,
       still-next loop.invariant.2
-          (row_more ends loop.from loop.items_left some loop.invariant.0 _ _ cast.u16_to_u64.ensures.0 cast2.u16_to_u64-in-loop-items_left.ensures.0 args.sort) put_item.put_item-next.ensures,
+          (row_more ends loop.from loop.items_left some loop.invariant.0 _ _ c.u16_to_u64.ensures.0 c.u16_to_u64-in-loop-items_left.ensures.0 args.sort) c.put_item-next.ensures,
     )
 
 returns : tie.Need-returns invariant-loop decreases-loop
 returns c =
-    let loop = c.before.loop-items_left in
-    let args = c.before.before.before.before.args in
+    let loop = c.loop-items_left in
+    let args = c.args in
     still-none loop.invariant.2 (row-none args.ends.now loop.from loop.items_left args.sort (omega arith))
 
 pub put_row_spec : {M : Type 1} → statement M
 put_row_spec =
     tie.close
-    (tie.spec invariant-loop decreases-loop (λ c. let pre = c.before.before.requires in (pre.0, pre.1.0, still-all pre.1.1))
+    (tie.spec invariant-loop decreases-loop (λ c. let pre = c.requires in (pre.0, pre.1.0, still-all pre.1.1))
     (λ c. search rules) (λ c. search rules) (λ c κs. search rules) (λ c. search rules) (λ c. search rules) (λ c. search rules) (λ c κs. search rules)
-    put-item-requires (λ c. search rules) (λ c. search rules) (λ c. search rules) loop-again (λ c. c.before.loop.invariant.2.size) returns)
+    put-item-requires (λ c. search rules) (λ c. search rules) (λ c. search rules) loop-again (λ c. c.loop-items_left.invariant.2.size) returns)

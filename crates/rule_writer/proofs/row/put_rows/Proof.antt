@@ -20,19 +20,16 @@ decreases-loop out₀ at ends item-counts next₀ place₀ sort₀ out next plac
 
 loop-holds : tie.Need-loop-sort-init invariant-loop decreases-loop
 unfolding row_place
-loop-holds c = (omega arith, refl, still-all c.before.before.before.requires.1)
+loop-holds c = (omega arith, refl, still-all c.requires.1)
 
 put-row-requires : tie.Need-put_row-next-requires invariant-loop decreases-loop
 put-row-requires c κs =
-    let cast = c.before in
-    let tested = cast.before.before in
-    let loop = tested.before.loop-sort in
-    let entry = tested.before.before.before.before.before in
-    let ends = entry.args.ends.now in
-    let counts = entry.args.item-counts.now in
-    let rows = entry.requires.0 in
-    let low : loop.sort < 4 = omega (arith, tested.loop-sort-test) in
-    let many = cast.u16_to_usize-item_count.ensures.0 in (
+    let loop = c.loop-sort in
+    let ends = c.args.ends.now in
+    let counts = c.args.item_counts.now in
+    let rows = c.requires.0 in
+    let low : loop.sort < 4 = omega (arith, c.loop-sort-test) in
+    let many = c.u16_to_usize-item_count.ensures.0 in (
       omega (arith, row_inside ends counts loop.sort low rows.inside, many, loop.invariant.1),
       (
         subst (All (Below (upper_of loop.sort))) (row_at _ _ _ _ _ many loop.invariant.1) (rows.lawful loop.sort low),
@@ -42,35 +39,28 @@ put-row-requires c κs =
 
 loop-again : tie.Need-loop-sort-preserved invariant-loop decreases-loop
 loop-again c =
-    let put-row = c.before.before in
-    let cast = put-row.before.before in
-    let tested = cast.before.before in
-    let loop = tested.before.loop-sort in
-    let entry = tested.before.before.before.before.before in
-    let counts = entry.args.item-counts.now in
-    let low : loop.sort < 4 = omega (arith, tested.loop-sort-test) in
-    let many = cast.u16_to_usize-item_count.ensures.0 in (
+    let loop = c.loop-sort in
+    let counts = c.args.item_counts.now in
+    let low : loop.sort < 4 = omega (arith, c.loop-sort-test) in
+    let many = c.u16_to_usize-item_count.ensures.0 in (
       omega (arith, low),
       omega (arith, loop.invariant.1, many, place-next counts loop.sort),
-      still-next loop.invariant.2 (rows_more entry.args.ends.now counts loop.sort _ _ low many loop.invariant.1) put-row.put_row-next.ensures,
+      still-next loop.invariant.2 (rows_more c.args.ends.now counts loop.sort _ _ low many loop.invariant.1) c.put_row-next.ensures,
     )
 
 returns : tie.Need-returns invariant-loop decreases-loop
 returns c =
-    let loop = c.before.loop-sort in
-    let args = c.before.before.before.before.before.args in
-    still-none loop.invariant.2 (rows_none args.ends.now args.item-counts.now loop.sort (omega arith))
+    let loop = c.loop-sort in
+    let args = c.args in
+    still-none loop.invariant.2 (rows_none args.ends.now args.item_counts.now loop.sort (omega arith))
 
 add-place : tie.Need-overflow_add-place invariant-loop decreases-loop
 add-place c =
-    let cast = c.before.before.before.before in
-    let tested = cast.before.before in
-    let loop = tested.before.loop-sort in
-    let entry = tested.before.before.before.before.before in
+    let loop = c.loop-sort in
     omega (
       arith,
-      row_inside entry.args.ends.now entry.args.item-counts.now loop.sort (omega (arith, tested.loop-sort-test)) entry.requires.0.inside,
-      cast.u16_to_usize-item_count.ensures.0,
+      row_inside c.args.ends.now c.args.item_counts.now loop.sort (omega (arith, c.loop-sort-test)) c.requires.0.inside,
+      c.u16_to_usize-item_count.ensures.0,
       loop.invariant.1,
     )
 
@@ -78,6 +68,6 @@ pub put_rows_spec : {M : Type 1} → statement M
 put_rows_spec =
     tie.close
     (tie.spec invariant-loop decreases-loop loop-holds (λ c. search rules)
-    (λ c. let tested = c.before in omega (arith, tested.loop-test, tested.before.before.before.before.before.requires.0.four)) (λ c κs. search rules)
-    put-row-requires (λ c. omega (arith, c.before.before.before.before.u16-to-usize.ensures.1)) add-place (λ c. search rules) (λ c. search rules) loop-again
-    (λ c. c.before.loop.invariant.2.size) returns)
+    (λ c. omega (arith, c.loop-sort-test, c.requires.0.four)) (λ c κs. search rules)
+    put-row-requires (λ c. omega (arith, c.u16_to_usize-item_count.ensures.1)) add-place (λ c. search rules) (λ c. search rules) loop-again
+    (λ c. c.loop-sort.invariant.2.size) returns)

@@ -25,33 +25,30 @@ decreases-loop out₀ at spans first span-count next₀ from₀ spans-left₀ ou
 
 put-span-requires : tie.Need-put_span-next-requires invariant-loop decreases-loop
 put-span-requires c κs =
-    let tested = c.before.before in
-    let loop = tested.before.loop-spans_left in
-    let spans = tested.before.before.before.before.args.spans.now in
-    let some : loop.spans-left ≡ 0 → ⊥ = λ z. omega (arith, tested.loop-spans_left-test) in (
-      (spans-lawful spans loop.from loop.spans-left some loop.invariant.0 FitsSpan loop.invariant.1).0,
-      room-first _ _ (room_as (spans-more spans loop.from loop.spans-left some loop.invariant.0) loop.invariant.2.room),
+    let loop = c.loop-spans_left in
+    let spans = c.args.spans.now in
+    let some : loop.spans_left ≡ 0 → ⊥ = λ z. omega (arith, c.loop-spans_left-test) in (
+      (spans-lawful spans loop.from loop.spans_left some loop.invariant.0 FitsSpan loop.invariant.1).0,
+      room-first _ _ (room_as (spans-more spans loop.from loop.spans_left some loop.invariant.0) loop.invariant.2.room),
     )
 
 loop-again : tie.Need-loop-spans_left-preserved invariant-loop decreases-loop
 loop-again c =
-    let put-span = c.before.before in
-    let tested = put-span.before.before.before in
-    let loop = tested.before.loop-spans_left in
-    let spans = tested.before.before.before.before.args.spans.now in
-    let some : loop.spans-left ≡ 0 → ⊥ = λ z. omega (arith, tested.loop-spans_left-test) in (
-      omega (arith, loop.invariant.0, tested.loop-spans_left-test),
-      (spans-lawful spans loop.from loop.spans-left some loop.invariant.0 FitsSpan loop.invariant.1).1,
-      still-next loop.invariant.2 (spans-more spans loop.from loop.spans-left some loop.invariant.0) put-span.put_span-next.ensures,
+    let loop = c.loop-spans_left in
+    let spans = c.args.spans.now in
+    let some : loop.spans_left ≡ 0 → ⊥ = λ z. omega (arith, c.loop-spans_left-test) in (
+      omega (arith, loop.invariant.0, c.loop-spans_left-test),
+      (spans-lawful spans loop.from loop.spans_left some loop.invariant.0 FitsSpan loop.invariant.1).1,
+      still-next loop.invariant.2 (spans-more spans loop.from loop.spans_left some loop.invariant.0) c.put_span-next.ensures,
     )
 
 returns : tie.Need-returns invariant-loop decreases-loop
 returns c =
-    let loop = c.before.loop-spans_left in
-    still-none loop.invariant.2 (spans-none c.before.before.before.before.args.spans.now loop.from loop.spans-left (omega arith))
+    let loop = c.loop-spans_left in
+    still-none loop.invariant.2 (spans-none c.args.spans.now loop.from loop.spans_left (omega arith))
 
 pub put_spans_spec : {M : Type 1} → statement M
 put_spans_spec =
     tie.close
-    (tie.spec invariant-loop decreases-loop (λ c. let pre = c.before.before.requires in (pre.0, pre.1.0, still-all pre.1.1))
-    (λ c. search rules) (λ c. search rules) put-span-requires (λ c. search rules) (λ c. search rules) (λ c. search rules) loop-again (λ c. c.before.loop.invariant.2.size) returns)
+    (tie.spec invariant-loop decreases-loop (λ c. let pre = c.requires in (pre.0, pre.1.0, still-all pre.1.1))
+    (λ c. search rules) (λ c. search rules) put-span-requires (λ c. search rules) (λ c. search rules) (λ c. search rules) loop-again (λ c. c.loop-spans_left.invariant.2.size) returns)

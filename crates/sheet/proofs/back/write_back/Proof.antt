@@ -10,32 +10,25 @@ use Rattle.sheet.proofs.Backs.{back-refused, back-copied}
 use Rattle.sheet.proofs.back.write_back.Statement.{statement}
 use Rattle.sheet.proofs.back.write_back.Tie as tie
 
-returns : tie.Need-returns
+returns : tie.Need-returns-in-Rules
 returns c =
-    let copy-back = c.before.before in
-    let checked = copy-back.before.before.before in
-    let at-check = checked.before.before.before.before in
-    let known = at-check.before.before.before.before in
-    let entry = known.before in
-    let args = entry.args in
-    let bytes = known_bytes args.sheet.now (λ j. omega (arith, known.shared-slice-known.given j)) in
-    let check = sym at-check.check.ensures.0 ∙ ap as_checked checked.checked.given.1 in
+    let args = c.args in
+    let bytes = known_bytes args.sheet.now (λ j. omega (arith, c.shared_slice_known-1.given j)) in
+    let check = sym c.check-checked.ensures.0 ∙ ap as_checked c.in-Rules.is in
     let same = back-copied _ (length args.out.now) args.sheet.now bytes _ _ check in (
-      copy-back.copy-back.ensures.0 ∙ sym (ap written_numbers same),
-      copy-back.copy-back.ensures.1 ∙ sym (ap (λ w. buffer w.result args.out.now) same),
+      c.copy_back.ensures.0 ∙ sym (ap written_numbers same),
+      c.copy_back.ensures.1 ∙ sym (ap (λ w. buffer w.result args.out.now) same),
     )
 
-returns-2 : tie.Need-returns-2
+returns-2 : tie.Need-returns-in-Refused
 returns-2 c =
-    let at-check = c.before.before.before.before.before in
-    let entry = at-check.before.before.before.before.before in
-    let args = entry.args in
-    let check = sym at-check.check.ensures.0 ∙ ap as_checked c.before.checked2.given.1 in
+    let args = c.args in
+    let check = sym c.check-checked.ensures.0 ∙ ap as_checked c.in-Refused.is in
     let same = back-refused _ (length args.out.now) args.sheet.now _ _ check in
     (sym (ap written_numbers same), sym (ap (λ w. buffer w.result args.out.now) same))
 
-pub write-back-spec : {M : Type 1} → statement M
-write-back-spec =
+pub write_back_spec : {M : Type 1} → statement M
+write_back_spec =
     tie.close
-    (tie.spec (λ c κs. c.before.before.before.before.requires) (λ c. search rules) (λ c κs. search rules) (λ c. search rules) (λ c. search rules)
+    (tie.spec (λ c κs. c.requires) (λ c. search rules) (λ c κs. search rules) (λ c. search rules) (λ c. search rules)
     (λ c. search rules) returns (λ c. search rules) returns-2)

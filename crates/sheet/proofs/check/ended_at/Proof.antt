@@ -8,26 +8,22 @@ use Rattle.sheet.proofs.Endings.{ended-set, ended-more, ended-fine}
 use Rattle.sheet.proofs.check.ended_at.Statement.{statement}
 use Rattle.sheet.proofs.check.ended_at.Tie as tie
 
-returns-2 : tie.Need-returns-2
+returns-2 : tie.Need-returns-then-bytes-sheet
 returns-2 c =
-    let first-set = c.before.before in
-    let entry = first-set.before.before in
-    let args = entry.args in
+    let args = c.args in
     sym
-    (ended-more (sheet_bits args.sheet.now) args.at _ first-set.first-set.ensures tt (omega arith)
+    (ended-more (sheet_bits args.sheet.now) args.at _ c.first_set-place.ensures tt (omega arith)
     (omega (arith, length-sheet_bits args.sheet.now)))
 
-returns-3 : tie.Need-returns-3
+returns-3 : tie.Need-returns
 returns-3 c =
-    let first-set = c.before.before in
-    let entry = first-set.before.before in
-    let args = entry.args in
+    let args = c.args in
     sym
-    (ended-fine (sheet_bits args.sheet.now) args.at _ first-set.first-set.ensures tt (omega arith)
+    (ended-fine (sheet_bits args.sheet.now) args.at _ c.first_set-place.ensures tt (omega arith)
     (omega (arith, length-sheet_bits args.sheet.now)))
 
-pub ended-at-spec : {M : Type 1} → statement M
-ended-at-spec =
+pub ended_at_spec : {M : Type 1} → statement M
+ended_at_spec =
     tie.close
     (tie.spec (λ c. search rules) (λ c. search rules) (λ c κs. search rules)
-    (λ c. sym (ended-set _ _ _ c.before.first-set.ensures tt c.if1.true)) returns-2 returns-3)
+    (λ c. sym (ended-set _ _ _ c.first_set-place.ensures tt c.if-place-end.true)) returns-2 returns-3)

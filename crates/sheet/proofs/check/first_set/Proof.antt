@@ -9,37 +9,33 @@ use Rattle.sheet.proofs.Endings.{set_from, set_here, set-later, set-none}
 use Rattle.sheet.proofs.check.first_set.Statement.{statement}
 use Rattle.sheet.proofs.check.first_set.Tie as tie
 
-abbrev invariant-loop : tie.invariant-loop
+abbrev invariant-loop : tie.invariant-loop-at
 invariant-loop sheet start end at₀ at = (at ≤ end) × (set_from (sheet_bits sheet) start end ≡ set_from (sheet_bits sheet) at end)
 
-abbrev decreases-loop : tie.decreases-loop
+abbrev decreases-loop : tie.decreases-loop-at
 decreases-loop sheet start end at₀ at = end - at
 
-returns : tie.Need-returns invariant-loop decreases-loop
+returns : tie.Need-returns-then-field_at-gt0 invariant-loop decreases-loop
 returns c =
-    let loop = c.before.before.before in
-    let entry = loop.before.before in
-    let args = entry.args in
-    let at = loop.loop.at in
+    let args = c.args in
+    let at = c.loop-at.at in
     let here = set_here (sheet_bits args.sheet.now) at args.end (omega arith) (omega (arith, length-sheet_bits args.sheet.now))
-    (omega (arith, c.before.field_at.ensures)) in
-    sym (ap (place_or args.end) (loop.loop.invariant.1 ∙ here))
+    (omega (arith, c.field_at.ensures)) in
+    sym (ap (place_or args.end) (c.loop-at.invariant.1 ∙ here))
 
-loop-again : tie.Need-loop-preserved invariant-loop decreases-loop
+loop-again : tie.Need-loop-at-preserved invariant-loop decreases-loop
 loop-again c =
-    let loop = c.before.before.before in
-    let entry = loop.before.before in
-    let args = entry.args in
-    let at = loop.loop.at in
+    let args = c.args in
+    let at = c.loop-at.at in
     let later = set-later (sheet_bits args.sheet.now) at args.end (at + 1) (omega arith) (omega arith)
-    (omega (arith, length-sheet_bits args.sheet.now)) (omega (arith, c.before.field_at.ensures)) in
-    (omega arith, loop.loop.invariant.1 ∙ later)
+    (omega (arith, length-sheet_bits args.sheet.now)) (omega (arith, c.field_at.ensures)) in
+    (omega arith, c.loop-at.invariant.1 ∙ later)
 
-returns-2 : tie.Need-returns-2 invariant-loop decreases-loop
+returns-2 : tie.Need-returns invariant-loop decreases-loop
 returns-2 c =
-    let args = c.before.before.before.args in
-    sym (ap (place_or args.end) (c.before.loop.invariant.1 ∙ set-none (sheet_bits args.sheet.now) c.before.loop.at args.end (omega arith)))
+    let args = c.args in
+    sym (ap (place_or args.end) (c.loop-at.invariant.1 ∙ set-none (sheet_bits args.sheet.now) c.loop-at.at args.end (omega arith)))
 
-pub first-set-spec : {M : Type 1} → statement M
-first-set-spec =
+pub first_set_spec : {M : Type 1} → statement M
+first_set_spec =
     tie.close (tie.spec invariant-loop decreases-loop (λ c. (omega arith, refl)) (λ c κs. omega arith) returns (λ c. omega arith) (λ c. omega arith) loop-again returns-2)

@@ -7,11 +7,11 @@ use Rattle.sheet.specs.End.{ends}
 use Rattle.sheet.proofs.end.weeks_end.Statement.{statement}
 use Rattle.sheet.proofs.end.weeks_end.Tie as tie
 
-pub weeks-end-spec : {M : Type 1} → statement M
-weeks-end-spec =
+pub weeks_end_spec : {M : Type 1} → statement M
+weeks_end_spec =
     tie.close
     (tie.spec (λ c. search rules) (λ c κs. search rules) (λ c κs. search rules) (λ c. search rules)
-    (λ c. sym (ap ends (c.before.lawful-weeks.ensures c.if2.true _ _ c.before.before.wide_at.ensures)))
+    (λ c. sym (ap ends (c.lawful_weeks.ensures c.if-lawful_weeks.true _ _ c.wide_at.ensures)))
     (λ c κs. search rules) (λ c. search rules) (λ c. search rules)
-    (λ c. ap ends (sym (ap (as_stepped weeks_of) c.before.item.given.1) ∙ c.before.before.before.week-range-at.ensures))
-    (λ c. ap ends (sym (ap (as_stepped weeks_of) c.before.item2.given.1) ∙ c.before.before.before.week-range-at.ensures)))
+    (λ c. ap ends (sym (ap (as_stepped weeks_of) c.in-Item.is) ∙ c.week_range_at-item.ensures))
+    (λ c. ap ends (sym (ap (as_stepped weeks_of) c.in-Refused.is) ∙ c.week_range_at-item.ensures)))

@@ -7,11 +7,11 @@ use Rattle.sheet.specs.End.{ends}
 use Rattle.sheet.proofs.end.years_end.Statement.{statement}
 use Rattle.sheet.proofs.end.years_end.Tie as tie
 
-pub years-end-spec : {M : Type 1} → statement M
-years-end-spec =
+pub years_end_spec : {M : Type 1} → statement M
+years_end_spec =
     tie.close
     (tie.spec (λ c. search rules) (λ c κs. search rules) (λ c κs. search rules) (λ c. search rules)
-    (λ c. sym (ap ends (c.before.lawful-years.ensures c.if2.true _ _ c.before.before.wide_at.ensures)))
+    (λ c. sym (ap ends (c.lawful_years.ensures c.if-lawful_years.true _ _ c.wide_at.ensures)))
     (λ c κs. search rules) (λ c. search rules) (λ c. search rules)
-    (λ c. ap ends (sym (ap (as_stepped years_of) c.before.item.given.1) ∙ c.before.before.before.year-range-at.ensures))
-    (λ c. ap ends (sym (ap (as_stepped years_of) c.before.item2.given.1) ∙ c.before.before.before.year-range-at.ensures)))
+    (λ c. ap ends (sym (ap (as_stepped years_of) c.in-Item.is) ∙ c.year_range_at-item.ensures))
+    (λ c. ap ends (sym (ap (as_stepped years_of) c.in-Refused.is) ∙ c.year_range_at-item.ensures)))

@@ -9,100 +9,60 @@ use Rattle.sheet.proofs.Rows.{years-row, monthdays-row, weeks-row, weekdays-row,
 use Rattle.sheet.proofs.rule.body_end.Statement.{statement}
 use Rattle.sheet.proofs.rule.body_end.Tie as tie
 
-pub body-end-spec : {M : Type 1} → statement M
+pub body_end_spec : {M : Type 1} → statement M
 unfolding body
-body-end-spec =
+body_end_spec =
     tie.close
     (tie.spec
     (λ c κs. search rules)
     (λ c. search rules) (λ c. search rules)
     (λ c.
-    let items-end = c.before.before in
-    ap as_step c.enum_told.given.1
-    ∙ sym (ends-stops _ _ _ _ _ _ (years-row _ _ _ ∙ halted _ _ _ items-end.items-end.ensures c.enum_told.given.1)))
+    ap as_step c.in_default.is
+    ∙ sym (ends-stops _ _ _ _ _ _ (years-row _ _ _ ∙ halted _ _ _ c.items_end-first.ensures c.in_default.is)))
     (λ c κs.
-    let items-end = c.before.before.before in
-    omega (arith, row-short _ _ _ _ _ (went _ _ items-end.items-end.ensures c.before.first.given.1)))
+    omega (arith, row-short _ _ _ _ _ (went _ _ c.items_end-first.ensures c.in-At.is)))
     (λ c. search rules) (λ c. search rules)
     (λ c.
-    let items-end2 = c.before.before in
-    let first = items-end2.before.before in
-    let items-end = first.before.before in
-    ap as_step c.enum-told2.given.1
-    ∙ sym (ends-goes _ _ _ _ _ (years-row _ _ _ ∙ went _ _ items-end.items-end.ensures first.first.given.1) ∙
-    (ends-stops _ _ _ _ _ _ (monthdays-row _ _ _ ∙ halted _ _ _ items-end2.items-end2.ensures c.enum-told2.given.1))))
+    ap as_step c.in_default-second.is
+    ∙ sym (ends-goes _ _ _ _ _ (years-row _ _ _ ∙ went _ _ c.items_end-first.ensures c.in-At.is) ∙
+    (ends-stops _ _ _ _ _ _ (monthdays-row _ _ _ ∙ halted _ _ _ c.items_end-second.ensures c.in_default-second.is))))
     (λ c κs.
-    let items-end2 = c.before.before.before in
-    let first = items-end2.before.before in
-    let items-end = first.before.before in
     omega (
       arith,
-      row-short _ _ _ _ _ (went _ _ items-end.items-end.ensures first.first.given.1),
-      row-short _ _ _ _ _ (went _ _ items-end2.items-end2.ensures c.before.second.given.1),
+      row-short _ _ _ _ _ (went _ _ c.items_end-first.ensures c.in-At.is),
+      row-short _ _ _ _ _ (went _ _ c.items_end-second.ensures c.in-At-second.is),
     ))
     (λ c. search rules) (λ c. search rules)
     (λ c.
-    let items-end3 = c.before.before in
-    let second = items-end3.before.before in
-    let items-end2 = second.before.before in
-    let first = items-end2.before.before in
-    let items-end = first.before.before in
-    ap as_step c.enum-told3.given.1
-    ∙ sym (ends-goes _ _ _ _ _ (years-row _ _ _ ∙ went _ _ items-end.items-end.ensures first.first.given.1) ∙
-    (ends-goes _ _ _ _ _ (monthdays-row _ _ _ ∙ went _ _ items-end2.items-end2.ensures second.second.given.1) ∙
-    (ends-stops _ _ _ _ _ _ (weeks-row _ _ _ ∙ halted _ _ _ items-end3.items-end3.ensures c.enum-told3.given.1)))))
+    ap as_step c.in_default-third.is
+    ∙ sym (ends-goes _ _ _ _ _ (years-row _ _ _ ∙ went _ _ c.items_end-first.ensures c.in-At.is) ∙
+    (ends-goes _ _ _ _ _ (monthdays-row _ _ _ ∙ went _ _ c.items_end-second.ensures c.in-At-second.is) ∙
+    (ends-stops _ _ _ _ _ _ (weeks-row _ _ _ ∙ halted _ _ _ c.items_end-third.ensures c.in_default-third.is)))))
     (λ c κs.
-    let items-end3 = c.before.before.before in
-    let second = items-end3.before.before in
-    let items-end2 = second.before.before in
-    let first = items-end2.before.before in
-    let items-end = first.before.before in
     omega (
       arith,
-      row-short _ _ _ _ _ (went _ _ items-end.items-end.ensures first.first.given.1),
-      row-short _ _ _ _ _ (went _ _ items-end2.items-end2.ensures second.second.given.1),
-      row-short _ _ _ _ _ (went _ _ items-end3.items-end3.ensures c.before.third.given.1),
+      row-short _ _ _ _ _ (went _ _ c.items_end-first.ensures c.in-At.is),
+      row-short _ _ _ _ _ (went _ _ c.items_end-second.ensures c.in-At-second.is),
+      row-short _ _ _ _ _ (went _ _ c.items_end-third.ensures c.in-At-third.is),
     ))
     (λ c. search rules) (λ c. search rules)
     (λ c.
-    let items-end4 = c.before.before in
-    let third = items-end4.before.before in
-    let items-end3 = third.before.before in
-    let second = items-end3.before.before in
-    let items-end2 = second.before.before in
-    let first = items-end2.before.before in
-    let items-end = first.before.before in
-    ap as_step c.enum-told4.given.1
-    ∙ sym (ends-goes _ _ _ _ _ (years-row _ _ _ ∙ went _ _ items-end.items-end.ensures first.first.given.1) ∙
-    (ends-goes _ _ _ _ _ (monthdays-row _ _ _ ∙ went _ _ items-end2.items-end2.ensures second.second.given.1) ∙
-    (ends-goes _ _ _ _ _ (weeks-row _ _ _ ∙ went _ _ items-end3.items-end3.ensures third.third.given.1) ∙
-    (ends-stops _ _ _ _ _ _ (weekdays-row _ _ _ ∙ halted _ _ _ items-end4.items-end4.ensures c.enum-told4.given.1))))))
+    ap as_step c.in_default-fourth.is
+    ∙ sym (ends-goes _ _ _ _ _ (years-row _ _ _ ∙ went _ _ c.items_end-first.ensures c.in-At.is) ∙
+    (ends-goes _ _ _ _ _ (monthdays-row _ _ _ ∙ went _ _ c.items_end-second.ensures c.in-At-second.is) ∙
+    (ends-goes _ _ _ _ _ (weeks-row _ _ _ ∙ went _ _ c.items_end-third.ensures c.in-At-third.is) ∙
+    (ends-stops _ _ _ _ _ _ (weekdays-row _ _ _ ∙ halted _ _ _ c.items_end-fourth.ensures c.in_default-fourth.is))))))
     (λ c κs.
-    let items-end4 = c.before.before.before in
-    let third = items-end4.before.before in
-    let items-end3 = third.before.before in
-    let second = items-end3.before.before in
-    let items-end2 = second.before.before in
-    let first = items-end2.before.before in
-    let items-end = first.before.before in
     omega (
       arith,
-      row-short _ _ _ _ _ (went _ _ items-end.items-end.ensures first.first.given.1),
-      row-short _ _ _ _ _ (went _ _ items-end2.items-end2.ensures second.second.given.1),
-      row-short _ _ _ _ _ (went _ _ items-end3.items-end3.ensures third.third.given.1),
-      row-short _ _ _ _ _ (went _ _ items-end4.items-end4.ensures c.before.fourth.given.1),
+      row-short _ _ _ _ _ (went _ _ c.items_end-first.ensures c.in-At.is),
+      row-short _ _ _ _ _ (went _ _ c.items_end-second.ensures c.in-At-second.is),
+      row-short _ _ _ _ _ (went _ _ c.items_end-third.ensures c.in-At-third.is),
+      row-short _ _ _ _ _ (went _ _ c.items_end-fourth.ensures c.in-At-fourth.is),
     ))
     (λ c.
-    let fourth = c.before.before in
-    let items-end4 = fourth.before.before in
-    let third = items-end4.before.before in
-    let items-end3 = third.before.before in
-    let second = items-end3.before.before in
-    let items-end2 = second.before.before in
-    let first = items-end2.before.before in
-    let items-end = first.before.before in
-    c.items-end5.ensures
-    ∙ sym (ends-goes _ _ _ _ _ (years-row _ _ _ ∙ went _ _ items-end.items-end.ensures first.first.given.1) ∙
-    (ends-goes _ _ _ _ _ (monthdays-row _ _ _ ∙ went _ _ items-end2.items-end2.ensures second.second.given.1) ∙
-    (ends-goes _ _ _ _ _ (weeks-row _ _ _ ∙ went _ _ items-end3.items-end3.ensures third.third.given.1) ∙
-    (ends-goes _ _ _ _ _ (weekdays-row _ _ _ ∙ went _ _ items-end4.items-end4.ensures fourth.fourth.given.1) ∙ spans-row _ _ _))))))
+    c.items_end.ensures
+    ∙ sym (ends-goes _ _ _ _ _ (years-row _ _ _ ∙ went _ _ c.items_end-first.ensures c.in-At.is) ∙
+    (ends-goes _ _ _ _ _ (monthdays-row _ _ _ ∙ went _ _ c.items_end-second.ensures c.in-At-second.is) ∙
+    (ends-goes _ _ _ _ _ (weeks-row _ _ _ ∙ went _ _ c.items_end-third.ensures c.in-At-third.is) ∙
+    (ends-goes _ _ _ _ _ (weekdays-row _ _ _ ∙ went _ _ c.items_end-fourth.ensures c.in-At-fourth.is) ∙ spans-row _ _ _))))))

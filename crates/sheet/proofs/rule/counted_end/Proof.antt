@@ -9,43 +9,30 @@ use Rattle.sheet.proofs.WideHeads.{wide-counts}
 use Rattle.sheet.proofs.rule.counted_end.Statement.{statement}
 use Rattle.sheet.proofs.rule.counted_end.Tie as tie
 
-body-end-requires : tie.Need-body-end-requires
+body-end-requires : tie.Need-body_end-requires
 body-end-requires c κs =
-    let low = c.before.counts-allowed.ensures c.if2.true in
-    let width = c.before.before.before.before.before.before.before.before.before.before in
-    (omega (arith, width.item-count-width.ensures.1), omega (arith, low.0), omega (arith, low.1), omega (arith, low.2), omega (arith, low.3), omega (arith, low.4))
+    let low = c.counts_allowed.ensures c.if-counts_allowed.true in
+    (omega (arith, c.item_count_width-width.ensures.1), omega (arith, low.0), omega (arith, low.1), omega (arith, low.2), omega (arith, low.3), omega (arith, low.4))
 
-at_once : tie.Need-returns
+at_once : tie.Need-returns-then-counts_allowed
 at_once c =
-    let allowed = c.before.before in
-    let spans = allowed.before in
-    let weekdays = spans.before in
-    let weeks = weekdays.before in
-    let monthdays = weeks.before in
-    let years = monthdays.before in
-    let second = years.before in
-    let first = second.before in
-    let width = first.before.before in
-    c.body-end.ensures
+    c.body_end.ensures
     ∙ sym (counted-goes _ _ _ _ _
-    (wide-counts width.item-count-width.result width.item-count-width.ensures.1 first.wide_at.ensures second.wide-at2.ensures _ _ _ _ _
-    width.before.before.args.form width.item-count-width.ensures.0 years.part.ensures monthdays.part2.ensures weeks.part3.ensures
-    weekdays.part4.ensures spans.part5.ensures (allowed.counts-allowed.ensures c.before.if2.true)))
+    (wide-counts c.item_count_width-width.result c.item_count_width-width.ensures.1 c.wide_at-three.ensures c.wide_at-two.ensures _ _ _ _ _
+    c.args.form c.item_count_width-width.ensures.0 c.part-years.ensures c.part-monthdays.ensures c.part-weeks.ensures
+    c.part-weekdays.ensures c.part-spans.ensures (c.counts_allowed.ensures c.if-counts_allowed.true)))
 
-body-end-requires-2 : tie.Need-body-end-requires-2
+body-end-requires-2 : tie.Need-body_end-requires-in-Counts
 body-end-requires-2 c κs =
-    let counts = c.before.before.before in
-    let low = counts-low _ _ _ _ _ (took-counts _ _ _ _ _ _ _ counts.counts-at.ensures c.before.head.given.1) in
-    let form = counts.before.before.before.before.args.form in
+    let low = counts-low _ _ _ _ _ (took-counts _ _ _ _ _ _ _ c.counts_at-head.ensures c.in-Counts.is) in
+    let form = c.args.form in
     (omega (arith, low.5, (narrow form).head-narrow), omega (arith, low.0), omega (arith, low.1), omega (arith, low.2), omega (arith, low.3), omega (arith, low.4))
 
-pub counted-end-spec : {M : Type 1} → statement M
-counted-end-spec =
+pub counted_end_spec : {M : Type 1} → statement M
+counted_end_spec =
     tie.close
     (tie.spec (λ c κs. search rules) (λ c. search rules) (λ c. search rules) (λ c. search rules) (λ c κs. search rules) (λ c κs. search rules) (λ c. search rules) (λ c κs. search rules) (λ c. search rules) (λ c. search rules) (λ c κs. search rules) (λ c. search rules) (λ c. search rules) (λ c κs. search rules) (λ c. search rules) (λ c κs. search rules) (λ c. search rules) (λ c. search rules) (λ c κs. search rules) (λ c κs. search rules) (λ c. search rules) (λ c. search rules) body-end-requires at_once
     (λ c κs. search rules) (λ c. search rules) body-end-requires-2 (λ c. search rules)
     (λ c.
-    let head = c.before.before in
-    let counts = head.before.before in
-    c.body-end2.ensures ∙ sym (counted-goes _ _ _ _ _ (took-counts _ _ _ _ _ _ _ counts.counts-at.ensures head.head.given.1)))
-    (λ c. sym (counted-stops _ _ _ _ _ (stopped-counts _ _ _ c.before.before.before.counts-at.ensures c.before.head2.given.1))))
+    c.body_end-in-Counts.ensures ∙ sym (counted-goes _ _ _ _ _ (took-counts _ _ _ _ _ _ _ c.counts_at-head.ensures c.in-Counts.is)))
+    (λ c. sym (counted-stops _ _ _ _ _ (stopped-counts _ _ _ c.counts_at-head.ensures c.in-Refused.is))))

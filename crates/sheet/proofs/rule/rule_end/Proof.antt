@@ -10,26 +10,21 @@ use Rattle.sheet.proofs.RuleEnds.{rule-goes, rule-stops, took-title, stopped-tit
 use Rattle.sheet.proofs.rule.rule_end.Statement.{statement}
 use Rattle.sheet.proofs.rule.rule_end.Tie as tie
 
-at_once : tie.Need-returns
+at_once : tie.Need-returns-then-lawful_title
 at_once c =
-    let width = c.before in
-    let lawful = width.before.before in
-    let title = lawful.lawful-title.ensures width.before.if2.true _ _ lawful.before.wide_at.ensures in
-    let at = lawful.before.before.before.before.args.at in
-    c.counted-end.ensures ∙ sym (rule-goes _ _ _ _ _ (title.1 ∙ ap (λ w. got title.0 (at + w)) (sym width.title-width.ensures.0)))
+    let title = c.lawful_title.ensures c.if-lawful_title.true _ _ c.wide_at.ensures in
+    let at = c.args.at in
+    c.counted_end.ensures ∙ sym (rule-goes _ _ _ _ _ (title.1 ∙ ap (λ w. got title.0 (at + w)) (sym c.title_width.ensures.0)))
 
-counted-end-requires-2 : tie.Need-counted-end-requires-2
+counted-end-requires-2 : tie.Need-counted_end-requires-in-Title
 counted-end-requires-2 c κs =
-    let title = c.before.before.before in
-    let end = title-end _ _ _ _ _ (took-title _ _ _ _ _ title.title-at.ensures c.before.head.given.1) in
-    omega (arith, end, (narrow title.before.before.before.args.form).head-narrow)
+    let end = title-end _ _ _ _ _ (took-title _ _ _ _ _ c.title_at-head.ensures c.in-Title.is) in
+    omega (arith, end, (narrow c.args.form).head-narrow)
 
-pub rule-end-spec : {M : Type 1} → statement M
-rule-end-spec =
+pub rule_end_spec : {M : Type 1} → statement M
+rule_end_spec =
     tie.close
     (tie.spec (λ c. search rules) (λ c κs. search rules) (λ c κs. search rules) (λ c κs. search rules) (λ c. search rules) (λ c κs. search rules) at_once (λ c κs. search rules) (λ c. search rules) counted-end-requires-2 (λ c. search rules)
     (λ c.
-    let head = c.before.before in
-    let title = head.before.before in
-    c.counted-end2.ensures ∙ sym (rule-goes _ _ _ _ _ (took-title _ _ _ _ _ title.title-at.ensures head.head.given.1)))
-    (λ c. sym (rule-stops _ _ _ _ _ (stopped-title _ _ _ c.before.before.before.title-at.ensures c.before.head2.given.1))))
+    c.counted_end-in-Title.ensures ∙ sym (rule-goes _ _ _ _ _ (took-title _ _ _ _ _ c.title_at-head.ensures c.in-Title.is)))
+    (λ c. sym (rule-stops _ _ _ _ _ (stopped-title _ _ _ c.title_at-head.ensures c.in-Refused.is))))

@@ -9,5 +9,5 @@ numbers_of_spec =
     tie.close
     (tie.spec
     (λ c. search rules) (λ c κs. search rules) (λ c κs. search rules) (λ c. search rules) (λ c κs. search rules) (λ c. search rules)
-    (λ c. state-numbers _ _ _ _ _ c.before.before.before.before.found.given.1 c.before.before.u32-to-u64.ensures.0 c.before.kind-of.ensures c.comment-of.ensures)
-    (λ c. unsettled-numbers _ c.enum_told.given.1))
+    (λ c. state-numbers _ _ _ _ _ c.in-State.is c.u32_to_u64-number.ensures.0 c.kind_of.ensures c.comment_of.ensures)
+    (λ c. unsettled-numbers _ c.in-Unsettled.is))

@@ -11,9 +11,6 @@ box_at_spec =
     (λ c κs. search rules) (λ c κs. search rules) (λ c κs. search rules) (λ c κs. search rules) (λ c κs. search rules) (λ c κs. search rules)
     (λ c κs. search rules)
     (λ c.
-    let after-u8-to-u162 = c.before.before.before.before in
-    let after-child-at = after-u8-to-u162.before in
-    let after-u8-to-u16 = after-child-at.before in
-    box-found _ _ _ _ _ _ _ _ _ _ _ (child-of _ _ _ _ _ _ _ _ after-u8-to-u16.u8-to-u16.ensures.0 after-child-at.child-at.ensures)
-    (child-of _ _ _ _ _ _ _ _ after-u8-to-u162.u8-to-u162.ensures.0 c.before.before.before.child-at2.ensures)
-    (child-of _ _ _ _ _ _ _ _ c.before.before.u8-to-u163.ensures.0 c.before.child-at3.ensures) c.child-at4.ensures))
+    box-found _ _ _ _ _ _ _ _ _ _ _ (child-of _ _ _ _ _ _ _ _ c.u8_to_u16.ensures.0 c.child_at-by_weekday.ensures)
+    (child-of _ _ _ _ _ _ _ _ c.u8_to_u16-2.ensures.0 c.child_at-by_week.ensures)
+    (child-of _ _ _ _ _ _ _ _ c.u8_to_u16-3.ensures.0 c.child_at-by_month.ensures) c.child_at.ensures))

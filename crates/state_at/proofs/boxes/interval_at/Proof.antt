@@ -19,13 +19,11 @@ interval_at_spec =
     invariant-loop decreases-loop
     (λ c. enclosed-first c.args.cuts.now c.args.first _ _ c.requires.1 c.requires.2 c.requires.3)
     (λ c. search rules) (λ c. search rules) (λ c. search rules) (λ c. search rules) (λ c. search rules)
-    (λ c. omega (arith, c.before.before.loop.invariant.1, c.before.before.before.requires.0))
+    (λ c. omega (arith, c.loop-upper.invariant.1, c.requires.0))
     (λ c. search rules)
     (λ c.
-    let in-loop = c.before.before.before in
-    (omega arith, omega (arith, in-loop.loop.invariant.1), in-loop.loop.invariant.2, c.if1.true))
+    (omega arith, omega (arith, c.loop-upper.invariant.1), c.loop-upper.invariant.2, c.if-value-cuts.true))
     (λ c. search rules)
     (λ c.
-    let in-loop = c.before.before.before in
-    (omega arith, in-loop.loop.invariant.1, c.if1.false, in-loop.loop.invariant.3))
-    (λ c. enclosed-last c.before.before.args.cuts.now c.before.before.args.first _ _ _ _ c.before.loop.invariant (omega arith)))
+    (omega arith, c.loop-upper.invariant.1, c.if-value-cuts.false, c.loop-upper.invariant.3))
+    (λ c. enclosed-last c.args.cuts.now c.args.first _ _ _ _ c.loop-upper.invariant (omega arith)))

@@ -11,13 +11,9 @@ after_span_spec =
     (tie.spec
     (λ c κs. search rules) (λ c κs. search rules) (λ c κs. search rules)
     (λ c.
-    let after-fixed-time = c.before.before.before.before in
-    let entry = after-fixed-time.before in
-    span-covers _ _ _ _ _ _ _ entry.requires after-fixed-time.fixed-time.ensures c.before.before.before.start_of_lem.ensures c.before.end_of_lem.ensures
-    c.before.before.if1.true c.if2.true)
+    span-covers _ _ _ _ _ _ _ c.requires c.fixed_time-time.ensures c.start_of.ensures c.end_of.ensures
+    c.if-start_of-time.true c.if-time-end_of.true)
     (λ c.
-    let after-fixed-time = c.before.before.before.before in
-    let entry = after-fixed-time.before in
-    span-ended _ _ _ _ _ _ _ entry.requires after-fixed-time.fixed-time.ensures c.before.before.before.start_of_lem.ensures c.before.end_of_lem.ensures
-    c.before.before.if1.true c.if2.false)
-    (λ c. span-later _ _ _ _ _ _ _ c.before.before.before.requires c.before.before.fixed-time.ensures c.before.start_of_lem.ensures refl c.if1.false))
+    span-ended _ _ _ _ _ _ _ c.requires c.fixed_time-time.ensures c.start_of.ensures c.end_of.ensures
+    c.if-start_of-time.true c.if-time-end_of.false)
+    (λ c. span-later _ _ _ _ _ _ _ c.requires c.fixed_time-time.ensures c.start_of.ensures refl c.if-start_of-time.false))

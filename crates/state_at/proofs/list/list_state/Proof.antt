@@ -9,5 +9,5 @@ list_state_spec =
     tie.close
     (tie.spec
     (λ c. search rules) (λ c. search rules) (λ c. search rules) (λ c κs. search rules) (λ c. search rules)
-    (λ c κs. let p = c.before.before.before.before.before.before.requires in list-ready _ _ _ p.0.0 p.0.1 _ _ _ p.0.2 c.u16-to-usize.ensures.0 p.1.0 p.1.1)
-    (λ c. λ rs tables named. list-answered _ _ _ rs tables _ _ _ named c.before.u16-to-usize.ensures.0 _ _ c.over-list.ensures))
+    (λ c κs. let p = c.requires in list-ready _ _ _ p.0.0 p.0.1 _ _ _ p.0.2 c.u16_to_usize-rule_count.ensures.0 p.1.0 p.1.1)
+    (λ c. λ rs tables named. list-answered _ _ _ rs tables _ _ _ named c.u16_to_usize-rule_count.ensures.0 _ _ c.over_list.ensures))

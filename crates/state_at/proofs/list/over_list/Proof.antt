@@ -23,26 +23,20 @@ over_list_spec =
     tie.close
     (tie.spec
     invariant-loop decreases-loop
-    (λ c. (refl, c.before.before.before.before.requires.1))
+    (λ c. (refl, c.requires.1))
     (λ c. search rules) (λ c. search rules) (λ c. search rules)
     (λ c κs.
-    let entry = c.before.before.before.before.before.before.before in
-    let a = entry.args in (numbers-all a.lists.now _ _ _ (InTables a.states.now a.span_counts.now a.spans.now) (omega arith) c.before.before.loop.invariant.1).0)
+    let a = c.args in (numbers-all a.lists.now _ _ _ (InTables a.states.now a.span_counts.now a.spans.now) (omega arith) c.loop-next.invariant.1).0)
     (λ c. search rules) (λ c. search rules) (λ c. search rules)
     (λ c.
-    let in-loop = c.before.before.before.before.before.before in
-    let entry = in-loop.before.before.before.before.before in
-    let a = entry.args in (
-      list_on a.lists.now _ _ _ a.states.now a.span_counts.now a.spans.now _ _ (omega arith) _ c.before.before.before.over-rule.ensures _
-          c.before.found.given.1 ∙ in-loop.loop.invariant.0,
-      (numbers-all a.lists.now _ _ _ (InTables a.states.now a.span_counts.now a.spans.now) (omega arith) in-loop.loop.invariant.1).1,
+    let a = c.args in (
+      list_on a.lists.now _ _ _ a.states.now a.span_counts.now a.spans.now _ _ (omega arith) _ c.over_rule-found.ensures _
+          c.in-State.is ∙ c.loop-next.invariant.0,
+      (numbers-all a.lists.now _ _ _ (InTables a.states.now a.span_counts.now a.spans.now) (omega arith) c.loop-next.invariant.1).1,
     ))
     (λ c. search rules)
     (λ c.
-    let in-loop = c.before.before.before.before.before in
-    let entry = in-loop.before.before.before.before.before in
-    let a = entry.args in list-unsettled a.lists.now _ _ _ a.states.now a.span_counts.now a.spans.now _ _ (omega arith) _ c.before.before.over-rule.ensures
-    c.enum_told.given.1 ∙ in-loop.loop.invariant.0)
+    let a = c.args in list-unsettled a.lists.now _ _ _ a.states.now a.span_counts.now a.spans.now _ _ (omega arith) _ c.over_rule-found.ensures
+    c.in-Unsettled.is ∙ c.loop-next.invariant.0)
     (λ c.
-    let entry = c.before.before.before.before.before.before in
-    let a = entry.args in list-end a.lists.now _ _ _ a.states.now a.span_counts.now a.spans.now _ _ (omega arith) ∙ c.before.loop.invariant.0))
+    let a = c.args in list-end a.lists.now _ _ _ a.states.now a.span_counts.now a.spans.now _ _ (omega arith) ∙ c.loop-next.invariant.0))

@@ -10,7 +10,6 @@ over_rule_spec =
     (tie.spec
     (λ c κs. search rules) (λ c. search rules) (λ c. search rules) (λ c κs. search rules) (λ c. search rules) (λ c. search rules) (λ c. search rules)
     (λ c κs.
-    let entry = c.before.before.before.before.before.before.before in
-    let a = entry.args in rule-room a.states.now a.span_counts.now a.spans.now _ _ _ entry.requires c.before.before.before.u16-to-usize.ensures.0
-    c.before.u8-to-usize.ensures.0)
-    (λ c. rule-over _ _ _ _ _ _ _ _ _ c.before.before.before.before.u16-to-usize.ensures.0 c.before.before.u8-to-usize.ensures.0 c.over-spans.ensures))
+    let a = c.args in rule-room a.states.now a.span_counts.now a.spans.now _ _ _ c.requires c.u16_to_usize-row.ensures.0
+    c.u8_to_usize.ensures.0)
+    (λ c. rule-over _ _ _ _ _ _ _ _ _ c.u16_to_usize-row.ensures.0 c.u8_to_usize.ensures.0 c.over_spans.ensures))

@@ -23,8 +23,8 @@ over_spans_spec =
     invariant-loop decreases-loop
     (λ c. refl)
     (λ c. search rules) (λ c. search rules) (λ c κs. search rules)
-    (λ c κs. sym c.before.is-simple.ensures ∙ c.if1.true)
+    (λ c κs. sym c.is_simple.ensures ∙ c.if-is_simple.true)
     (λ c. search rules) (λ c. search rules)
-    (λ c. spans_on _ _ _ _ _ _ (omega arith) (sym c.before.before.is-simple.ensures ∙ c.before.if1.true) _ c.after-span.ensures ∙ c.before.before.before.before.before.loop.invariant)
-    (λ c. spans-unsettled _ _ _ _ _ _ (omega arith) (sym c.before.is-simple.ensures ∙ c.if1.false) ∙ c.before.before.before.before.loop.invariant)
-    (λ c. spans-end _ _ _ _ _ _ (omega arith) ∙ c.before.loop.invariant))
+    (λ c. spans_on _ _ _ _ _ _ (omega arith) (sym c.is_simple.ensures ∙ c.if-is_simple.true) _ c.after_span-shown.ensures ∙ c.loop-at.invariant)
+    (λ c. spans-unsettled _ _ _ _ _ _ (omega arith) (sym c.is_simple.ensures ∙ c.if-is_simple.false) ∙ c.loop-at.invariant)
+    (λ c. spans-end _ _ _ _ _ _ (omega arith) ∙ c.loop-at.invariant))

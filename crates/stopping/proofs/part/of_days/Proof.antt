@@ -8,13 +8,13 @@ use Rattle.stopping.proofs.Items.{days-stand}
 use Rattle.stopping.proofs.part.of_days.Statement.{statement}
 use Rattle.stopping.proofs.part.of_days.Tie as tie
 
-standing : (c : tie.After-every-week) → let a = c.before.before.args in days_reason a.offset a.from_start a.from_end ≡ cond c.every-week.result 0 8
-standing c = let a = c.before.before.args in days-stand a.offset a.from_start a.from_end _ c.before.if1.true c.every-week.ensures
+standing : (c : tie.After-every-week) → let a = c.before.before.args in days_reason a.offset a.from_start a.from_end ≡ cond c.every_week.result 0 8
+standing c = let a = c.before.before.args in days-stand a.offset a.from_start a.from_end _ c.before.if1.true c.every_week.ensures
 
-pub of-days-spec : {M : Type 1} → statement M
-of-days-spec =
+pub of_days_spec : {M : Type 1} → statement M
+of_days_spec =
     tie.close
     (tie.spec (λ c κs. search rules)
-    (λ c. sym (standing c.before ∙ ap (λ b. cond b 0 8) c.if2.true))
-    (λ c. sym (standing c.before ∙ ap (λ b. cond b 0 8) c.if2.false))
-    (λ c. sym (rw (ne_eqb _ 0 c.if1.false))))
+    (λ c. sym (standing c ∙ ap (λ b. cond b 0 8) c.if-every_week.true))
+    (λ c. sym (standing c ∙ ap (λ b. cond b 0 8) c.if-every_week.false))
+    (λ c. sym (rw (ne_eqb _ 0 c.if-offset-eq0.false))))

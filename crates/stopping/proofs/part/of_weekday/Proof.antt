@@ -5,12 +5,12 @@ use Rattle.stopping.specs.Part.{found}
 use Rattle.stopping.proofs.part.of_weekday.Statement.{statement}
 use Rattle.stopping.proofs.part.of_weekday.Tie as tie
 
-pub of-weekday-spec : {M : Type 1} → statement M
-of-weekday-spec =
+pub of_weekday_spec : {M : Type 1} → statement M
+of_weekday_spec =
     tie.close
     (tie.spec (λ c. search rules) (λ c κs. search rules) (λ c. search rules) (λ c. search rules)
     (λ c.
-    let read = c.before.before.read in
-    ap (λ z. found z read.given.0.1.1.1.1.1.0) c.of-days.ensures ∙ sym (rw read.given.1))
-    (λ c. sym (rw c.before.read2.given.1))
-    (λ c. sym (rw c.before.read3.given.1)))
+    let read = c.read-1 in
+    ap (λ z. found z read.given.0.1.1.1.1.1.0) c.of_days.ensures ∙ sym (rw read.given.1))
+    (λ c. sym (rw c.in-Holiday.is))
+    (λ c. sym (rw c.in-Refused.is)))

@@ -8,13 +8,13 @@ use Rattle.stopping.proofs.Items.{reaches-tomorrow}
 use Rattle.stopping.proofs.part.stays_today.Statement.{statement}
 use Rattle.stopping.proofs.part.stays_today.Tie as tie
 
-pub stays-today-spec : {M : Type 1} → statement M
-stays-today-spec =
+pub stays_today_spec : {M : Type 1} → statement M
+stays_today_spec =
     tie.close
     (tie.spec (λ c. search rules) (λ c. search rules) (λ c. search rules) (λ c. search rules)
-    (λ c. sym (rw (c.before.before.start.given.1, c.before.before.before.before.before.end.given.1, lt-ltb _ _ c.if1.true)))
-    (λ c. sym (rw (c.before.before.start.given.1, c.before.before.before.before.before.end.given.1, le-ltb _ _ c.if1.false)))
-    (λ c. sym (rw (c.before.start2.given.1, c.before.before.before.before.end.given.1)))
+    (λ c. sym (rw (c.in-Fixed-start.is, c.in-Fixed.is, lt-ltb _ _ c.if-first-last.true)))
+    (λ c. sym (rw (c.in-Fixed-start.is, c.in-Fixed.is, le-ltb _ _ c.if-first-last.false)))
+    (λ c. sym (rw (c.in-Variable-start.is, c.in-Fixed.is)))
     (λ c.
-    let start = as_time c.before.before.before.args.start in
-    sym (ap (λ t. stays_today start (as_time t)) c.before.end2.given.1 ∙ reaches-tomorrow start _ _)))
+    let start = as_time c.args.start in
+    sym (ap (λ t. stays_today start (as_time t)) c.in-Variable.is ∙ reaches-tomorrow start _ _)))

@@ -10,10 +10,10 @@ use Rattle.stopping.proofs.rule.body_reason.Statement.{statement}
 use Rattle.stopping.proofs.rule.body_reason.Tie as tie
 
 -- how far the rows reach
-years-end : (c : tie.After-row-reason) → c.row-reason.result.at ≤ c.before.before.args.at + c.before.before.args.years * 52
-years-end c = row-reached _ _ _ _ _ c.row-reason.ensures
+years-end : (c : tie.After-row-reason) → c.row_reason.result.at ≤ c.before.before.args.at + c.before.before.args.years * 52
+years-end c = row-reached _ _ _ _ _ c.row_reason.ensures
 
-monthdays-end : (c : tie.After-row-reason2) → c.row-reason2.result.at ≤ c.before.row-reason.result.at + c.before.before.before.args.monthdays * 52
+monthdays-end : (c : tie.After-row-reason2) → c.row-reason2.result.at ≤ c.before.row_reason.result.at + c.before.before.before.args.monthdays * 52
 monthdays-end c = row-reached _ _ _ _ _ c.row-reason2.ensures
 
 weeks-end : (c : tie.After-row-reason3) → c.row-reason3.result.at ≤ c.before.row-reason2.result.at + c.before.before.before.before.args.weeks * 52
@@ -24,24 +24,19 @@ weekdays-end c = row-reached _ _ _ _ _ c.row-reason4.ensures
 
 returns : tie.Need-returns
 returns c =
-    let five = c.before.before.before.before in
-    let four = five.before in
-    let three = four.before in
-    let two = three.before in
-    let one = two.before in
-    c.earlier4.ensures ∙ ap (earlier five.row-reason5.result.reason) (c.before.earlier3.ensures ∙ ap (earlier one.row-reason.result.reason)
-    (c.before.before.earlier2.ensures ∙ ap (earlier two.row-reason2.result.reason) c.before.before.before.earlier.ensures))
-    ∙ body-found _ _ _ _ _ _ _ _ _ _ _ _ one.row-reason.ensures two.row-reason2.ensures three.row-reason3.ensures four.row-reason4.ensures
-    five.row-reason5.ensures
+    c.earlier-3.ensures ∙ ap (earlier c.row_reason-times.result.reason) (c.earlier-2.ensures ∙ ap (earlier c.row_reason-first.result.reason)
+    (c.earlier.ensures ∙ ap (earlier c.row_reason-second.result.reason) c.earlier-later.ensures))
+    ∙ body-found _ _ _ _ _ _ _ _ _ _ _ _ c.row_reason-first.ensures c.row_reason-second.ensures c.row_reason-third.ensures c.row_reason-fourth.ensures
+    c.row_reason-times.ensures
 
-pub body-reason-spec : {M : Type 1} → statement M
-body-reason-spec =
+pub body_reason_spec : {M : Type 1} → statement M
+body_reason_spec =
     tie.close
     (tie.spec
     (λ c κs. search rules)
-    (λ c κs. omega (arith, c.before.before.requires, years-end c))
-    (λ c κs. omega (arith, c.before.before.before.requires, years-end c.before, monthdays-end c))
-    (λ c κs. omega (arith, c.before.before.before.before.requires, years-end c.before.before, monthdays-end c.before, weeks-end c))
+    (λ c κs. omega (arith, c.requires, years-end c))
+    (λ c κs. omega (arith, c.requires, years-end c, monthdays-end c))
+    (λ c κs. omega (arith, c.requires, years-end c, monthdays-end c, weeks-end c))
     (λ c κs.
-    omega (arith, c.before.before.before.before.before.requires, years-end c.before.before.before, monthdays-end c.before.before, weeks-end c.before, weekdays-end c))
+    omega (arith, c.requires, years-end c, monthdays-end c, weeks-end c, weekdays-end c))
     (λ c κs. search rules) (λ c κs. search rules) (λ c κs. search rules) (λ c κs. search rules) returns)

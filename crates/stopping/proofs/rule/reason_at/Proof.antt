@@ -10,31 +10,22 @@ use Rattle.stopping.proofs.Meaning.{fallback-reason, other-reason}
 use Rattle.stopping.proofs.rule.reason_at.Statement.{statement}
 use Rattle.stopping.proofs.rule.reason_at.Tie as tie
 
-returns : tie.Need-returns
+returns : tie.Need-returns-then-is_fallback
 returns c =
-    let title = c.before.before.before in
-    let at-title = title.before.before in
-    let entry = at-title.before.before in
-    let s = sheet_bits entry.args.sheet.now in
-    let read = sym at-title.title-at.ensures ∙ ap as_title title.title.given.1 in
-    fallback-reason (rule_read_at (as_form entry.args.form) s entry.args.at) _ (title-same _ s _ entry.requires.0 _ _ _ _ read).0 (sym c.before.is-fallback.ensures ∙ c.if1.true)
+    let s = sheet_bits c.args.sheet.now in
+    let read = sym c.title_at-title.ensures ∙ ap as_title c.in-Title.is in
+    fallback-reason (rule_read_at (as_form c.args.form) s c.args.at) _ (title-same _ s _ c.requires.0 _ _ _ _ read).0 (sym c.is_fallback.ensures ∙ c.if-is_fallback.true)
 
-returns-2 : tie.Need-returns-2
+returns-2 : tie.Need-returns-else-is_fallback
 returns-2 c =
-    let branch = c.before in
-    let title = branch.before.before.before in
-    let at-title = title.before.before in
-    let entry = at-title.before.before in
-    let s = sheet_bits entry.args.sheet.now in
-    let read = sym at-title.title-at.ensures ∙ ap as_title title.title.given.1 in
-    c.parts-reason.ensures
-    ∙ other-reason (rule_read_at (as_form entry.args.form) s entry.args.at) _ (title-same _ s _ entry.requires.0 _ _ _ _ read).0 (sym branch.before.is-fallback.ensures ∙ branch.if1.false)
+    let s = sheet_bits c.args.sheet.now in
+    let read = sym c.title_at-title.ensures ∙ ap as_title c.in-Title.is in
+    c.parts_reason.ensures
+    ∙ other-reason (rule_read_at (as_form c.args.form) s c.args.at) _ (title-same _ s _ c.requires.0 _ _ _ _ read).0 (sym c.is_fallback.ensures ∙ c.if-is_fallback.false)
 
-pub reason-at-spec : {M : Type 1} → statement M
-reason-at-spec =
+pub reason_at_spec : {M : Type 1} → statement M
+reason_at_spec =
     tie.close
     (tie.spec (λ c κs. search rules) (λ c. search rules) (λ c κs. search rules) returns (λ c κs. search rules) (λ c. search rules) returns-2
     (λ c.
-    let title = c.before.before.before in
-    let entry = title.before.before in
-    title-refused _ _ _ entry.requires.0 _ _ (sym title.title-at.ensures ∙ ap as_title c.before.title2.given.1)))
+    title-refused _ _ _ c.requires.0 _ _ (sym c.title_at-title.ensures ∙ ap as_title c.in-Refused.is)))

@@ -23,8 +23,6 @@ copy_words_spec =
     (λ c. (omega arith, refl, copied_none _ _ _))
     (λ c. search rules) (λ c. search rules) (λ c. search rules) (λ c. search rules) (λ c. search rules) (λ c. search rules) (λ c. search rules) (λ c. search rules)
     (λ c.
-    let loop = c.before.before in
-    let entry = loop.before in
-    (omega arith, simp length-set loop.loop.invariant.1, copied_more _ _ _ _ _ _ loop.loop.invariant.1 entry.requires.2 entry.requires.1 c.before.loop-test.true loop.loop.invariant.2))
-    (λ c. c.before.loop.invariant.1)
-    (λ c. let e : c.before.loop.i ≡ c.before.before.args.count = omega arith in rw e at c.before.loop.invariant.2))
+    (omega arith, simp length-set c.loop-i.invariant.1, copied_more _ _ _ _ _ _ c.loop-i.invariant.1 c.requires.2 c.requires.1 c.loop-i-test.true c.loop-i.invariant.2))
+    (λ c. c.loop-i.invariant.1)
+    (λ c. let e : c.loop-i.i ≡ c.args.count = omega arith in rw e at c.loop-i.invariant.2))

@@ -28,9 +28,6 @@ page_size_spec = tie.close (tie.spec
     (λ c. search rules)
     (λ c. search rules)
     (λ c.
-    let third = c.before.before in
-    let second = third.before.before in
-    let first = second.before.before in
-    let args = first.before.before.before.args in
-    size_is args.pages.now args.at _ _ _ _ first.u16-to-usize.ensures.0 second.u16-to-usize2.ensures.0 third.u16-to-usize3.ensures.0
-    c.u16-to-usize4.ensures.0))
+    let args = c.args in
+    size_is args.pages.now args.at _ _ _ _ c.u16_to_usize-years.ensures.0 c.u16_to_usize-months.ensures.0 c.u16_to_usize-weeks.ensures.0
+    c.u16_to_usize-weekdays.ensures.0))

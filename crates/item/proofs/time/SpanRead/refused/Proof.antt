@@ -6,4 +6,4 @@ use Rattle.item.proofs.time.SpanRead.refused.Statement.{statement}
 use Rattle.item.proofs.time.SpanRead.refused.Tie as tie
 
 pub refused_spec : {M : Type 1} → statement M
-refused_spec = tie.close (tie.spec (λ c. search rules) (λ c. search rules) (λ c. ap span_refused (sym c.before.field.given.1)) (λ c. search rules))
+refused_spec = tie.close (tie.spec (λ c. search rules) (λ c. search rules) (λ c. ap span_refused (sym c.in-Refused.is)) (λ c. search rules))

@@ -6,4 +6,4 @@ use Rattle.item.proofs.time.SpanRead.refused_time.Statement.{statement}
 use Rattle.item.proofs.time.SpanRead.refused_time.Tie as tie
 
 pub refused_time_spec : {M : Type 1} → statement M
-refused_time_spec = tie.close (tie.spec (λ c. search rules) (λ c. search rules) (λ c. ap span_refused_time (sym c.before.time.given.1)) (λ c. search rules))
+refused_time_spec = tie.close (tie.spec (λ c. search rules) (λ c. search rules) (λ c. ap span_refused_time (sym c.in-Refused.is)) (λ c. search rules))

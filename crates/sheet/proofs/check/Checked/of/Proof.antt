@@ -10,5 +10,5 @@ pub of_spec : {M : Type 1} → statement M
 of_spec =
     tie.close
     (tie.spec (λ c. search rules) (λ c. search rules)
-    (λ c. sym (ap (λ step. and_then (λ u q. got c.before.before.before.args.count q) (as_step step)) c.before.step.given.1))
-    (λ c. sym (ap (λ step. and_then (λ u q. got c.before.before.before.args.count q) (as_step step)) c.before.step2.given.1)))
+    (λ c. sym (ap (λ step. and_then (λ u q. got c.args.count q) (as_step step)) c.in-At.is))
+    (λ c. sym (ap (λ step. and_then (λ u q. got c.args.count q) (as_step step)) c.in-Refused.is)))

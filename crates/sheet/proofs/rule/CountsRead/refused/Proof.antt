@@ -5,5 +5,5 @@ use Rattle.sheet.specs.Head.{counts_refused}
 use Rattle.sheet.proofs.rule.CountsRead.refused.Statement.{statement}
 use Rattle.sheet.proofs.rule.CountsRead.refused.Tie as tie
 
-pub refused-spec : {M : Type 1} → statement M
-refused-spec = tie.close (tie.spec (λ c. search rules) (λ c. search rules) (λ c. ap counts_refused (sym c.before.field.given.1)) (λ c. search rules))
+pub refused_spec : {M : Type 1} → statement M
+refused_spec = tie.close (tie.spec (λ c. search rules) (λ c. search rules) (λ c. ap counts_refused (sym c.in-Refused.is)) (λ c. search rules))
