@@ -12,7 +12,9 @@ mod written;
 mod year;
 
 use crate::written::Entry;
-use libc::STDOUT_FILENO;
+use std::fs::File;
+use std::io;
+use std::rt::Files;
 
 // What the records of a file are.
 #[derive(Clone, Copy)]
@@ -65,76 +67,74 @@ fn agrees_body(sort: Sort, form: u64, body: &[u8], length: usize, out: &mut [u8]
 
 // The file's next record, compared: the form in eight bytes, the sheet's length, the length of all that follows, the sheet, and what is told of it.
 // A file that ends behind the three numbers differs.
-fn compare_record(fd: i32, sort: Sort, body: &mut [u8], out: &mut [u8]) -> Compared {
+fn compare_record(
+    file: &mut File,
+    sort: Sort,
+    body: &mut [u8],
+    out: &mut [u8],
+) -> io::Result<Compared> {
     let mut numbers = [0u8; 14];
-    if io::read_full(fd, &mut numbers) < 14 {
-        return Compared::NoRecord;
+    if record::read_full(file, &mut numbers)? < 14 {
+        return Ok(Compared::NoRecord);
     }
     let form = record::long_number(&numbers, 0);
     let length = record::number(&numbers, 8);
     let size = record::number(&numbers, 11);
-    let taken = record::take(fd, body, size);
+    let taken = record::take(file, body, size)?;
     if taken < size {
-        return Compared::Differing;
+        return Ok(Compared::Differing);
     }
     if agrees_body(sort, form, &body[..taken], length, out) {
-        Compared::Same
+        Ok(Compared::Same)
     } else {
-        Compared::Differing
+        Ok(Compared::Differing)
     }
 }
 
 // Record after record to the end of the file. A proved loop has to end, so it stops at a million, which no file here has. Both buffers are made once,
 // since clearing them takes longer than most records.
-fn replay(fd: i32, sort: Sort) -> Tally {
-    let mut body = io::large_buffer();
-    let mut out = io::large_buffer();
+fn replay(file: &mut File, sort: Sort) -> io::Result<Tally> {
+    let mut body = [0u8; 65536];
+    let mut out = [0u8; 65536];
     let mut differing: usize = 0;
     let mut turn: usize = 0;
     while turn < 1000000 {
-        let compared = compare_record(fd, sort, &mut body, &mut out);
+        let compared = compare_record(file, sort, &mut body, &mut out)?;
         match compared {
             Compared::Same => {}
             Compared::Differing => {
                 differing += 1;
             }
             Compared::NoRecord => {
-                return Tally {
+                return Ok(Tally {
                     compared: turn,
                     differing,
-                };
+                });
             }
         }
         turn += 1;
     }
-    Tally {
+    Ok(Tally {
         compared: turn,
         differing,
-    }
+    })
 }
 
-fn replay_file(path: &[u8], sort: Sort, name: &[u8]) {
-    let fd = os::open_read(path);
-    if fd < 0 {
-        os::fail(path);
-        return;
-    }
-    let tally = replay(fd, sort);
-    libc::close(fd);
-    io::print_decimal(STDOUT_FILENO, tally.compared as u64);
-    io::write_all(STDOUT_FILENO, name);
-    io::write_all(STDOUT_FILENO, b" compared, ");
-    io::print_decimal(STDOUT_FILENO, tally.differing as u64);
-    io::write_all(STDOUT_FILENO, b" differing\n");
+fn replay_file(rt: &(impl Files<File = File> + Print), path: &str, sort: Sort, name: &str) -> io::Result<()> {
+    let mut file = File::open(rt, path)?;
+    let tally = replay(&mut file, sort)?;
+    let compared = tally.compared;
+    let differing = tally.differing;
+    println!(rt; "{compared} {name} compared, {differing} differing")
 }
 
-fn main() {
-    replay_file(b"readings", Sort::Reading, b" readings");
-    replay_file(b"write_backs", Sort::WriteBack, b" write-backs");
-    replay_file(b"lines", Sort::Line, b" lines");
-    replay_file(b"conversions", Sort::Conversion, b" conversions");
-    replay_file(b"folds", Sort::Fold, b" folds");
-    replay_file(b"lookups", Sort::Lookup, b" lookups");
-    replay_file(b"dates", Sort::Date, b" dates");
-    replay_file(b"years", Sort::Year, b" years, day by day,");
+fn main(rt: HostRuntime) -> io::Result<()> {
+    replay_file(&rt, "readings", Sort::Reading, "readings")?;
+    replay_file(&rt, "write_backs", Sort::WriteBack, "write-backs")?;
+    replay_file(&rt, "lines", Sort::Line, "lines")?;
+    replay_file(&rt, "conversions", Sort::Conversion, "conversions")?;
+    replay_file(&rt, "folds", Sort::Fold, "folds")?;
+    replay_file(&rt, "lookups", Sort::Lookup, "lookups")?;
+    replay_file(&rt, "dates", Sort::Date, "dates")?;
+    replay_file(&rt, "years", Sort::Year, "years, day by day,")
 }

@@ -1,8 +1,10 @@
 // Records of a file of stored answers: numbers of three bytes, or of eight, the high byte first, and bytes behind them.
-ghost use Rattle.std.specs.Prelude.{◌+◌, ◌≤◌, ◌<◌, ◌^◌, length};
-ghost use Rattle.io.specs.Counts.{IsPrefixLen};
+ghost use Rattle.std.specs.Prelude.{◌+◌, ◌≤◌, ◌<◌, ◌^◌, length, take, IfOk, ◌≡◌};
 
 use casts::u8_to_usize;
+use std::fs::File;
+use std::io;
+use std::io::Read;
 
 // The number of three bytes at a place.
 pub fn number(s: &[u8], at: usize) -> usize
@@ -21,12 +23,27 @@ pub fn long_number(s: &[u8], at: usize) -> u64
     high * 4294967296 + low
 }
 
+// Reads until the buffer is full or the file ends: how many bytes were put at the front of the buffer.
+pub fn read_full(file: &mut File, buffer: &mut [u8]) -> io::Result<usize>
+    ensures { IfOk result (λ n. (n ≤ length buffer.new) × (n ≡ length (take n buffer.new))) }
+{
+    let mut done: usize = 0;
+    for _ in 0..buffer.len() {
+        let got = file.read(&mut buffer[done..])?;
+        if got == 0 {
+            break;
+        }
+        done += got;
+    }
+    Ok(done)
+}
+
 // The file's next bytes, at the front of a buffer: how many there were, none where the buffer has no room for all.
-pub fn take(fd: i32, buffer: &mut [u8], size: usize) -> usize
-    ensures { IsPrefixLen result buffer.new }
+pub fn take(file: &mut File, buffer: &mut [u8], size: usize) -> io::Result<usize>
+    ensures { IfOk result (λ n. (n ≤ length buffer.new) × (n ≡ length (take n buffer.new))) }
 {
     if buffer.len() < size {
-        return 0;
+        return Ok(0);
     }
-    io::read_full(fd, &mut buffer[..size])
+    read_full(file, &mut buffer[..size])
 }

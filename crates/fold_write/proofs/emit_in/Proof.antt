@@ -9,9 +9,9 @@ use Rattle.fold_write.proofs.Answer.{not-counted, count_fits, countable, row-bit
 use Rattle.fold_write.proofs.emit_in.Statement.{statement}
 use Rattle.fold_write.proofs.emit_in.Tie as tie
 
-measure-pages-requires : tie.Need-measure-pages-requires
+measure-pages-requires : tie.Need-measure_pages-measured-requires
 measure-pages-requires c κs =
-    let pre = c.before.before.before.before.before.before.before.before.before.before.before.requires in
+    let pre = c.requires in
     (pre.1.0, (omega (arith, pre.0.1.few), pre.1.1))
 
 -- from what the form can carry back to what was measured, and to where the function begins
@@ -35,38 +35,35 @@ enough : (c : tie.Else2)
     (c.before.before.before.opening_width.result + measured.measure_pages.result.bits + (args.left.end - args.left.start) + 7) / 8 ≤ length args.out.now
 enough c = ltb-false _ _ (sym c.before.lacks_room.ensures ∙ c.if2.false)
 
-add-rules : tie.Need-overflow-add-rules
-add-rules c = let measured = c.before.before.before.before.before.before in let pre = (start measured).requires.0 in omega (arith, measured.measure_pages.ensures.3, pre.1.few, pre.2.left-few)
+add-rules : tie.Need-overflow_add-rules
+add-rules c = let pre = (start c).requires.0 in omega (arith, c.measure_pages-measured.ensures.3, pre.1.few, pre.2.left-few)
 
-returns : tie.Need-returns
+returns : tie.Need-returns-then-rules-most_rules
 returns c =
-    let asked = c.before.before.before in
-    let measured = measuring asked in
+    let measured = measuring c in
     λ rs paged leaving. let m = measured.measure_pages.ensures in
-    let past = not-counted (start measured).args.form paged leaving m.0 m.2 asked.most_rules.ensures c.before.if1.true (start measured).args.out.now in
+    let past = not-counted (start measured).args.form paged leaving m.0 m.2 c.most_rules.ensures c.if-rules-most_rules.true (start measured).args.out.now in
     (c.fold_refused.ensures ∙ past.0, past.1)
 
-returns-2 : tie.Need-returns-2
+returns-2 : tie.Need-returns-then-lacks_room
 returns-2 c =
-    let room = c.before.before in
-    let branch = counting room in
+    let branch = counting c in
     let measured = measuring (asking branch) in
     λ rs paged leaving. let m = measured.measure_pages.ensures in
-    let lacking = ltb-true _ _ (sym room.lacks_room.ensures ∙ c.before.if2.true) in
-    let full = no_room_lem (start measured).args.form paged leaving m.0 m.1 room.before.before.opening_width.ensures.0 m.2 (asking branch).most_rules.ensures
+    let lacking = ltb-true _ _ (sym c.lacks_room.ensures ∙ c.if-lacks_room.true) in
+    let full = no_room_lem (start measured).args.form paged leaving m.0 m.1 c.opening_width.ensures.0 m.2 (asking branch).most_rules.ensures
     branch.if1.left (start measured).args.out.now lacking in
-    (c.fold-refused2.ensures ∙ full.0, full.1)
+    (c.fold_refused-then-lacks_room.ensures ∙ full.0, full.1)
 
-write-sheet-requires : tie.Need-write-sheet-requires
+write-sheet-requires : tie.Need-write_sheet-requires
 write-sheet-requires c κs =
-    let fitting = c.before.before.before in
-    let branch = counting fitting.before in
+    let branch = counting c in
     let asked = asking branch in
     let measured = measuring asked in
     let paged = (start measured).pre.0.1 in
     let leaving = (start measured).pre.0.2 in
     let m = measured.measure_pages.ensures in
-    let opened = fitting.before.before.before.opening_width.ensures in
+    let opened = c.opening_width.ensures in
     let form = (start measured).args.form in
     let long = row-bits form paged leaving m.0 m.1 opened.0 in (
       (start measured).pre.1.0,
@@ -78,22 +75,20 @@ write-sheet-requires c κs =
             count_fits form paged leaving m.0 m.2 asked.most_rules.ensures branch.if1.left,
             (
               countable form paged leaving m.0 m.2 asked.most_rules.ensures branch.if1.left,
-              (omega (arith, long, enough fitting), omega (arith, long, m.4, paged.few, leaving.low, opened.1)),
+              (omega (arith, long, enough c), omega (arith, long, m.4, paged.few, leaving.low, opened.1)),
             ),
           ),
         ),
       ),
     )
 
-returns-3 : tie.Need-returns-3
+returns-3 : tie.Need-returns
 returns-3 c =
-    let wrote = c.before.before.before.before.before.before in
-    let fitting = wrote.before.before.before.before in
-    let branch = counting fitting.before in
+    let branch = counting c in
     let measured = measuring (asking branch) in
     λ rs paged leaving. let m = measured.measure_pages.ensures in
-    with-room (start measured).args.form paged leaving m.0 m.1 fitting.before.before.before.opening_width.ensures.0 m.2 (asking branch).most_rules.ensures
-    branch.if1.left (start measured).args.out.now _ (enough fitting) wrote.write_sheet.ensures
+    with-room (start measured).args.form paged leaving m.0 m.1 c.opening_width.ensures.0 m.2 (asking branch).most_rules.ensures
+    branch.if1.left (start measured).args.out.now _ (enough c) c.write_sheet.ensures
 
 -- what the result takes fits a machine word
 short : (c : tie.After-opening-width)
@@ -105,11 +100,11 @@ short c =
     let pre = (start measured).pre.0 in
     (omega (arith, c.opening_width.ensures.1, measured.measure_pages.ensures.4, pre.1.few), pre.2.ordered, omega (arith, pre.2.low))
 
-pub emit-in-spec : {M : Type 1} → statement M
-emit-in-spec =
+pub emit_in_spec : {M : Type 1} → statement M
+emit_in_spec =
     tie.close
     (tie.spec measure-pages-requires add-rules (λ c κs. search rules) (λ c κs. search rules) (λ c. search rules) (λ c. search rules) returns (λ c κs. search rules)
-    (λ c. let few = short c.before in omega (arith, few.0)) (λ c. let few = short c.before in omega (arith, few.1))
-    (λ c. let few = short c.before in omega (arith, few.0, few.2)) (λ c. let few = short c.before in omega (arith, few.0, few.2))
+    (λ c. let few = short c in omega (arith, few.0)) (λ c. let few = short c in omega (arith, few.1))
+    (λ c. let few = short c in omega (arith, few.0, few.2)) (λ c. let few = short c in omega (arith, few.0, few.2))
     (λ c κs. search rules) (λ c κs. search rules) (λ c. search rules) (λ c. search rules) returns-2 write-sheet-requires (λ c. search rules) (λ c. search rules)
     (λ c. search rules) returns-3)

@@ -5,10 +5,9 @@ use Rattle.day_book.proofs.Keeping.{empty-open}
 use Rattle.fold_write.proofs.emit_short.Statement.{statement}
 use Rattle.fold_write.proofs.emit_short.Tie as tie
 
-emit-in-requires : tie.Need-emit-in-requires
+emit-in-requires : tie.Need-emit_in-requires
 emit-in-requires c κs =
-    let entry = c.before.before.before.before.before.before.before.before.before.before in
-    (entry.requires.0, (entry.requires.1, empty-open _ 66 513 257 (omega arith) (omega arith)))
+    (c.requires.0, (c.requires.1, empty-open _ 66 513 257 (omega arith) (omega arith)))
 
-pub emit-short-spec : {M : Type 1} → statement M
-emit-short-spec = tie.close (tie.spec (λ c. search rules) (λ c. search rules) emit-in-requires (λ c. search rules) (λ c. search rules))
+pub emit_short_spec : {M : Type 1} → statement M
+emit_short_spec = tie.close (tie.spec (λ c. search rules) (λ c. search rules) emit-in-requires (λ c. search rules) (λ c. search rules))

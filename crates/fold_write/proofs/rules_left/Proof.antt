@@ -8,19 +8,18 @@ use borrow.Author.Tests.{lt-ltb, le-ltb}
 use Rattle.fold_write.proofs.rules_left.Statement.{statement}
 use Rattle.fold_write.proofs.rules_left.Tie as tie
 
-returns : tie.Need-returns
+returns : tie.Need-returns-then-rules-count
 returns c =
-    let branch = c.before in
-    let args = branch.before.args in
-    (sym (ap (λ b. cond b (get_or args.begins.now args.rules 0) args.end) (lt-ltb _ _ branch.if1.true)), refl, refl, refl)
+    let args = c.args in
+    (sym (ap (λ b. cond b (get_or args.begins.now args.rules 0) args.end) (lt-ltb _ _ c.if-rules-count.true)), refl, refl, refl)
 
-returns-2 : tie.Need-returns-2
+returns-2 : tie.Need-returns
 returns-2 c =
-    let args = c.before.args in
-    (sym (ap (λ b. cond b (get_or args.begins.now args.rules 0) args.end) (le-ltb _ _ c.if1.false)), refl, omega arith, refl)
+    let args = c.args in
+    (sym (ap (λ b. cond b (get_or args.begins.now args.rules 0) args.end) (le-ltb _ _ c.if-rules-count.false)), refl, omega arith, refl)
 
-pub rules-left-spec : {M : Type 1} → statement M
-rules-left-spec =
+pub rules_left_spec : {M : Type 1} → statement M
+rules_left_spec =
     tie.close
     (tie.spec
     (λ c. search rules) (λ c. search rules) (λ c. search rules) returns returns-2)

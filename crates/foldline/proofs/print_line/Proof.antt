@@ -6,8 +6,8 @@ use borrow.Author.Rules.{rules}
 use Rattle.foldline.proofs.print_line.Statement.{statement}
 use Rattle.foldline.proofs.print_line.Tie as tie
 
-pub print-line-spec : {M : Type 1} → statement M
-print-line-spec =
+pub print_line_spec : {M : Type 1} → statement M
+print_line_spec =
     tie.close
     (tie.spec (λ c. sym (length-take-le _ _ (leb-true _ _ c.before.if2.true)))
     (λ c κs. search rules)

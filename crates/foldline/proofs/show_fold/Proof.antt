@@ -6,8 +6,8 @@ use borrow.Author.Rules.{rules}
 use Rattle.foldline.proofs.show_fold.Statement.{statement}
 use Rattle.foldline.proofs.show_fold.Tie as tie
 
-pub show-fold-spec : {M : Type 1} → statement M
-show-fold-spec =
+pub show_fold_spec : {M : Type 1} → statement M
+show_fold_spec =
     tie.close
     (tie.spec (λ c. sym (length-take-le _ _ (leb-true _ _ c.before.if2.true)))
     (λ c κs. search rules)

@@ -6,14 +6,14 @@ use borrow.Author.Rules.{rules}
 use Rattle.foldsheet.proofs.print_hex.Statement.{statement}
 use Rattle.foldsheet.proofs.print_hex.Tie as tie
 
-abbrev invariant-loop : tie.invariant-loop
+abbrev invariant-loop : tie.invariant-loop-i
 invariant-loop bytes i₀ i = i ≤ length bytes
 
-abbrev decreases-loop : tie.decreases-loop
+abbrev decreases-loop : tie.decreases-loop-i
 decreases-loop bytes i₀ i = length bytes - i
 
-pub print-hex-spec : {M : Type 1} → statement M
-print-hex-spec =
+pub print_hex_spec : {M : Type 1} → statement M
+print_hex_spec =
     tie.close
     (tie.spec
     invariant-loop decreases-loop (λ c. omega arith) (λ c. omega arith) (λ c κs. search rules) (λ c. search rules) (λ c. omega arith) (λ c κs. search rules)

@@ -6,8 +6,8 @@ use borrow.Author.Rules.{rules}
 use Rattle.foldsheet.proofs.print_result.Statement.{statement}
 use Rattle.foldsheet.proofs.print_result.Tie as tie
 
-pub print-result-spec : {M : Type 1} → statement M
-print-result-spec =
+pub print_result_spec : {M : Type 1} → statement M
+print_result_spec =
     tie.close
     (tie.spec
     (λ c. sym (length-take-le _ _ (leb-true _ _ c.before.if2.true)))

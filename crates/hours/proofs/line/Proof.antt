@@ -27,25 +27,22 @@ known c =
     let form = c.before.before in
     form-known unwritten (answer (start form)) (start form).args.form _ form.form_of.ensures _ c.named.given.1
 
-returns : tie.Need-returns
+returns : tie.Need-returns-then-sheet-le-FEW_BYTES
 returns c =
-    let called = c.before.before.before in
-    of-same written_numbers (λ w. w.result) _ (known called.before.before.before.before.before) called.line.ensures
+    of-same written_numbers (λ w. w.result) _ (known c) c.line.ensures
 
-returns-2 : tie.Need-returns-2
+returns-2 : tie.Need-returns-else-sheet-le-FEW_BYTES
 returns-2 c =
-    let called = c.before.before.before in
-    of-same written_numbers (λ w. w.result) _ (known called.before.before.before.before.before) called.line2.ensures
+    of-same written_numbers (λ w. w.result) _ (known c) c.line-in-Known.ensures
 
-returns-3 : tie.Need-returns-3
+returns-3 : tie.Need-returns-in-Unknown
 unfolding show_line_in
 returns-3 c =
-    let form = c.before.before in
-    let unknown = form-unknown unwritten (answer (start form)) (start form).args.form _ form.form_of.ensures c.enum_told.given.1 in
-    of-same written_numbers (λ w. w.result) (start form).args.out.now unknown (refl, refl)
+    let unknown = form-unknown unwritten (answer (start c)) (start c).args.form _ c.form_of-named.ensures c.in-Unknown.is in
+    of-same written_numbers (λ w. w.result) (start c).args.out.now unknown (refl, refl)
 
-pub line-spec : {M : Type 1} → statement M
-line-spec =
+pub line_spec : {M : Type 1} → statement M
+line_spec =
     tie.close
-    (tie.spec (λ c κs. search rules) (λ c. search rules) (λ c. search rules) (λ c κs. few-places _ c.before.before.if1.true) (λ c. search rules) returns
+    (tie.spec (λ c κs. search rules) (λ c. search rules) (λ c. search rules) (λ c κs. few-places _ c.if-sheet-le-FEW_BYTES.true) (λ c. search rules) returns
     (λ c. search rules) (λ c κs. all-places _) (λ c. search rules) (λ c. search rules) returns-2 returns-3)

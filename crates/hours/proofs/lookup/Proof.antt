@@ -26,22 +26,20 @@ known c =
     let form = c.before.before in
     form-known refusal (answer (start form)) (start form).args.form _ form.form_of.ensures _ c.named.given.1
 
-returns : tie.Need-returns
-returns c = let called = c.before in called.lookup.ensures ∙ sym (known called.before.before.before.before)
+returns : tie.Need-returns-then-sheet-le-FEW_BYTES
+returns c = c.lookup.ensures ∙ sym (known c)
 
-returns-2 : tie.Need-returns-2
-returns-2 c = let called = c.before in called.lookup2.ensures ∙ sym (known called.before.before.before.before)
+returns-2 : tie.Need-returns-else-sheet-le-FEW_BYTES
+returns-2 c = c.lookup-in-Known.ensures ∙ sym (known c)
 
-returns-3 : tie.Need-returns-3
+returns-3 : tie.Need-returns-in-Unknown
 unfolding lookup_in
 returns-3 c =
-    let told = c.before in
-    let form = told.before.before in
     c.lookup_refused.ensures
-    ∙ sym (form-unknown refusal (answer (start form)) (start form).args.form _ form.form_of.ensures told.enum_told.given.1)
+    ∙ sym (form-unknown refusal (answer (start c)) (start c).args.form _ c.form_of-named.ensures c.in-Unknown.is)
 
-pub lookup-spec : {M : Type 1} → statement M
-lookup-spec =
+pub lookup_spec : {M : Type 1} → statement M
+lookup_spec =
     tie.close
-    (tie.spec (λ c κs. search rules) (λ c. search rules) (λ c. search rules) (λ c κs. few-places _ c.before.if1.true) returns
+    (tie.spec (λ c κs. search rules) (λ c. search rules) (λ c. search rules) (λ c κs. few-places _ c.if-sheet-le-FEW_BYTES.true) returns
     (λ c. search rules) (λ c κs. all-places _) (λ c. search rules) (λ c κs. search rules) returns-2 returns-3)

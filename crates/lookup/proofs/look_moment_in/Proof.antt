@@ -17,9 +17,9 @@ preparing c = c.before.before.before.before.before.before.before.before.before.b
 abbrev start : tie.After-prepare → tie.Start
 start c = c.before.before.before.before.before.before.before.before.before.before.before.before.before.before.before.before.before.before.before
 
-prepare-requires : tie.Need-prepare-requires
+prepare-requires : tie.Need-prepare-judged-requires
 prepare-requires c κs =
-    let pre = c.before.before.before.before.before.before.before.before.before.before.before.before.before.before.before.before.before.before.requires in
+    let pre = c.requires in
     let room = pre.1.1.1 in
     (pre.0, (pre.1.1.0, ((room.0, room.1), (omega arith, omega arith, room.2))))
 
@@ -30,59 +30,53 @@ within c =
     let read = (start p).pre.0.1.1 in
     drained-within _ _ _ _ _ _ _ _ _ _ _ (judged-fine _ _ _ _ _ _ _ _ _ _ _ (p.prepare.ensures _ _ read.0 read.1) _ _ c.before.judged.given.1).0 _ read.1
 
-mul-places : tie.Need-overflow-mul-places
+mul-places : tie.Need-overflow_mul-places
 mul-places c =
     let p = preparing c in
     let read = (start p).pre.0.1.1 in
-    let told = judged-fine _ _ _ _ _ _ _ _ _ _ _ (p.prepare.ensures _ _ read.0 read.1) _ _ c.before.judged.given.1 in
+    let told = judged-fine _ _ _ _ _ _ _ _ _ _ _ (p.prepare.ensures _ _ read.0 read.1) _ _ c.in-Fine.is in
     search (rules, told.0.drawable.0.few-rules)
 
-slice-reshare-prefix-look-drained : tie.Need-slice-reshare-prefix-look-drained
+slice-reshare-prefix-look-drained : tie.Need-slice_bounds-look_drained-end
 slice-reshare-prefix-look-drained c =
     let p = preparing c in
     omega (arith, within c, (start p).pre.1.1.0.0, p.prepare.kept.1.1.1.1.0)
 
-slice-aggregate-look-drained : tie.Need-slice-aggregate-look-drained
+slice-aggregate-look-drained : tie.Need-slice_bounds-look_drained-end-in-Fine
 slice-aggregate-look-drained c =
-    let told = c.before in
-    let p = preparing told in
-    sym (length-take-le told.before.judged.given.0.0 _ (omega (arith, within told, (start p).pre.1.1.0.0, p.prepare.kept.1.1.1.1.0)))
+    let p = preparing c in
+    sym (length-take-le c.in-Fine.rules _ (omega (arith, within c, (start p).pre.1.1.0.0, p.prepare.kept.1.1.1.1.0)))
 
-slice-reshare-prefix-look-drained-2 : tie.Need-slice-reshare-prefix-look-drained-2
+slice-reshare-prefix-look-drained-2 : tie.Need-slice_bounds-look_drained-end-in-Fine-2
 slice-reshare-prefix-look-drained-2 c =
-    let told = c.before in
-    let p = preparing told in
-    omega (arith, within told, (start p).pre.1.1.0.1, p.prepare.kept.1.1.1.1.1.0)
+    let p = preparing c in
+    omega (arith, within c, (start p).pre.1.1.0.1, p.prepare.kept.1.1.1.1.1.0)
 
-slice-aggregate-look-drained-2 : tie.Need-slice-aggregate-look-drained-2
+slice-aggregate-look-drained-2 : tie.Need-slice_bounds-look_drained-end-in-Fine-3
 slice-aggregate-look-drained-2 c =
-    let told = c.before.before in
-    let p = preparing told in
-    sym (length-take-le told.before.judged.given.0.0 _ (omega (arith, within told, (start p).pre.1.1.0.1, p.prepare.kept.1.1.1.1.1.0)))
+    let p = preparing c in
+    sym (length-take-le c.judged.given.0.0 _ (omega (arith, within c, (start p).pre.1.1.0.1, p.prepare.kept.1.1.1.1.1.0)))
 
-slice-reshare-prefix-look-drained-3 : tie.Need-slice-reshare-prefix-look-drained-3
+slice-reshare-prefix-look-drained-3 : tie.Need-slice_bounds-look_drained-end-in-Fine-4
 slice-reshare-prefix-look-drained-3 c =
-    let told = c.before.before in
-    let p = preparing told in
-    omega (arith, within told, (start p).pre.1.1.0.2, p.prepare.kept.1.1.1.1.1.1.0)
+    let p = preparing c in
+    omega (arith, within c, (start p).pre.1.1.0.2, p.prepare.kept.1.1.1.1.1.1.0)
 
-slice-aggregate-look-drained-3 : tie.Need-slice-aggregate-look-drained-3
+slice-aggregate-look-drained-3 : tie.Need-slice_bounds-look_drained-end-in-Fine-5
 slice-aggregate-look-drained-3 c =
-    let told = c.before.before.before in
-    let p = preparing told in
-    sym (length-take-le (told.before.judged.given.0.0 * 16) _ (omega (arith, within told, (start p).pre.1.1.0.2, p.prepare.kept.1.1.1.1.1.1.0)))
+    let p = preparing c in
+    sym (length-take-le (c.judged.given.0.0 * 16) _ (omega (arith, within c, (start p).pre.1.1.0.2, p.prepare.kept.1.1.1.1.1.1.0)))
 
-sub-look-drained : tie.Need-overflow-sub-look-drained
-sub-look-drained c = within c.before.before.before.before.before.before.before.before.before
+sub-look-drained : tie.Need-overflow_sub-count
+sub-look-drained c = within c
 
-look-drained-requires : tie.Need-look-drained-requires
+look-drained-requires : tie.Need-look_drained-requires
 look-drained-requires c κs =
-    let told = c.before.before.before.before.before.before.before.before.before in
-    let p = preparing told in
+    let p = preparing c in
     let pre = (start p).pre in
     let read = pre.0.1.1 in
-    let fine = judged-fine _ _ _ _ _ _ _ _ _ _ _ (p.prepare.ensures _ _ read.0 read.1) _ _ told.before.judged.given.1 in (
-      (_, prepared-lookable _ _ _ _ _ _ _ _ _ _ _ fine.0 _ read.1 (omega (arith, within told, pre.1.1.0.0, p.prepare.kept.1.1.1.1.0))),
+    let fine = judged-fine _ _ _ _ _ _ _ _ _ _ _ (p.prepare.ensures _ _ read.0 read.1) _ _ c.judged.given.1 in (
+      (_, prepared-lookable _ _ _ _ _ _ _ _ _ _ _ fine.0 _ read.1 (omega (arith, within c, pre.1.1.0.0, p.prepare.kept.1.1.1.1.0))),
       pre.1.0,
     )
 
@@ -90,23 +84,21 @@ look-drained-requires c κs =
 abbrev finished : tie.After-look-drained → tie.After-prepare
 finished c = preparing c.before.before.before.before.before.before.before.before.before.before
 
-returns : tie.Need-returns
+returns : tie.Need-returns-in-Fine
 returns c =
-    let told = c.before.before.before.before.before.before.before.before.before.before in
-    let p = preparing told in λ rs end reading many.
-    let fine = judged-fine _ _ _ _ _ _ _ _ _ _ _ (p.prepare.ensures rs end reading many) _ _ told.before.judged.given.1 in
+    let p = preparing c in λ rs end reading many.
+    let fine = judged-fine _ _ _ _ _ _ _ _ _ _ _ (p.prepare.ensures rs end reading many) _ _ c.judged.given.1 in
     c.look_drained.ensures rs
-    (prepared-lookable _ _ _ _ _ _ _ _ _ _ _ fine.0 _ many (omega (arith, within told, (start p).pre.1.1.0.0, p.prepare.kept.1.1.1.1.0)))
+    (prepared-lookable _ _ _ _ _ _ _ _ _ _ _ fine.0 _ many (omega (arith, within c, (start p).pre.1.1.0.0, p.prepare.kept.1.1.1.1.0)))
 
-returns-2 : tie.Need-returns-2
+returns-2 : tie.Need-returns-in-Refused
 returns-2 c =
-    let judged = c.before.before in
-    let p = judged.before.before.before.before.before.before.before.before.before.before.before.before.before.before.before.before.before.before in λ rs end reading many.
-    rules-refused rs _ _ _ _ _ (judged-refused _ _ _ _ _ _ _ _ _ _ _ (p.prepare.ensures rs end reading many) _ _ judged.judged2.given.1)
+    λ rs end reading many.
+    rules-refused rs _ _ _ _ _ (judged-refused _ _ _ _ _ _ _ _ _ _ _ (c.prepare-judged.ensures rs end reading many) _ _ c.in-Refused.is)
     c.lookup_refused.ensures
 
-pub look-moment-in-spec : {M : Type 1} → statement M
-look-moment-in-spec =
+pub look_moment_in_spec : {M : Type 1} → statement M
+look_moment_in_spec =
     tie.close
     (tie.spec
     (λ c. search rules) (λ c. search rules) prepare-requires (λ c. search rules) mul-places slice-reshare-prefix-look-drained slice-aggregate-look-drained

@@ -11,51 +11,43 @@ use Rattle.lookup.proofs.Cases.{look-no-date, look-no-minute, look-dated}
 use Rattle.lookup.proofs.look_rules.Statement.{statement}
 use Rattle.lookup.proofs.look_rules.Tie as tie
 
-returns : tie.Need-returns
+returns : tie.Need-returns-then-past_midnight
 returns c =
-    let midnight = c.before.before in
-    let entry = midnight.before.before.before in
-    let args = entry.args in
-    let read = entry.requires.1.1.0.read in
+    let args = c.args in
+    let read = c.requires.1.1.0.read in
     c.lookup_refused.ensures
     ∙ sym (look-no-minute _ args.sheet.now args.year args.month args.day args.minute _ _ read
-    (leb-true _ _ (sym midnight.past_midnight.ensures ∙ c.before.if1.true)))
+    (leb-true _ _ (sym c.past_midnight.ensures ∙ c.if-past_midnight.true)))
 
 -- behind the test the minute lies in the day
 in-day : (c : tie.Else1) → c.before.before.before.before.args.minute < 1440
 in-day c = leb-false _ _ (sym c.before.past_midnight.ensures ∙ c.if1.false)
 
-look-moment-requires : tie.Need-look-moment-requires
+look-moment-requires : tie.Need-look_moment-requires
 look-moment-requires c κs =
-    let dated = c.before.before.before in
-    let point = point-dated _ _ _ _ (sym (ap point_in c.before.dated.given.1) ∙ dated.point_of.ensures) in
-    (dated.before.before.before.before.before.requires, (point.2, omega arith))
+    let point = point-dated _ _ _ _ (sym (ap point_in c.in-Point.is) ∙ c.point_of-dated.ensures) in
+    (c.requires, (point.2, omega arith))
 
-returns-2 : tie.Need-returns-2
+returns-2 : tie.Need-returns-in-Point
 returns-2 c =
-    let dated = c.before.before in
-    let branch = dated.before.before.before in
-    let entry = branch.before.before.before.before in
-    let args = entry.args in
-    let rules = entry.requires in
+    let args = c.args in
+    let rules = c.requires in
     let read = rules.1.1.0.read in
-    let point = point-dated _ _ _ _ (sym (ap point_in dated.dated.given.1) ∙ dated.before.before.point_of.ensures) in
+    let point = point-dated _ _ _ _ (sym (ap point_in c.in-Point.is) ∙ c.point_of-dated.ensures) in
     c.look_moment.ensures _ _ rules.1.1.0 rules.1.1.1 ∙ ap (λ p. look_at rules.0 p args.minute) point.1
     ∙ sym (look-dated _ args.sheet.now args.year args.month args.day args.minute _ _ read point.0
-    (in-day branch))
+    (in-day c))
 
-returns-3 : tie.Need-returns-3
+returns-3 : tie.Need-returns-in-NoDate
 returns-3 c =
-    let told = c.before in
-    let entry = told.before.before.before.before.before.before.before in
-    let args = entry.args in
-    let read = entry.requires.1.1.0.read in
-    let missing = point-missing _ _ _ (sym (ap point_in told.enum_told.given.1) ∙ told.before.before.point_of.ensures) in
-    c.lookup-refused2.ensures ∙ sym (look-no-date _ args.sheet.now args.year args.month args.day args.minute _ _ read missing)
+    let args = c.args in
+    let read = c.requires.1.1.0.read in
+    let missing = point-missing _ _ _ (sym (ap point_in c.in-NoDate.is) ∙ c.point_of-dated.ensures) in
+    c.lookup_refused-in-NoDate.ensures ∙ sym (look-no-date _ args.sheet.now args.year args.month args.day args.minute _ _ read missing)
 
-pub look-rules-spec : {M : Type 1} → statement M
-look-rules-spec =
+pub look_rules_spec : {M : Type 1} → statement M
+look_rules_spec =
     tie.close
     (tie.spec (λ c κs. search rules) (λ c κs. search rules) returns (λ c κs. search rules) (λ c. search rules)
-    (λ c. search (rules, in-day c.before.before.before.before)) look-moment-requires
+    (λ c. search (rules, in-day c)) look-moment-requires
     (λ c. search rules) (λ c κs. search rules) returns-2 returns-3)

@@ -25,8 +25,8 @@ fold-in-room-at t = and 3 fold-in-room-kinds.ps (is 3 fold-in-room-kinds.ps μ-f
 abbrev fold-in-room-below : ℕ → In 3 fold-in-room-kinds.ps
 fold-in-room-below t = and 3 fold-in-room-kinds.ps (falls 3 fold-in-room-kinds.ps ◌<◌ μ-fold-in-room t) fold-in-room.Pre
 
-pub +fold-in-room-spec : {M : Type 1} → statement M
-+fold-in-room-spec = close μ-fold-in-room λ t. fold-in-room-lts.spec (
+pub +fold_in_room_spec : {M : Type 1} → statement M
++fold_in_room_spec = close μ-fold-in-room λ t. fold-in-room-lts.spec (
   fold-in-room-below t,
   fold-in-room.Post,
   fold-few-rules-reads.Asked,

@@ -19,9 +19,9 @@ preparing c = c.before.before.before.before.before.before.before.before.before.b
 abbrev start : tie.After-prepare → tie.Start
 start c = c.before.before.before.before.before.before.before.before.before.before.before.before.before.before.before.before.before.before.before.before
 
-prepare-requires : tie.Need-prepare-requires
+prepare-requires : tie.Need-prepare-judged-requires
 prepare-requires c κs =
-    let pre = c.before.before.before.before.before.before.before.before.before.before.before.before.before.before.before.before.before.before.before.requires in
+    let pre = c.requires in
     let room = pre.1.1 in
     ((pre.0.0, (_, pre.0.1)), (pre.1.0, ((room.0, room.1), (omega arith, omega arith, room.2))))
 
@@ -32,14 +32,14 @@ within c =
     let read = (start p).pre.0.1 in
     drained-within _ _ _ _ _ _ _ _ _ _ _ (judged-fine _ _ _ _ _ _ _ _ _ _ _ (p.prepare.ensures _ _ read.0 read.1) _ _ c.before.judged.given.1).0 _ read.1
 
-mul-places : tie.Need-overflow-mul-places
+mul-places : tie.Need-overflow_mul-places
 mul-places c =
     let p = preparing c in
     let read = (start p).pre.0.1 in
-    let told = judged-fine _ _ _ _ _ _ _ _ _ _ _ (p.prepare.ensures _ _ read.0 read.1) _ _ c.before.judged.given.1 in
+    let told = judged-fine _ _ _ _ _ _ _ _ _ _ _ (p.prepare.ensures _ _ read.0 read.1) _ _ c.in-Fine.is in
     search (rules, told.0.drawable.0.few-rules)
 
-rules-left-requires : tie.Need-rules-left-requires
+rules-left-requires : tie.Need-rules_left-left-requires
 rules-left-requires c κs =
     let p = preparing c in
     let sheet = (start p).args.sheet.now in
@@ -48,62 +48,54 @@ rules-left-requires c κs =
     let read = (start p).pre.0.1 in
     (begins-there _ sheet bytes _ _ _ _ read.0 read.1, within c)
 
-slice-reshare-prefix-fold-boxes : tie.Need-slice-reshare-prefix-fold-boxes
+slice-reshare-prefix-fold-boxes : tie.Need-slice_bounds-fold_boxes-end
 slice-reshare-prefix-fold-boxes c =
-    let told = c.before.before in
-    let p = preparing told in
-    omega (arith, within told, (start p).pre.1.0.0, p.prepare.kept.1.1.1.1.0)
+    let p = preparing c in
+    omega (arith, within c, (start p).pre.1.0.0, p.prepare.kept.1.1.1.1.0)
 
-slice-aggregate-fold-boxes : tie.Need-slice-aggregate-fold-boxes
+slice-aggregate-fold-boxes : tie.Need-slice_bounds-fold_boxes-end-in-Fine
 slice-aggregate-fold-boxes c =
-    let told = c.before.before.before in
-    let p = preparing told in
-    sym (length-take-le told.before.judged.given.0.0 _ (omega (arith, within told, (start p).pre.1.0.0, p.prepare.kept.1.1.1.1.0)))
+    let p = preparing c in
+    sym (length-take-le c.in-Fine.rules _ (omega (arith, within c, (start p).pre.1.0.0, p.prepare.kept.1.1.1.1.0)))
 
-slice-reshare-prefix-fold-boxes-2 : tie.Need-slice-reshare-prefix-fold-boxes-2
+slice-reshare-prefix-fold-boxes-2 : tie.Need-slice_bounds-fold_boxes-end-in-Fine-2
 slice-reshare-prefix-fold-boxes-2 c =
-    let told = c.before.before.before in
-    let p = preparing told in
-    omega (arith, within told, (start p).pre.1.0.1, p.prepare.kept.1.1.1.1.1.0)
+    let p = preparing c in
+    omega (arith, within c, (start p).pre.1.0.1, p.prepare.kept.1.1.1.1.1.0)
 
-slice-aggregate-fold-boxes-2 : tie.Need-slice-aggregate-fold-boxes-2
+slice-aggregate-fold-boxes-2 : tie.Need-slice_bounds-fold_boxes-end-in-Fine-3
 slice-aggregate-fold-boxes-2 c =
-    let told = c.before.before.before.before in
-    let p = preparing told in
-    sym (length-take-le told.before.judged.given.0.0 _ (omega (arith, within told, (start p).pre.1.0.1, p.prepare.kept.1.1.1.1.1.0)))
+    let p = preparing c in
+    sym (length-take-le c.judged.given.0.0 _ (omega (arith, within c, (start p).pre.1.0.1, p.prepare.kept.1.1.1.1.1.0)))
 
-slice-reshare-prefix-fold-boxes-3 : tie.Need-slice-reshare-prefix-fold-boxes-3
+slice-reshare-prefix-fold-boxes-3 : tie.Need-slice_bounds-fold_boxes-end-in-Fine-4
 slice-reshare-prefix-fold-boxes-3 c =
-    let told = c.before.before.before.before in
-    let p = preparing told in
-    omega (arith, within told, (start p).pre.1.0.2, p.prepare.kept.1.1.1.1.1.1.0)
+    let p = preparing c in
+    omega (arith, within c, (start p).pre.1.0.2, p.prepare.kept.1.1.1.1.1.1.0)
 
-slice-aggregate-fold-boxes-3 : tie.Need-slice-aggregate-fold-boxes-3
+slice-aggregate-fold-boxes-3 : tie.Need-slice_bounds-fold_boxes-end-in-Fine-5
 slice-aggregate-fold-boxes-3 c =
-    let told = c.before.before.before.before.before in
-    let p = preparing told in
-    sym (length-take-le (told.before.judged.given.0.0 * 16) _ (omega (arith, within told, (start p).pre.1.0.2, p.prepare.kept.1.1.1.1.1.1.0)))
+    let p = preparing c in
+    sym (length-take-le (c.judged.given.0.0 * 16) _ (omega (arith, within c, (start p).pre.1.0.2, p.prepare.kept.1.1.1.1.1.1.0)))
 
-fold-boxes-requires : tie.Need-fold-boxes-requires
+fold-boxes-requires : tie.Need-fold_boxes-requires
 fold-boxes-requires c κs =
-    let leaving = c.before.before.before.before.before.before.before.before.before.before in
-    let told = leaving.before in
-    let p = preparing told in
+    let p = preparing c in
     let sheet = (start p).args.sheet.now in
     let known = p.before.before.before.before.before.before.before.before.before.before.before.before.before.before.before.before.before.before.before.shared-slice-known in
     let bytes = known_bytes sheet (λ j. omega (arith, known.given j)) in
     let read = (start p).pre.0.1 in
-    let fine = judged-fine _ _ _ _ _ _ _ _ _ _ _ (p.prepare.ensures _ _ read.0 read.1) _ _ told.before.judged.given.1 in
-    let left = leaving.rules_left.ensures in (
+    let fine = judged-fine _ _ _ _ _ _ _ _ _ _ _ (p.prepare.ensures _ _ read.0 read.1) _ _ c.judged.given.1 in
+    let left = c.rules_left.ensures in (
       (
         (start p).pre.0.0,
         record {
           end = (start p).args.end;
           read = read.0.read;
           commented = rules-commented _ sheet bytes _ _ _ read.0;
-          leaving = rules-leaving _ sheet bytes _ _ _ read.0 _ _ fine.0.rules-many read.1 _ _ _ _ _ left.0 left.1 left.2
-              (length-take-le _ _ (omega (arith, within told, (start p).pre.1.0.0, p.prepare.kept.1.1.1.1.0))) (left.3 ∙ fine.1);
-          to-draw = prepared-to-draw _ _ _ _ _ _ _ _ _ _ _ fine.0 (omega (arith, within told, (start p).pre.1.0.0, p.prepare.kept.1.1.1.1.0));
+          c = rules-leaving _ sheet bytes _ _ _ read.0 _ _ fine.0.rules-many read.1 _ _ _ _ _ left.0 left.1 left.2
+              (length-take-le _ _ (omega (arith, within c, (start p).pre.1.0.0, p.prepare.kept.1.1.1.1.0))) (left.3 ∙ fine.1);
+          to-draw = prepared-to-draw _ _ _ _ _ _ _ _ _ _ _ fine.0 (omega (arith, within c, (start p).pre.1.0.0, p.prepare.kept.1.1.1.1.0));
         },
       ),
       omega arith,
@@ -116,16 +108,16 @@ finished c = preparing c.before.before.before.before.before.before.before.before
 abbrev judging : tie.After-known-told2 → tie.After-prepare
 judging c = c.before.before.before.before.before.before.before.before.before.before.before.before.before.before.before.before.before.before.before
 
-returns-2 : tie.Need-returns-2
+returns-2 : tie.Need-returns-in-Refused
 returns-2 c =
-    let p = judging c.before in
+    let p = judging c in
     let args = (start p).args in
     let read = (start p).pre.0.1 in
     rules-refused _ args.sheet.now args.out.now _ _ _ read.0.read _ _
-    (judged-refused _ _ _ _ _ _ _ _ _ _ _ (p.prepare.ensures _ _ read.0 read.1) _ _ c.before.before.judged2.given.1) c.fold_refused.ensures
+    (judged-refused _ _ _ _ _ _ _ _ _ _ _ (p.prepare.ensures _ _ read.0 read.1) _ _ c.in-Refused.is) c.fold_refused.ensures
 
-pub fold-rules-in-spec : {M : Type 1} → statement M
-fold-rules-in-spec =
+pub fold_rules_in_spec : {M : Type 1} → statement M
+fold_rules_in_spec =
     tie.close
     (tie.spec
     (λ c. search rules) (λ c. search rules) prepare-requires (λ c. search rules) mul-places rules-left-requires slice-reshare-prefix-fold-boxes

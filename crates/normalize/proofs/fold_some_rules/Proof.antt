@@ -4,16 +4,16 @@ use borrow.Author.Rules.{rules}
 use Rattle.normalize.proofs.fold_some_rules.Statement.{statement}
 use Rattle.normalize.proofs.fold_some_rules.Tie as tie
 
-fold-rules-in-requires : tie.Need-fold-rules-in-requires
+fold-rules-in-requires : tie.Need-fold_rules_in-requires
 fold-rules-in-requires c κs =
-    let pre = c.before.before.before.before.before.before.before.before.before.before.before.requires in
+    let pre = c.requires in
     let few = pre.1 in (
       pre.0,
       ((omega (arith, few), omega (arith, few), omega (arith, few), omega (arith, few)), (omega (arith, few), omega (arith, few), omega (arith, few))),
     )
 
-pub fold-some-rules-spec : {M : Type 1} → statement M
-fold-some-rules-spec =
+pub fold_some_rules_spec : {M : Type 1} → statement M
+fold_some_rules_spec =
     tie.close
     (tie.spec (λ c. search rules) (λ c. search rules) (λ c. search rules) (λ c. search rules) (λ c. search rules) (λ c. search rules) (λ c. search rules)
     fold-rules-in-requires (λ c. search rules) (λ c. search rules))

@@ -26,7 +26,7 @@ returns-2 c =
     boxes-refused ds _ _ (passed.before.first_overlap.ensures ds days) passed.if1.left _ (cut.Cut-all.ensures ds days).0
     (ltb-true _ _ (sym c.boxes_over.ensures ∙ c.if-boxes_over.true))
 
-returns-3 : tie.Need-returns
+returns-3 : tie.Need-returns-then-twice-rules
 unfolding JudgesDays
 returns-3 c =
     let cut = cutting c in

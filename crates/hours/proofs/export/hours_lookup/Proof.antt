@@ -11,23 +11,20 @@ use Rattle.hours.proofs.export.hours_lookup.Tie as tie
 abbrev start : tie.After-lacks-room → tie.Start
 start c = c.before.before.before
 
-put-looked-requires : tie.Need-put-looked-requires
+put-looked-requires : tie.Need-put_looked-requires
 put-looked-requires c κs =
-    let branch = c.before.before in
-    has_room 4 (length (start branch.before).args.lent.now) _ branch.before.lacks_room.ensures branch.if1.false
+    has_room 4 (length (start c).args.lent.now) _ c.lacks_room.ensures c.if-lacks_room.false
 
-returns-2 : tie.Need-returns-2
+returns-2 : tie.Need-returns
 returns-2 c =
-    let put = c.before.before in
-    let branch = put.before.before.before in
-    let answer = put.before.before.lookup.ensures in (
-      long-enough 4 (length (start branch.before).args.lent.now) _ branch.before.lacks_room.ensures branch.if1.false,
-      put.put_looked.ensures ∙ ap (λ k. buffer (numbers k) (start branch.before).args.lent.now) answer,
+    let answer = c.lookup.ensures in (
+      long-enough 4 (length (start c).args.lent.now) _ c.lacks_room.ensures c.if-lacks_room.false,
+      c.put_looked.ensures ∙ ap (λ k. buffer (numbers k) (start c).args.lent.now) answer,
     )
 
-pub hours-lookup-spec : {M : Type 1} → statement M
-hours-lookup-spec =
+pub hours_lookup_spec : {M : Type 1} → statement M
+hours_lookup_spec =
     tie.close
     (tie.spec (λ c κs. search rules)
-    (λ c. (too_short 4 (length (start c.before).args.lent.now) _ c.before.lacks_room.ensures c.if1.true, refl))
+    (λ c. (too_short 4 (length (start c).args.lent.now) _ c.lacks_room.ensures c.if-lacks_room.true, refl))
     (λ c κs. search rules) put-looked-requires (λ c. search rules) returns-2)

@@ -10,24 +10,21 @@ use Rattle.hours.proofs.export.hours_write_back.Tie as tie
 abbrev start : tie.After-lacks-room → tie.Start
 start c = c.before.before.before.before
 
-put-written-requires : tie.Need-put-written-requires
+put-written-requires : tie.Need-put_written-requires
 put-written-requires c κs =
-    let branch = c.before.before.before.before.before in
-    has_room 3 (length (start branch.before).args.lent.now) _ branch.before.lacks_room.ensures branch.if1.false
+    has_room 3 (length (start c).args.lent.now) _ c.lacks_room.ensures c.if-lacks_room.false
 
-returns-2 : tie.Need-returns-2
+returns-2 : tie.Need-returns
 returns-2 c =
-    let put = c.before.before in
-    let branch = put.before.before.before.before.before.before in
-    let answer = put.before.before.before.before.write_back.ensures in (
-      long-enough 3 (length (start branch.before).args.lent.now) _ branch.before.lacks_room.ensures branch.if1.false,
-      put.Put-written.ensures ∙ ap (λ n. buffer n (start branch.before).args.lent.now) answer.0,
+    let answer = c.write_back.ensures in (
+      long-enough 3 (length (start c).args.lent.now) _ c.lacks_room.ensures c.if-lacks_room.false,
+      c.Put-written.ensures ∙ ap (λ n. buffer n (start c).args.lent.now) answer.0,
       answer.1,
     )
 
-pub hours-write-back-spec : {M : Type 1} → statement M
-hours-write-back-spec =
+pub hours_write_back_spec : {M : Type 1} → statement M
+hours_write_back_spec =
     tie.close
     (tie.spec (λ c κs. search rules)
-    (λ c. (too_short 3 (length (start c.before).args.lent.now) _ c.before.lacks_room.ensures c.if1.true, refl, refl))
+    (λ c. (too_short 3 (length (start c).args.lent.now) _ c.lacks_room.ensures c.if-lacks_room.true, refl, refl))
     (λ c κs. search rules) put-written-requires (λ c. search rules) (λ c. search rules) returns-2)

@@ -10,24 +10,21 @@ use Rattle.hours.proofs.export.put_fold.Tie as tie
 abbrev start : tie.After-lacks-room → tie.Start
 start c = c.before.before.before.before
 
-put-folded-requires : tie.Need-put-folded-requires
+put-folded-requires : tie.Need-put_folded-requires
 put-folded-requires c κs =
-    let branch = c.before.before.before.before.before in
-    has_room 7 (length (start branch.before).args.lent.now) _ branch.before.lacks_room.ensures branch.if1.false
+    has_room 7 (length (start c).args.lent.now) _ c.lacks_room.ensures c.if-lacks_room.false
 
-returns-2 : tie.Need-returns-2
+returns-2 : tie.Need-returns
 returns-2 c =
-    let put = c.before.before in
-    let branch = put.before.before.before.before.before.before in
-    let answer = put.before.before.before.before.fold_by.ensures in (
-      long-enough 7 (length (start branch.before).args.lent.now) _ branch.before.lacks_room.ensures branch.if1.false,
-      put.put_folded.ensures ∙ ap (λ n. buffer n (start branch.before).args.lent.now) answer.0,
+    let answer = c.fold_by.ensures in (
+      long-enough 7 (length (start c).args.lent.now) _ c.lacks_room.ensures c.if-lacks_room.false,
+      c.put_folded.ensures ∙ ap (λ n. buffer n (start c).args.lent.now) answer.0,
       answer.1,
     )
 
-pub put-fold-spec : {M : Type 1} → statement M
-put-fold-spec =
+pub put_fold_spec : {M : Type 1} → statement M
+put_fold_spec =
     tie.close
     (tie.spec (λ c κs. search rules)
-    (λ c. (too_short 7 (length (start c.before).args.lent.now) _ c.before.lacks_room.ensures c.if1.true, refl, refl))
+    (λ c. (too_short 7 (length (start c).args.lent.now) _ c.lacks_room.ensures c.if-lacks_room.true, refl, refl))
     (λ c κs. search rules) put-folded-requires (λ c. search rules) (λ c. search rules) returns-2)

@@ -19,33 +19,27 @@ start c = c.before.before.before.before.before
 bytes : (c : tie.After-check) → Bytes (start c).args.sheet.now
 bytes c = known_bytes (start c).args.sheet.now (λ j. omega (arith, c.before.before.before.before.shared-slice-known.given j))
 
-convert-rules-requires : tie.Need-convert-rules-requires
+convert-rules-requires : tie.Need-convert_rules-requires
 convert-rules-requires c κs =
-    let checked = c.before.before.before in
-    let check = checked.before.before.before.before in
-    rules-read _ _ _ check.check.ensures.0 _ _ check.check.ensures.1 (start check).requires (bytes check) (narrow (start check).args.form) _ _
-    checked.checked.given.1
+    rules-read _ _ _ c.check.ensures.0 _ _ c.check.ensures.1 (start c).requires (bytes c) (narrow (start c).args.form) _ _
+    c.checked.given.1
 
-returns : tie.Need-returns
+returns : tie.Need-returns-in-Rules
 returns c =
-    let moved = c.before.before in
-    let checked = moved.before.before.before.before in
-    let check = checked.before.before.before.before in
-    let a = (start check).args in
-    let read = rules-read _ _ _ check.check.ensures.0 _ _ check.check.ensures.1 (start check).requires (bytes check) (narrow a.form) _ _
-    checked.checked.given.1 in
+    let a = (start c).args in
+    let read = rules-read _ _ _ c.check.ensures.0 _ _ c.check.ensures.1 (start c).requires (bytes c) (narrow a.form) _ _
+    c.checked.given.1 in
     let same = converts-read _ _ a.sheet.now (length a.out.now) read.0 _ read.1.0.read in
-    of-same written_numbers (λ w. w.result) _ same (moved.convert_rules.ensures read.0 read.1.0 read.1.1)
+    of-same written_numbers (λ w. w.result) _ same (c.convert_rules.ensures read.0 read.1.0 read.1.1)
 
-returns-2 : tie.Need-returns-2
+returns-2 : tie.Need-returns-in-Refused
 returns-2 c =
-    let check = c.before.before.before.before.before in
-    let a = (start check).args in
-    let same = convert-refused _ a.sheet.now _ check.check.ensures.0 _ (length a.out.now) _ _ c.before.checked2.given.1 in
+    let a = (start c).args in
+    let same = convert-refused _ a.sheet.now _ c.check-checked.ensures.0 _ (length a.out.now) _ _ c.in-Refused.is in
     of-same written_numbers (λ w. w.result) a.out.now same (refl, refl)
 
-pub convert-spec : {M : Type 1} → statement M
-convert-spec =
+pub convert_spec : {M : Type 1} → statement M
+convert_spec =
     tie.close
     (tie.spec (λ c κs. search rules) (λ c. search rules) convert-rules-requires (λ c. search rules) (λ c. search rules) (λ c. search rules) returns
     (λ c. search rules) returns-2)

@@ -16,23 +16,19 @@ start c = c.before.before.before.before.before
 bytes : (c : tie.After-check) → Bytes (start c).args.sheet.now
 bytes c = known_bytes (start c).args.sheet.now (λ j. omega (arith, c.before.before.before.before.shared-slice-known.given j))
 
-fold-rules-requires : tie.Need-fold-rules-requires
+fold-rules-requires : tie.Need-fold_rules-requires
 fold-rules-requires c κs =
-    let checked = c.before.before.before in
-    let check = checked.before.before.before.before in
-    rules-read _ _ _ check.check.ensures.0 _ _ check.check.ensures.1 (start check).requires (bytes check) (narrow (start check).args.form) _ _
-    checked.checked.given.1
+    rules-read _ _ _ c.check.ensures.0 _ _ c.check.ensures.1 (start c).requires (bytes c) (narrow (start c).args.form) _ _
+    c.checked.given.1
 
-returns-2 : tie.Need-returns-2
+returns-2 : tie.Need-returns-in-Refused
 returns-2 c =
-    let checked2 = c.before.before in
-    let check = checked2.before.before.before.before in
-    let a = (start check).args in
-    let refusal = sheet-refused _ a.sheet.now _ check.check.ensures.0 _ _ checked2.checked2.given.1 in
+    let a = (start c).args in
+    let refusal = sheet-refused _ a.sheet.now _ c.check-checked.ensures.0 _ _ c.in-Refused.is in
     answers.sheet-refused _ a.sheet.now a.out.now _ _ _ refusal c.fold_refused.ensures
 
-pub fold-spec : {M : Type 1} → statement M
-fold-spec =
+pub fold_spec : {M : Type 1} → statement M
+fold_spec =
     tie.close
     (tie.spec (λ c κs. search rules) (λ c. search rules) fold-rules-requires (λ c. search rules) (λ c. search rules) (λ c κs. search rules) (λ c. search rules)
     (λ c. search rules) (λ c. search rules) (λ c. search rules) returns-2)

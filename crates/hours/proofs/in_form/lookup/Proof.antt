@@ -17,24 +17,20 @@ start c = c.before.before.before.before
 bytes : (c : tie.After-check) → Bytes (start c).args.sheet.now
 bytes c = known_bytes (start c).args.sheet.now (λ j. omega (arith, c.before.before.before.shared-slice-known.given j))
 
-look-rules-requires : tie.Need-look-rules-requires
+look-rules-requires : tie.Need-look_rules-requires
 look-rules-requires c κs =
-    let checked = c.before.before in
-    let check = checked.before.before.before.before in
-    let rules = rules-read _ _ _ check.check.ensures.0 _ _ check.check.ensures.1 (start check).requires (bytes check) (narrow (start check).args.form) _ _
-    checked.checked.given.1 in
+    let rules = rules-read _ _ _ c.check.ensures.0 _ _ c.check.ensures.1 (start c).requires (bytes c) (narrow (start c).args.form) _ _
+    c.checked.given.1 in
     (rules.0, (_, rules.1))
 
-returns-2 : tie.Need-returns-2
+returns-2 : tie.Need-returns-in-Refused
 returns-2 c =
-    let checked2 = c.before.before in
-    let check = checked2.before.before.before.before in
-    let a = (start check).args in
-    let refusal = sheet-refused _ a.sheet.now _ check.check.ensures.0 _ _ checked2.checked2.given.1 in
+    let a = (start c).args in
+    let refusal = sheet-refused _ a.sheet.now _ c.check-checked.ensures.0 _ _ c.in-Refused.is in
     c.lookup_refused.ensures ∙ sym (look-refused _ a.sheet.now a.year a.month a.day a.minute _ _ refusal)
 
-pub lookup-spec : {M : Type 1} → statement M
-lookup-spec =
+pub lookup_spec : {M : Type 1} → statement M
+lookup_spec =
     tie.close
     (tie.spec (λ c κs. search rules) (λ c. search rules) look-rules-requires (λ c. search rules) (λ c. search rules) (λ c κs. search rules) (λ c. search rules)
     (λ c. search rules) (λ c. search rules) returns-2)

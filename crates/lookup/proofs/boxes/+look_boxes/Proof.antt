@@ -24,8 +24,8 @@ look-boxes-at t = and 9 look-boxes-kinds.ps (is 9 look-boxes-kinds.ps μ-look-bo
 abbrev look-boxes-below : ℕ → In 9 look-boxes-kinds.ps
 look-boxes-below t = and 9 look-boxes-kinds.ps (falls 9 look-boxes-kinds.ps ◌<◌ μ-look-boxes t) look-boxes.Pre
 
-pub +look-boxes-spec : {M : Type 1} → statement M
-+look-boxes-spec = close μ-look-boxes λ t. look-boxes-lts.spec (
+pub +look_boxes_spec : {M : Type 1} → statement M
++look_boxes_spec = close μ-look-boxes λ t. look-boxes-lts.spec (
   size-of-reads.Asked,
   size-of-reads.Learnt,
   look-boxes-below t,

@@ -5,22 +5,20 @@ use Rattle.draw_rules.proofs.Places.{cells-lent, few-places}
 use Rattle.lookup.proofs.boxes.look_few_boxes.Statement.{statement}
 use Rattle.lookup.proofs.boxes.look_few_boxes.Tie as tie
 
-slice-aggregate-look-boxes-in : tie.Need-slice-aggregate-look-boxes-in
+slice-aggregate-look-boxes-in : tie.Need-slice_bounds-look_boxes_in-end
 slice-aggregate-look-boxes-in c =
-    let sized = c.before in
-    let pre = sized.before.before.before.before.before.before.before.before.before.before.requires in
-    cells-lent _ 16 _ sized.type_size.ensures (omega (arith, pre.1.1, sized.type_size.ensures))
+    let pre = c.requires in
+    cells-lent _ 16 _ c.type_size.ensures (omega (arith, pre.1.1, c.type_size.ensures))
 
-look-boxes-in-requires : tie.Need-look-boxes-in-requires
+look-boxes-in-requires : tie.Need-look_boxes_in-requires
 look-boxes-in-requires c κs =
-    let sized = c.before.before.before in
-    let pre = sized.before.before.before.before.before.before.before.before.before.before.requires in
-    (pre.0, (pre.1.0, few-places _ 16 _ sized.type_size.ensures (omega (arith, pre.1.1, sized.type_size.ensures)) 16 (omega (arith, pre.1.1, sized.type_size.ensures)) (omega arith)))
+    let pre = c.requires in
+    (pre.0, (pre.1.0, few-places _ 16 _ c.type_size.ensures (omega (arith, pre.1.1, c.type_size.ensures)) 16 (omega (arith, pre.1.1, c.type_size.ensures)) (omega arith)))
 
-pub look-few-boxes-spec : {M : Type 1} → statement M
-look-few-boxes-spec =
+pub look_few_boxes_spec : {M : Type 1} → statement M
+look_few_boxes_spec =
     tie.close
     (tie.spec
-    (λ c κs. let pre = c.before.before.before.before.before.before.before.before.before.requires in search (rules, pre.0.1.to-draw.drawable.2.four))
+    (λ c κs. let pre = c.requires in search (rules, pre.0.1.to-draw.drawable.2.four))
     (λ c. let sized = c in let pre = sized.before.before.before.before.before.before.before.before.before.before.requires in omega (arith, pre.1.1, sized.type_size.ensures))
     slice-aggregate-look-boxes-in (λ c. search rules) (λ c. search rules) look-boxes-in-requires (λ c. search rules))

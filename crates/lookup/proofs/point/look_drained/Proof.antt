@@ -26,24 +26,24 @@ none-met : (c : tie.Else1) → let a = (start c).args in (rs : List Rule)
     → first_refused sheet_limits (drained rs) ≡ none
 none-met c rs given = c.before.few_lists.ensures (not-false _ c.if1.left) _ (lookable-days _ _ _ _ _ _ _ _ _ _ rs given)
 
-returns-2 : tie.Need-returns-2
+returns-2 : tie.Need-returns-then-rules_left-gt0
 returns-2 c =
-    let few = c.before.before in λ rs given.
-    left-refused rs _ _ _ given.to-draw.passed.apart (boxes-few _ _ _ _ _ _ _ _ _ _ given.to-draw) (none-met few rs given)
-    (omega (arith, c.before.if2.taken, given.counted, given.to-draw.times.all-states)) c.lookup_refused.ensures
+    λ rs given.
+    left-refused rs _ _ _ given.to-draw.passed.apart (boxes-few _ _ _ _ _ _ _ _ _ _ given.to-draw) (none-met c rs given)
+    (omega (arith, c.if-rules_left-gt0.taken, given.counted, given.to-draw.times.all-states)) c.lookup_refused.ensures
 
-returns-3 : tie.Need-returns-3
+returns-3 : tie.Need-returns
 returns-3 c =
-    let few = c.before.before.before in λ rs given.
-    state-found rs _ _ _ given.to-draw.passed.apart (boxes-few _ _ _ _ _ _ _ _ _ _ given.to-draw) (none-met few rs given)
-    (omega (arith, c.before.before.if2.left, given.counted, given.to-draw.times.all-states))
-    (c.Numbers-of.ensures ∙ c.before.point_state.ensures _ (lookable-rules _ _ _ _ _ _ _ _ _ _ rs given))
+    λ rs given.
+    state-found rs _ _ _ given.to-draw.passed.apart (boxes-few _ _ _ _ _ _ _ _ _ _ given.to-draw) (none-met c rs given)
+    (omega (arith, c.if-rules_left-gt0.left, given.counted, given.to-draw.times.all-states))
+    (c.Numbers-of.ensures ∙ c.point_state.ensures _ (lookable-rules _ _ _ _ _ _ _ _ _ _ rs given))
 
-pub look-drained-spec : {M : Type 1} → statement M
-look-drained-spec =
+pub look_drained_spec : {M : Type 1} → statement M
+look_drained_spec =
     tie.close
     (tie.spec
-    (λ c κs. let given = c.before.before.before.before.before.before.before.before.before.pre.0 in (_, lookable-days _ _ _ _ _ _ _ _ _ _ _ given.1))
+    (λ c κs. let given = c.pre.0 in (_, lookable-days _ _ _ _ _ _ _ _ _ _ _ given.1))
     (λ c κs. search rules) (λ c. search rules) (λ c κs. search rules) returns-2
-    (λ c κs. let given = (start c.before).pre.0 in (_, lookable-rules _ _ _ _ _ _ _ _ _ _ _ given.1))
+    (λ c κs. let given = (start c).pre.0 in (_, lookable-rules _ _ _ _ _ _ _ _ _ _ _ given.1))
     (λ c κs. search rules) returns-3)

@@ -25,8 +25,8 @@ look-moment-at t = and 2 look-moment-kinds.ps (is 2 look-moment-kinds.ps μ-look
 abbrev look-moment-below : ℕ → In 2 look-moment-kinds.ps
 look-moment-below t = and 2 look-moment-kinds.ps (falls 2 look-moment-kinds.ps ◌<◌ μ-look-moment t) look-moment.Pre
 
-pub +look-moment-spec : {M : Type 1} → statement M
-+look-moment-spec = close μ-look-moment λ t. look-moment-lts.spec (
+pub +look_moment_spec : {M : Type 1} → statement M
++look_moment_spec = close μ-look-moment λ t. look-moment-lts.spec (
   look-moment-below t,
   look-moment.Post,
   look-few-rules-reads.Asked,

@@ -4,9 +4,9 @@ use borrow.Author.Rules.{rules}
 use Rattle.lookup.proofs.rooms.look_few_rules.Statement.{statement}
 use Rattle.lookup.proofs.rooms.look_few_rules.Tie as tie
 
-look-moment-in-requires : tie.Need-look-moment-in-requires
+look-moment-in-requires : tie.Need-look_moment_in-requires
 look-moment-in-requires c κs =
-    let pre = c.before.before.before.before.before.before.before.before.before.requires in
+    let pre = c.requires in
     let few = pre.1.1 in (
       pre.0,
       (
@@ -15,8 +15,8 @@ look-moment-in-requires c κs =
       ),
     )
 
-pub look-few-rules-spec : {M : Type 1} → statement M
-look-few-rules-spec =
+pub look_few_rules_spec : {M : Type 1} → statement M
+look_few_rules_spec =
     tie.close
     (tie.spec
     (λ c. search rules) (λ c. search rules) (λ c. search rules) (λ c. search rules) (λ c. search rules) (λ c. search rules) (λ c. search rules)

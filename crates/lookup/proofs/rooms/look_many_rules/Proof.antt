@@ -5,11 +5,10 @@ use Rattle.lookup.proofs.Lookable.{read-few}
 use Rattle.lookup.proofs.rooms.look_many_rules.Statement.{statement}
 use Rattle.lookup.proofs.rooms.look_many_rules.Tie as tie
 
-look-moment-in-requires : tie.Need-look-moment-in-requires
+look-moment-in-requires : tie.Need-look_moment_in-requires
 look-moment-in-requires c κs =
-    let known = c.before.before.before.before.before.before.before.before in
-    let pre = known.before.requires in
-    let few = read-few _ _ _ _ (λ j. omega (arith, known.shared-slice-known.given j)) pre.0 in (
+    let pre = c.requires in
+    let few = read-few _ _ _ _ (λ j. omega (arith, c.shared_slice_known-1.given j)) pre.0 in (
       pre.0,
       (
         pre.1,
@@ -17,8 +16,8 @@ look-moment-in-requires c κs =
       ),
     )
 
-pub look-many-rules-spec : {M : Type 1} → statement M
-look-many-rules-spec =
+pub look_many_rules_spec : {M : Type 1} → statement M
+look_many_rules_spec =
     tie.close
     (tie.spec
     (λ c. search rules) (λ c. search rules) (λ c. search rules) (λ c. search rules) (λ c. search rules) (λ c. search rules) (λ c. search rules)

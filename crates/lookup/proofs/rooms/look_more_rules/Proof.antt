@@ -4,9 +4,9 @@ use borrow.Author.Rules.{rules}
 use Rattle.lookup.proofs.rooms.look_more_rules.Statement.{statement}
 use Rattle.lookup.proofs.rooms.look_more_rules.Tie as tie
 
-look-moment-in-requires : tie.Need-look-moment-in-requires
+look-moment-in-requires : tie.Need-look_moment_in-requires
 look-moment-in-requires c κs =
-    let pre = c.before.before.before.before.before.before.before.before.before.requires in
+    let pre = c.requires in
     let few = pre.1.1 in (
       pre.0,
       (
@@ -15,8 +15,8 @@ look-moment-in-requires c κs =
       ),
     )
 
-pub look-more-rules-spec : {M : Type 1} → statement M
-look-more-rules-spec =
+pub look_more_rules_spec : {M : Type 1} → statement M
+look_more_rules_spec =
     tie.close
     (tie.spec
     (λ c. search rules) (λ c. search rules) (λ c. search rules) (λ c. search rules) (λ c. search rules) (λ c. search rules) (λ c. search rules)

@@ -27,8 +27,8 @@ fold-boxes-at t = and 11 fold-boxes-kinds.ps (is 11 fold-boxes-kinds.ps μ-fold-
 abbrev fold-boxes-below : ℕ → In 11 fold-boxes-kinds.ps
 fold-boxes-below t = and 11 fold-boxes-kinds.ps (falls 11 fold-boxes-kinds.ps ◌<◌ μ-fold-boxes t) fold-boxes.Pre
 
-pub +fold-boxes-spec : {M : Type 1} → statement M
-+fold-boxes-spec = close μ-fold-boxes λ t. fold-boxes-lts.spec (
+pub +fold_boxes_spec : {M : Type 1} → statement M
++fold_boxes_spec = close μ-fold-boxes λ t. fold-boxes-lts.spec (
   size-of-reads.Asked,
   size-of-reads.Learnt,
   fold-boxes-below t,

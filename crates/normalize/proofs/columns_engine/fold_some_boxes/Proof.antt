@@ -5,22 +5,20 @@ use Rattle.draw_rules.proofs.Places.{cells-lent, few-places}
 use Rattle.normalize.proofs.columns_engine.fold_some_boxes.Statement.{statement}
 use Rattle.normalize.proofs.columns_engine.fold_some_boxes.Tie as tie
 
-slice-aggregate-fold-boxes-in : tie.Need-slice-aggregate-fold-boxes-in
+slice-aggregate-fold-boxes-in : tie.Need-slice_bounds-fold_boxes_in-end
 slice-aggregate-fold-boxes-in c =
-    let sized = c.before.before in
-    let pre = sized.before.before.before.before.before.before.before.before.before.before.before.before.requires in
-    cells-lent _ 256 _ sized.type_size.ensures (omega (arith, pre.1, sized.type_size.ensures))
+    let pre = c.requires in
+    cells-lent _ 256 _ c.type_size.ensures (omega (arith, pre.1, c.type_size.ensures))
 
-fold-boxes-in-requires : tie.Need-fold-boxes-in-requires
+fold-boxes-in-requires : tie.Need-fold_boxes_in-requires
 fold-boxes-in-requires c κs =
-    let sized = c.before.before.before.before.before in
-    let pre = sized.before.before.before.before.before.before.before.before.before.before.before.before.requires in
-    (pre.0, (few-places _ 256 _ sized.type_size.ensures (omega (arith, pre.1, sized.type_size.ensures)) 256 (omega (arith, pre.1, sized.type_size.ensures)) (omega arith), omega (arith, pre.1)))
+    let pre = c.requires in
+    (pre.0, (few-places _ 256 _ c.type_size.ensures (omega (arith, pre.1, c.type_size.ensures)) 256 (omega (arith, pre.1, c.type_size.ensures)) (omega arith), omega (arith, pre.1)))
 
-pub fold-some-boxes-spec : {M : Type 1} → statement M
-fold-some-boxes-spec =
+pub fold_some_boxes_spec : {M : Type 1} → statement M
+fold_some_boxes_spec =
     tie.close
     (tie.spec
-    (λ c κs. let pre = c.before.before.before.before.before.before.before.before.before.before.before.requires in search (rules, pre.0.1.to-draw.drawable.2.four))
-    (λ c. let sized = c.before in let pre = sized.before.before.before.before.before.before.before.before.before.before.before.before.requires in omega (arith, pre.1, sized.type_size.ensures))
+    (λ c κs. let pre = c.requires in search (rules, pre.0.1.to-draw.drawable.2.four))
+    (λ c. let pre = c.requires in omega (arith, pre.1, c.type_size.ensures))
     slice-aggregate-fold-boxes-in (λ c. search rules) (λ c. search rules) (λ c. search rules) fold-boxes-in-requires (λ c. search rules) (λ c. search rules))

@@ -12,30 +12,26 @@ refused c = c.before.before.before.before.before.before.before.before.before.bef
 abbrev paged : tie.After-known-told2 → tie.Start
 paged c = c.before.before.before.before.before.before.before.before.before.before
 
-returns : tie.Need-returns
+returns : tie.Need-returns-in-Refused
 returns c =
-    let told = c.before in
-    let entry = refused told in
+    let entry = refused c in
     let given = entry.pre.1 in
     list-refused _ entry.args.sheet.now entry.args.out.now _ _ _ given.read given.apart given.few-boxes _ _
-    (paved-refused _ _ _ _ _ _ _ given.paves _ _ told.before.paved.given.1) c.fold_refused.ensures
+    (paved-refused _ _ _ _ _ _ _ given.paves _ _ c.in-Refused.is) c.fold_refused.ensures
 
 emit-requires : tie.Need-emit-requires
 emit-requires c κs =
-    let told = c.before in
-    let given = (paged told).requires.1 in
-    (_, (paved-pages _ _ _ _ _ _ _ given.paves _ told.before.paved2.given.1).1 _ given.commented, given.leaving)
+    let given = (paged c).requires.1 in
+    (_, (paved-pages _ _ _ _ _ _ _ given.paves _ c.in-Pages.is).1 _ given.commented, given.leaving)
 
-returns-2 : tie.Need-returns-2
+returns-2 : tie.Need-returns-in-Pages
 returns-2 c =
-    let emitting = c.before.before in
-    let told = emitting.before.before in
-    let entry = paged told in
+    let entry = paged c in
     let given = entry.pre.1 in
-    let pages = paved-pages _ _ _ _ _ _ _ given.paves _ told.before.paved2.given.1 in
+    let pages = paved-pages _ _ _ _ _ _ _ given.paves _ c.in-Pages.is in
     rules-folded _ entry.args.sheet.now entry.args.out.now _ _ _ given.read given.apart given.few-boxes _ pages.0
-    (emitting.emit.ensures _ (pages.1 _ given.commented) given.leaving)
+    (c.emit.ensures _ (pages.1 _ given.commented) given.leaving)
 
-pub write-paved-spec : {M : Type 1} → statement M
-write-paved-spec =
+pub write_paved_spec : {M : Type 1} → statement M
+write_paved_spec =
     tie.close (tie.spec (λ c. search rules) (λ c κs. search rules) (λ c. search rules) emit-requires returns (λ c. search rules) returns-2)
