@@ -12,7 +12,7 @@ use Rattle.box_groups.proofs.pop_group.Tie as tie
 empty-boxes-requires : tie.Need-empty_boxes-requires
 empty-boxes-requires c κs =
     let a = c.args in
-    let group = c.mark_group.ensures in (
+    let group = c.mark_group-count.ensures in (
       group.1,
       subst (All (λ b. b < length a.cells.now)) (sym group.2)
           (boxes-low a.sizes.now 4 0 (length a.cells.now) _ (chosen-low _ _ 4 0) c.requires.0.column.below),
@@ -21,7 +21,7 @@ empty-boxes-requires c κs =
 returns : tie.Need-returns
 returns c =
     let a = c.args in
-    let group = c.mark_group.ensures in (
+    let group = c.mark_group-count.ensures in (
       group.0,
       listed-cleared a.sizes.now a.cells.now _ 4 _ c.requires.0.column.filled (chosen-low _ _ 4 0)
           (λ q. c.empty_boxes.ensures q ∙ ap (λ L. emptied_at a.cells.now L q) group.2),

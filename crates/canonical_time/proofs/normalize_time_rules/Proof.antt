@@ -14,10 +14,10 @@ write-strokes-requires c κs = search rules
 write-day-requires : tie.Need-write_day-m-requires
 write-day-requires c κs =
     let room = c.requires.1 in
-    let few = few-strokes _ _ _ _ c.write_strokes.ensures.1 in
-    let spans = c.flatten.ensures.3 in (
+    let few = few-strokes _ _ _ _ c.write_strokes-k.ensures.1 in
+    let spans = c.flatten-n.ensures.3 in (
       omega (arith, few, room, spans),
-      omega (arith, few, room, spans, c.write_strokes.auto.0),
+      omega (arith, few, room, spans, c.write_strokes-k.auto.0),
       omega (arith, few, room, spans),
       omega (arith, few, room, spans),
     )
@@ -25,16 +25,16 @@ write-day-requires c κs =
 sweep-classes-requires : tie.Need-sweep_classes-at-requires
 sweep-classes-requires c κs =
     let room = c.requires.1 in
-    let few = few-strokes _ _ _ _ c.write_strokes.ensures.1 in
-    let spans = c.flatten.ensures.3 in
-    let size = c.write_day.ensures.1 in (
+    let few = few-strokes _ _ _ _ c.write_strokes-k.ensures.1 in
+    let spans = c.flatten-n.ensures.3 in
+    let size = c.write_day-m.ensures.1 in (
       (
         omega (arith, few, room, spans, size),
-        omega (arith, few, room, spans, size, c.write_strokes.auto.0),
-        omega (arith, few, room, spans, size, c.write_day.auto.0),
-        omega (arith, few, room, spans, size, c.write_day.auto.1.0),
+        omega (arith, few, room, spans, size, c.write_strokes-k.auto.0),
+        omega (arith, few, room, spans, size, c.write_day-m.auto.0),
+        omega (arith, few, room, spans, size, c.write_day-m.auto.1.0),
       ),
-      cuts-bounded _ _ _ _ c.write_day.ensures.0,
+      cuts-bounded _ _ _ _ c.write_day-m.ensures.0,
     )
 
 same_length : tie.Need-shape_of-out-then-k-n
@@ -58,17 +58,17 @@ same-length-6 c = search rules
 returns : tie.Need-returns-then-k-n
 returns c =
     let room = c.requires.1 in
-    painted-laid _ _ _ _ _ _ _ _ _ _ _ _ _ _ _ _ _ _ _ c.flatten.ensures c.write_strokes.ensures c.write_day.ensures
-    (c.sweep_classes-at.ensures.0, c.sweep_classes-at.ensures.1) (room.1, room.2, room.3, omega (arith, room.5, c.write_day.auto.1.0)) (omega arith)
+    painted-laid _ _ _ _ _ _ _ _ _ _ _ _ _ _ _ _ _ _ _ c.flatten-n.ensures c.write_strokes-k.ensures c.write_day-m.ensures
+    (c.sweep_classes-at.ensures.0, c.sweep_classes-at.ensures.1) (room.1, room.2, room.3, omega (arith, room.5, c.write_day-m.auto.1.0)) (omega arith)
 
 groups-requires : tie.Need-groups-requires
 groups-requires c κs =
     let room = c.requires.1 in
-    let spans = c.flatten.ensures.3 in (
-      omega (arith, room, spans, c.flatten.auto.0),
-      omega (arith, room, spans, c.flatten.auto.1.0),
-      omega (arith, room, spans, c.write_strokes.auto.0, c.sweep_classes.auto.1.0),
-      omega (arith, room, spans, c.sweep_classes.ensures.2),
+    let spans = c.flatten-n.ensures.3 in (
+      omega (arith, room, spans, c.flatten-n.auto.0),
+      omega (arith, room, spans, c.flatten-n.auto.1.0),
+      omega (arith, room, spans, c.write_strokes-k.auto.0, c.sweep_classes-at.auto.1.0),
+      omega (arith, room, spans, c.sweep_classes-at.ensures.2),
     )
 
 same-length-7 : tie.Need-shape_of-out
@@ -76,11 +76,11 @@ same-length-7 c = search rules
 
 same-length-8 : tie.Need-shape_of-span_states
 same-length-8 c =
-    c.flatten.auto.0
+    c.flatten-n.auto.0
 
 same-length-9 : tie.Need-shape_of-span_codes
 same-length-9 c =
-    c.flatten.auto.1.0
+    c.flatten-n.auto.1.0
 
 same-length-10 : tie.Need-shape_of-strokes
 same-length-10 c = search rules
@@ -94,8 +94,8 @@ same-length-12 c = search rules
 returns-2 : tie.Need-returns
 returns-2 c =
     let room = c.requires.1 in
-    grouped-laid _ _ _ _ _ _ _ _ _ _ _ _ _ _ _ _ _ _ _ c.flatten.ensures c.write_strokes.ensures c.write_day.ensures
-    (c.sweep_classes.ensures.0, c.sweep_classes.ensures.1) (room.1, room.2, room.3, omega (arith, room.5, c.write_day.auto.1.0)) _ _ c.groups.ensures
+    grouped-laid _ _ _ _ _ _ _ _ _ _ _ _ _ _ _ _ _ _ _ c.flatten-n.ensures c.write_strokes-k.ensures c.write_day-m.ensures
+    (c.sweep_classes-at.ensures.0, c.sweep_classes-at.ensures.1) (room.1, room.2, room.3, omega (arith, room.5, c.write_day-m.auto.1.0)) _ _ c.groups.ensures
 
 pub normalize_time_rules_spec : {M : Type 1} → statement M
 normalize_time_rules_spec =

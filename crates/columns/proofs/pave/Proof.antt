@@ -7,13 +7,6 @@ use Rattle.paved.proofs.Told.{paves-refused, paves-pages}
 use Rattle.columns.proofs.pave.Statement.{statement}
 use Rattle.columns.proofs.pave.Tie as tie
 
--- ## Places of the code
-abbrev start : tie.After-draw-rules → tie.Start
-start c = c.before.before.before.before.before.before.before.before.before.before.before.before.before.before.before.before.before
-
-abbrev draw : tie.After-fold-pages → tie.After-draw-rules
-draw c = c.before.before.before.before.before.before.before.before.before.before.before.before.before.before
-
 -- ## What is needed there
 draw-rules-requires : tie.Need-draw_rules-listed-requires
 draw-rules-requires c κs =
@@ -28,17 +21,16 @@ returns c =
 
 fold-pages-requires : tie.Need-fold_pages-count-requires
 fold-pages-requires c κs =
-    let pre = (start c).requires in
+    let pre = c.requires in
     let given = pre.0.1 in
-    let held = listing-held _ _ _ _ _ _ _ (c.draw_rules.ensures _ (given.drawable, given.passed.apart)) _ c.in-Held.is in
+    let held = listing-held _ _ _ _ _ _ _ (c.draw_rules-listed.ensures _ (given.drawable, given.passed.apart)) _ c.in-Held.is in
     let few = held-few _ _ _ _ _ _ _ _ _ _ pre.1.0 held.1 in
-    ((_, given.times, held.1), (omega (arith, few, c.draw_rules.auto.1.1.0), omega (arith, held.1.few-lists, pre.1.1), pre.1.1))
+    ((_, given.times, held.1), (omega (arith, few, c.draw_rules-listed.auto.1.1.0), omega (arith, held.1.few-lists, pre.1.1), pre.1.1))
 
 returns-2 : tie.Need-returns-in-Held
 returns-2 c =
-    let drawing = draw c in
     λ rs given.
-    let held = listing-held _ _ _ _ _ rs _ (drawing.draw_rules.ensures rs (given.drawable, given.passed.apart)) _ c.in-Held.is in
+    let held = listing-held _ _ _ _ _ rs _ (c.draw_rules-listed.ensures rs (given.drawable, given.passed.apart)) _ c.in-Held.is in
     paves-pages _ _ _ _ _ rs _ held.0 (λ form commented. c.fold_pages-count.ensures rs form given.times held.1 commented)
 
 pub pave_spec : {M : Type 1} → statement M
@@ -46,6 +38,6 @@ pave_spec =
     tie.close
     (tie.spec
     draw-rules-requires (λ c. search rules) (λ c. search rules) fold-pages-requires (λ c. search rules) (λ c. search rules) (λ c. search rules) returns
-    (λ c. c.fold_pages-count.auto.1.1.1.1.1.1.1.1.1.0 ∙ (draw c).draw_rules.auto.0)
-    (λ c. (draw c).draw_rules.auto.1.0)
-    (λ c. c.fold_pages-count.auto.1.1.1.1.1.0 ∙ (draw c).draw_rules.auto.1.1.0) (λ c. search rules) returns-2)
+    (λ c. c.fold_pages-count.auto.1.1.1.1.1.1.1.1.1.0 ∙ c.draw_rules-listed.auto.0)
+    (λ c. c.draw_rules-listed.auto.1.0)
+    (λ c. c.fold_pages-count.auto.1.1.1.1.1.0 ∙ c.draw_rules-listed.auto.1.1.0) (λ c. search rules) returns-2)

@@ -26,24 +26,20 @@ use Rattle.convert.proofs.Answer.{converts-not, all-commented, encoded-length, c
 use Rattle.convert.proofs.convert_rules.Statement.{statement}
 use Rattle.convert.proofs.convert_rules.Tie as tie
 
--- ## The sheet
-abbrev known : tie.After-first-long-comment → tie.After-shared-slice-known
-known c = c.before.before.before.before
+abbrev start : tie.After-first_long_comment-long → tie.Start
+start c = c
 
-abbrev start : tie.After-first-long-comment → tie.Start
-start c = (known c).before
-
-bytes : (c : tie.After-first-long-comment) → Bytes (start c).args.sheet.now
-bytes c = known_bytes (start c).args.sheet.now (λ j. omega (arith, (known c).shared-slice-known.given j))
+bytes : (c : tie.After-first_long_comment-long) → Bytes (start c).args.sheet.now
+bytes c = known_bytes (start c).args.sheet.now (λ j. omega (arith, c.shared_slice_known-1.given j))
 
 -- some rules that the sheet has
-abbrev Given : tie.After-first-long-comment → List Rule → Type 0
+abbrev Given : tie.After-first_long_comment-long → List Rule → Type 0
 Given c rs = let a = (start c).args in SheetRead (as_form a.form) a.sheet.now a.begins.now rs a.end × (a.count ≡ length rs)
 
 -- what the definition answers in the form that the sheet is moved to, it answers in the other form
-answered : (c : tie.After-first-long-comment) (rs : List Rule) {w : Written} → let a = (start c).args in
-    convert_rules (as_form c.before.other_form.result) sheet_limits (length a.out.now) rs ≡ w → convert_rules (other (as_form a.form)) sheet_limits (length a.out.now) rs ≡ w
-answered c rs e = sym (ap (λ to. convert_rules to sheet_limits (length (start c).args.out.now) rs) c.before.other_form.ensures) ∙ e
+answered : (c : tie.After-first_long_comment-long) (rs : List Rule) {w : Written} → let a = (start c).args in
+    convert_rules (as_form c.other_form-to.result) sheet_limits (length a.out.now) rs ≡ w → convert_rules (other (as_form a.form)) sheet_limits (length a.out.now) rs ≡ w
+answered c rs e = sym (ap (λ to. convert_rules to sheet_limits (length (start c).args.out.now) rs) c.other_form-to.ensures) ∙ e
 
 first-long-comment-requires : tie.Need-first_long_comment-long-requires
 first-long-comment-requires c κs =
@@ -89,16 +85,16 @@ moved-bits-requires c κs =
     )
 
 -- so many bits have the rules in the other form
-sized : (c : tie.After-moved-bits) (rs : List Rule) → Given c.before.before rs
-    → length ((rules (as_form c.before.before.before.other_form.result) sheet_limits).write rs) ≡ c.moved_bits.result
+sized : (c : tie.After-moved_bits) (rs : List Rule) → Given c rs
+    → length ((rules (as_form c.other_form-to.result) sheet_limits).write rs) ≡ c.moved_bits.result
 sized c rs given =
-    let a = (start c.before.before).args in
-    moved_length _ _ a.sheet.now a.begins.now (bytes c.before.before) rs a.end a.count given.0 given.1 _ c.moved_bits.ensures.0
+    let a = (start c).args in
+    moved_length _ _ a.sheet.now a.begins.now (bytes c) rs a.end a.count given.0 given.1 _ c.moved_bits.ensures.0
 
 -- and so many bytes
-encoded : (c : tie.After-moved-bits) (rs : List Rule) → Given c.before.before rs
-    → length (encode (as_form c.before.before.before.other_form.result) sheet_limits rs) ≡ (c.moved_bits.result + 7) / 8
-encoded c rs given = encoded-length _ 0 rs (none-long c.before rs given) ∙ ap bytes_for (sized c rs given)
+encoded : (c : tie.After-moved_bits) (rs : List Rule) → Given c rs
+    → length (encode (as_form c.other_form-to.result) sheet_limits rs) ≡ (c.moved_bits.result + 7) / 8
+encoded c rs given = encoded-length _ 0 rs (none-long c rs given) ∙ ap bytes_for (sized c rs given)
 
 -- ## A buffer without room
 returns-2 : tie.Need-returns-then-lacks_room
@@ -112,17 +108,16 @@ returns-2 c =
 
 -- ## Behind that test
 -- the result has room
-enough : (c : tie.Else2) → (c.before.before.moved_bits.result + 7) / 8 ≤ length (start c.before.before.before.before).args.out.now
-enough c = ltb-false _ _ (sym c.before.lacks_room.ensures ∙ c.if2.left)
+enough : (c : tie.Else-lacks_room) → (c.moved_bits.result + 7) / 8 ≤ length (start c).args.out.now
+enough c = ltb-false _ _ (sym c.lacks_room.ensures ∙ c.if-lacks_room.left)
 
-room : (c : tie.Else2) (rs : List Rule) → Given c.before.before.before.before rs → let first = c.before.before.before.before in
+room : (c : tie.Else-lacks_room) (rs : List Rule) → Given c rs → let first = c in
     let to = as_form first.before.other_form.result in let a = (start first).args in
     RoomFor (length a.out.now) 0 ((opening to sheet_limits).write a.count ++ flat_map (rule to sheet_limits).write rs)
 room c rs given =
-    let moved = c.before.before in
-    let a = (start moved.before.before).args in
-    room-for-all _ _ a.sheet.now a.begins.now (bytes moved.before.before) rs a.end a.count given.0 given.1 _ _ (sized moved rs given) (enough c)
-    moved.moved_bits.ensures.1
+    let a = (start c).args in
+    room-for-all _ _ a.sheet.now a.begins.now (bytes c) rs a.end a.count given.0 given.1 _ _ (sized c rs given) (enough c)
+    c.moved_bits.ensures.1
 
 put-opening-requires : tie.Need-put_opening-first-requires
 put-opening-requires c κs =

@@ -32,14 +32,14 @@ abbrev decreases-loop : tie.decreases-loop-rule
 decreases-loop form to sheet begins count end out₀ place next₀ rule₀ out next passed = count - passed
 
 -- where the function begins; and its sheet is bytes
-abbrev start : tie.In-loop invariant-loop decreases-loop → tie.Start invariant-loop decreases-loop
+abbrev start : tie.In-loop-rule invariant-loop decreases-loop → tie.Start invariant-loop decreases-loop
 start c = c.before.before.before.before.before
 
-bytes : (c : tie.In-loop invariant-loop decreases-loop) → Bytes (start c).args.sheet.now
+bytes : (c : tie.In-loop-rule invariant-loop decreases-loop) → Bytes (start c).args.sheet.now
 bytes c = known_bytes (start c).args.sheet.now (λ j. omega (arith, c.before.before.before.before.shared-slice-known.given j))
 
 -- there are few rules, and each has a noted beginning
-few : (c : tie.In-loop invariant-loop decreases-loop) → let a = (start c).args in (a.count ≤ sheet_limits.rules) × (a.count ≤ length a.begins.now)
+few : (c : tie.In-loop-rule invariant-loop decreases-loop) → let a = (start c).args in (a.count ≤ sheet_limits.rules) × (a.count ≤ length a.begins.now)
 few c =
     let entry = start c in
     let a = entry.args in
@@ -47,7 +47,7 @@ few c =
     (omega (arith, long.0, entry.pre.2), omega (arith, long.1, entry.pre.2))
 
 -- the turn's rule, where it stands
-turn : (c : tie.In-loop invariant-loop decreases-loop) → let a = (start c).args in (rs : List Rule) (read : SheetRead (as_form a.form) a.sheet.now a.begins.now rs a.end)
+turn : (c : tie.In-loop-rule invariant-loop decreases-loop) → let a = (start c).args in (rs : List Rule) (read : SheetRead (as_form a.form) a.sheet.now a.begins.now rs a.end)
     → a.count ≡ length rs → There (as_form a.form) a.sheet.now a.begins.now (bytes c) rs a.end read c.before.loop.rule
 turn c rs read many = there _ _ _ (bytes c) rs _ read _ (omega (arith, c.loop-test.true, many))
 

@@ -14,18 +14,18 @@ heads-low : (n w : ℕ) → n ≤ 256 → w ≤ 88 → n * w ≤ 22528
 heads-low n w h k = mul-le-mul h k
 
 -- the heads in the form of the sheet
-heads : (c : tie.After-head-width) → let a = c.before.before.args in a.count * c.head_width.result ≡ a.count * head_width (as_form a.form)
-heads c = ap (c.before.before.args.count *◌) c.head_width.ensures.0
+heads : (c : tie.After-head_width) → let a = c.args in a.count * c.head_width.result ≡ a.count * head_width (as_form a.form)
+heads c = ap (c.args.count *◌) c.head_width.ensures.0
 
-low : (c : tie.After-head-width) → c.before.before.args.count * c.head_width.result ≤ 22528
-low c = heads-low _ _ c.before.before.requires.0 c.head_width.ensures.1
+low : (c : tie.After-head_width) → c.args.count * c.head_width.result ≤ 22528
+low c = heads-low _ _ c.requires.0 c.head_width.ensures.1
 
-low₂ : (c : tie.After-head-width2) → c.before.before.before.before.args.count * c.head-width2.result ≤ 22528
-low₂ c = heads-low _ _ c.before.before.before.before.requires.0 c.head-width2.ensures.1
+low₂ : (c : tie.After-head_width-2) → c.args.count * c.head_width-2.result ≤ 22528
+low₂ c = heads-low _ _ c.requires.0 c.head_width-2.ensures.1
 
 -- all of them lie before the end
-inside : (c : tie.After-head-width) → c.before.opening_width.result + c.before.before.args.count * c.head_width.result ≤ c.before.before.args.end
-inside c = omega (arith, c.before.before.requires.1, heads c, c.before.opening_width.ensures.0)
+inside : (c : tie.After-head_width) → c.opening_width.result + c.args.count * c.head_width.result ≤ c.args.end
+inside c = omega (arith, c.requires.1, heads c, c.opening_width.ensures.0)
 
 returns : tie.Need-returns
 returns c =

@@ -23,7 +23,7 @@ start-row-requires-3 c κs =
     let pre = c.requires in
     let placed = c.place_rows.ensures 1 (omega arith) in
     let first = c.start_row.auto in
-    let second = c.start-row2.auto in (
+    let second = c.start_row-2.auto in (
       omega (arith, c.place_rows.auto.0, pre.0),
       omega (arith, first.1.0, second.1.0, pre.0),
       omega (arith, first.0, second.0, placed, pre.1),
@@ -34,8 +34,8 @@ start-row-requires-4 c κs =
     let pre = c.requires in
     let placed = c.place_rows.ensures 0 (omega arith) in
     let first = c.start_row.auto in
-    let second = c.start-row2.auto in
-    let third = c.start-row3.auto in (
+    let second = c.start_row-2.auto in
+    let third = c.start_row-3.auto in (
       omega (arith, c.place_rows.auto.0, pre.0),
       omega (arith, first.1.0, second.1.0, third.1.0, pre.0),
       omega (arith, first.0, second.0, third.0, placed, pre.1),
@@ -50,8 +50,8 @@ returns c =
     let pre = c.requires in
     let placed = c.place_rows.ensures in (
       placed,
-      bounds-cut _ _ placed pre.1.0 _ _ pre.0.1 pre.1.2 _ _ _ _ c.start_row.ensures c.start-row2.ensures
-          c.start-row3.ensures c.start_row-4.ensures,
+      bounds-cut _ _ placed pre.1.0 _ _ pre.0.1 pre.1.2 _ _ _ _ c.start_row.ensures c.start_row-2.ensures
+          c.start_row-3.ensures c.start_row-4.ensures,
     )
 
 pub start_rows_spec : {M : Type 1} → statement M

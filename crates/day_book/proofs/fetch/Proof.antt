@@ -17,29 +17,25 @@ own-words : (W : ℕ → List ℕ) (number : ℕ) → 1 ≤ number → W (number
 unfolding words_of
 own-words W number l = let e : suc (number - 1) ≡ number = omega arith in ap (words_of W) e
 
--- ## Folded
-abbrev start : tie.After-fold-box → tie.Start
-start c = c.before.before.before.before.before.before.before.before.before
-
 module _ (c : tie.After-fold-box) where
   abbrev book : List ℕ
-  book = (start c).args.book.now
+  book = c.before.before.before.before.before.before.before.before.before.args.book.now
 
   abbrev filled : ℕ
-  filled = (start c).args.filled
+  filled = c.before.before.before.before.before.before.before.before.before.args.filled
 
   abbrev rest : List ℕ
   rest = drop (length book - filled) (drop filled book)
 
   abbrev days : ℕ → List ℕ
-  days = let a = (start c).args in number_words a.states.now a.span_counts.now a.spans.now a.lists.now
+  days = let a = c.before.before.before.before.before.before.before.before.before.args in number_words a.states.now a.span_counts.now a.spans.now a.lists.now
 
   -- it has room behind what is filled
   fits : c.fold_box.result + filled ≤ length book
-  fits = omega (arith, c.fold_box.ensures.1, (start c).requires.0.2.wordy, (start c).requires.1.roomy)
+  fits = omega (arith, c.fold_box.ensures.1, c.before.before.before.before.before.before.before.before.before.requires.0.2.wordy, c.before.before.before.before.before.before.before.before.before.requires.1.roomy)
 
   long : c.fold_box.result ≤ length c.fold_box.new.0
-  long = omega (arith, c.fold_box.ensures.1, (start c).requires.0.2.wordy, (start c).requires.1.roomy, c.fold_box.auto.0)
+  long = omega (arith, c.fold_box.ensures.1, c.before.before.before.before.before.before.before.before.before.requires.0.2.wordy, c.before.before.before.before.before.before.before.before.before.requires.1.roomy, c.fold_box.auto.0)
 
   abbrev after : List ℕ
   after = take filled book ++ (c.fold_box.new.0 ++ rest)
@@ -50,16 +46,16 @@ module _ (c : tie.After-fold-box) where
         arith,
         length-append (take filled book) (c.fold_box.new.0 ++ rest),
         length-append c.fold_box.new.0 rest,
-        length-take-le filled book (omega (arith, (start c).requires.1.roomy)),
+        length-take-le filled book (omega (arith, c.before.before.before.before.before.before.before.before.before.requires.1.roomy)),
         length-drop (length book - filled) (drop filled book),
         length-drop filled book,
         c.fold_box.auto.0,
       )
 
-  there : part after filled c.fold_box.result ≡ days (start c).args.number
+  there : part after filled c.fold_box.result ≡ days c.before.before.before.before.before.before.before.before.before.args.number
   there =
-      folded-there book filled (omega (arith, (start c).requires.1.roomy)) c.fold_box.new.0 rest c.fold_box.result _ long
-      (c.fold_box.ensures.0 ∙ own-words _ (start c).args.number (start c).requires.0.0)
+      folded-there book filled (omega (arith, c.before.before.before.before.before.before.before.before.before.requires.1.roomy)) c.fold_box.new.0 rest c.fold_box.result _ long
+      (c.fold_box.ensures.0 ∙ own-words _ c.before.before.before.before.before.before.before.before.before.args.number c.before.before.before.before.before.before.before.before.before.requires.0.0)
 
 -- ## What is needed
 returns : tie.Need-returns-then-kept-gt0
@@ -77,41 +73,38 @@ returns c =
 
 returns-2 : tie.Need-returns-then-noted-notes-2
 returns-2 c =
-    let entry = start c in
     record {
       inside = omega (arith, same_size c, fits c);
       words = there c;
       opened = record {
-        held = one-more-held (book c) (filled c) (omega (arith, entry.pre.1.roomy)) c.fold_box-count.new.0 (rest c) (days c) _ entry.pre.1.held
-            entry.args.number c.fold_box-count.result c.if-noted-notes-2.true (there c);
+        held = one-more-held (book c) (filled c) (omega (arith, c.pre.1.roomy)) c.fold_box-count.new.0 (rest c) (days c) _ c.pre.1.held
+            c.args.number c.fold_box-count.result c.if-noted-notes-2.true (there c);
         roomy = omega (arith, same_size c, c.if-next-room.true);
-        few = omega (arith, same_size c, entry.pre.1.few);
+        few = omega (arith, same_size c, c.pre.1.few);
       };
     }
 
 returns-3 : tie.Need-returns-else-noted-notes-2
 returns-3 c =
-    let entry = start c in
     record {
       inside = omega (arith, same_size c, fits c);
       words = there c;
       opened = record {
-        held = still-held (book c) (filled c) (omega (arith, entry.pre.1.roomy)) c.fold_box-count.new.0 (rest c) (days c) _ entry.pre.1.held;
-        roomy = omega (arith, same_size c, entry.pre.1.roomy);
-        few = omega (arith, same_size c, entry.pre.1.few);
+        held = still-held (book c) (filled c) (omega (arith, c.pre.1.roomy)) c.fold_box-count.new.0 (rest c) (days c) _ c.pre.1.held;
+        roomy = omega (arith, same_size c, c.pre.1.roomy);
+        few = omega (arith, same_size c, c.pre.1.few);
       };
     }
 
 returns-4 : tie.Need-returns-else-next-room
 returns-4 c =
-    let entry = start c in
     record {
       inside = omega (arith, same_size c, fits c);
       words = there c;
       opened = record {
-        held = still-held (book c) (filled c) (omega (arith, entry.pre.1.roomy)) c.fold_box-count.new.0 (rest c) (days c) _ entry.pre.1.held;
-        roomy = omega (arith, same_size c, entry.pre.1.roomy);
-        few = omega (arith, same_size c, entry.pre.1.few);
+        held = still-held (book c) (filled c) (omega (arith, c.pre.1.roomy)) c.fold_box-count.new.0 (rest c) (days c) _ c.pre.1.held;
+        roomy = omega (arith, same_size c, c.pre.1.roomy);
+        few = omega (arith, same_size c, c.pre.1.few);
       };
     }
 

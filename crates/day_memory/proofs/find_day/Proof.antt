@@ -31,16 +31,16 @@ Compared = tie.After-same-day invariant-loop decreases-loop
 abbrev start : Loop → Start
 start c = c.before.before.before.before.before.before.before.before.before.before
 
-abbrev test : Compared → tie.In-loop invariant-loop decreases-loop
+abbrev test : Compared → tie.In-loop-before invariant-loop decreases-loop
 test c = c.before.before
 
 abbrev loop : Compared → Loop
 loop c = (test c).before
 
-abbrev equal : tie.Then2 invariant-loop decreases-loop → Compared
+abbrev equal : tie.Then-same_day invariant-loop decreases-loop → Compared
 equal c = c.before.before.before
 
-abbrev different : tie.Else2 invariant-loop decreases-loop → Compared
+abbrev different : tie.Else-same_day invariant-loop decreases-loop → Compared
 different c = c.before.before.before
 
 -- the words of each place's day

@@ -21,7 +21,7 @@ loop-holds c =
 
 all-closed-requires : tie.Need-all_closed-requires invariant-loop decreases-loop
 all-closed-requires c κs =
-    omega (arith, c.loop.invariant.0.lengths.1, c.requires.0)
+    omega (arith, c.loop-class.invariant.0.lengths.1, c.requires.0)
 
 same_length : tie.Need-shape_of-out-then-all_closed invariant-loop decreases-loop
 same_length c = c.loop-class.invariant.0.lengths.0
@@ -36,10 +36,10 @@ returns c =
 sweep-class-requires : tie.Need-sweep_class-place-requires invariant-loop decreases-loop
 sweep-class-requires c κs =
     let pre = c.requires in
-    let on = c.loop.invariant.0 in
-    let more = c.loop-test.true in (
+    let on = c.loop-class.invariant.0 in
+    let more = c.loop-class-test.true in (
       (on.between.0, omega (arith, pre.0), omega (arith, pre.0, on.room, on.between, more)),
-      ((omega (arith, pre.0), omega (arith, pre.0), omega (arith, pre.0, on.lengths)), (pre.1.0, c.loop.invariant.1)),
+      ((omega (arith, pre.0), omega (arith, pre.0), omega (arith, pre.0, on.lengths)), (pre.1.0, c.loop-class.invariant.1)),
     )
 
 add-class : tie.Need-overflow_add-class invariant-loop decreases-loop
@@ -53,7 +53,7 @@ loop-again c =
     let few = c.requires.0.0 in
     let swept = c.sweep_class-place.ensures in
     let kept = c.sweep_class-place.auto in (
-      classes-on _ _ _ _ _ _ _ _ c.loop.invariant.0 c.loop-test.true (omega (arith, few)) _ _ _ (swept.0, swept.1, swept.2) swept.3
+      classes-on _ _ _ _ _ _ _ _ c.loop-class.invariant.0 c.loop-class-test.true (omega (arith, few)) _ _ _ (swept.0, swept.1, swept.2) swept.3
           (kept.0, kept.1.1.1.1.0),
       swept.4,
     )

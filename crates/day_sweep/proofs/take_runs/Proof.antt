@@ -49,15 +49,15 @@ put-run-requires c κs =
 
 sub-next-of : tie.Need-overflow_sub-end invariant-loop decreases-loop
 sub-next-of c =
-    omega (arith, run_on _ _ _ _ _ _ _ _ _ _ _ c.loop.invariant.3 c.loop-test.true _ _ c.clear_run.ensures)
+    omega (arith, run_on _ _ _ _ _ _ _ _ _ _ _ c.loop-i.invariant.3 c.loop-i-test.true _ _ c.clear_run-end.ensures)
 
 next-of-requires : tie.Need-next_of-i-requires invariant-loop decreases-loop
 next-of-requires c κs =
     let pre = c.requires in
-    let run = c.clear_run.ensures in
-    let inv = c.loop.invariant in
-    let up = run_on _ _ _ _ _ _ _ _ _ _ _ inv.3 c.loop-test.true _ _ run in (
-      (omega (arith, run.1, up), omega (arith, c.clear_run.auto.0, inv.1, pre.0.4), pre.0.2),
+    let run = c.clear_run-end.ensures in
+    let inv = c.loop-i.invariant in
+    let up = run_on _ _ _ _ _ _ _ _ _ _ _ inv.3 c.loop-i-test.true _ _ run in (
+      (omega (arith, run.1, up), omega (arith, c.clear_run-end.auto.0, inv.1, pre.0.4), pre.0.2),
       (
         pre.1.1.1,
         cleared-on _ _ _ _ _ _ (omega (arith, run.0, run.1, inv.1, pre.0.4)) _ run.2 inv.2 pre.1.1.1 _ (λ l. run.3 _ (omega arith) (omega arith)),
@@ -66,17 +66,17 @@ next-of-requires c κs =
 
 loop-less : tie.Need-loop-i-smaller invariant-loop decreases-loop
 loop-less c =
-    let up = run_on _ _ _ _ _ _ _ _ _ _ _ c.loop.invariant.3 c.loop-test.true _ _ c.clear_run.ensures in
-    omega (arith, up, c.loop-test.true, c.next_of-i.ensures.0)
+    let up = run_on _ _ _ _ _ _ _ _ _ _ _ c.loop-i.invariant.3 c.loop-i-test.true _ _ c.clear_run-end.ensures in
+    omega (arith, up, c.loop-i-test.true, c.next_of-i.ensures.0)
 
 loop-again : tie.Need-loop-i-preserved invariant-loop decreases-loop
 loop-again c =
-    let run = c.clear_run.ensures in
-    let inv = c.loop.invariant in (
-      c.put_run.auto.0 ∙ inv.0,
-      c.clear_run.auto.0 ∙ inv.1,
+    let run = c.clear_run-end.ensures in
+    let inv = c.loop-i.invariant in (
+      c.put_run-place.auto.0 ∙ inv.0,
+      c.clear_run-end.auto.0 ∙ inv.1,
       chained-clear _ _ _ _ _ _ (omega (arith, run.0, run.1, inv.1, c.requires.0.4)) _ run.2 inv.2,
-      taking-on _ _ _ _ _ _ _ _ _ _ _ inv.3 c.loop-test.true _ _ run _ _ c.put_run.ensures _ c.next_of-i.ensures,
+      taking-on _ _ _ _ _ _ _ _ _ _ _ inv.3 c.loop-i-test.true _ _ run _ _ c.put_run-place.ensures _ c.next_of-i.ensures,
     )
 
 same_length : tie.Need-shape_of-out invariant-loop decreases-loop

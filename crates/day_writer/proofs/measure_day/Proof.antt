@@ -18,14 +18,14 @@ use Rattle.day_writer.proofs.measure_day.Statement.{statement}
 use Rattle.day_writer.proofs.measure_day.Tie as tie
 
 -- the entries from the first word on, the first Normal
-sized : (c : tie.After-measure-entries) → let a = c.before.before.before.args in let m = c.measure_entries.result in
+sized : (c : tie.After-measure_entries-size) → let a = c.args in let m = c.measure_entries-size.result in
     (ends : List ℕ) → row_place a.item_counts.now 4 ≤ length ends
     → (length (day_rules (rows_below ends a.item_counts.now 4) (day_in a.words.now 0 a.count)) ≡ m.rules)
     × (length (rules_bits (as_form a.form) (day_rules (rows_below ends a.item_counts.now 4) (day_in a.words.now 0 a.count))) ≡ m.bits)
 sized c ends h =
-    let a = c.before.before.before.args in
+    let a = c.args in
     let same = sym (entries-day (rows_below ends a.item_counts.now 4) (day_in a.words.now 0 a.count)) in
-    let measured = c.measure_entries.ensures.0 0 ends h in
+    let measured = c.measure_entries-size.ensures.0 0 ends h in
     (ap length same ∙ measured.0, ap (λ rs. length (rules_bits (as_form a.form) rs)) same ∙ measured.1)
 
 returns : tie.Need-returns-then-size-gt0

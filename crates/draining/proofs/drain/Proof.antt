@@ -21,20 +21,20 @@ abbrev decreases-loop : tie.decreases-loop-i
 decreases-loop form sheet begins count st₀ co₀ sp₀ re₀ cn₀ ra₀ i₀ st co sp re cn ra i = count - i
 
 -- from where the tables are told back to where the rule was drained, to the loop's turn, and to where the function begins
-abbrev draining-rule : tie.After-slice-known12 invariant-loop decreases-loop → tie.After-drain-rule invariant-loop decreases-loop
+abbrev draining-rule : tie.After-slice_known-in-loop-i-6-1 invariant-loop decreases-loop → tie.After-drain_rule invariant-loop decreases-loop
 draining-rule c = c.before.before.before.before.before.before.before.before.before.before.before.before
 
-abbrev turn : tie.After-drain-rule invariant-loop decreases-loop → tie.In-loop invariant-loop decreases-loop
+abbrev turn : tie.After-drain_rule invariant-loop decreases-loop → tie.In-loop-i invariant-loop decreases-loop
 turn c = c.before.before.before.before.before.before.before.before
 
-abbrev start : tie.In-loop invariant-loop decreases-loop → tie.Start invariant-loop decreases-loop
+abbrev start : tie.In-loop-i invariant-loop decreases-loop → tie.Start invariant-loop decreases-loop
 start c = c.before.before.before.before.before.before.before.before.before.before
 
 -- the rows of the tables that the turn's rule has
-all-counts : (c : tie.In-loop invariant-loop decreases-loop) → let loop = c.before.loop in loop.i * 4 + 4 ≤ length loop.range_counts
+all-counts : (c : tie.In-loop-i invariant-loop decreases-loop) → let loop = c.before.loop in loop.i * 4 + 4 ≤ length loop.range_counts
 all-counts c = omega (arith, c.loop-test.true, (start c).requires.1.1.0, c.before.loop.invariant.5)
 
-all-ranges : (c : tie.In-loop invariant-loop decreases-loop) → let loop = c.before.loop in loop.i * 256 + 256 ≤ length loop.ranges
+all-ranges : (c : tie.In-loop-i invariant-loop decreases-loop) → let loop = c.before.loop in loop.i * 256 + 256 ≤ length loop.ranges
 all-ranges c = omega (arith, c.loop-test.true, (start c).requires.1.1.1, c.before.loop.invariant.6)
 
 drain-rule-requires : tie.Need-drain_rule-requires invariant-loop decreases-loop

@@ -22,19 +22,19 @@ decreases-loop cells₀ lists₀ memo₀ rows sizes cuts replacing counts ranges
 
 -- from where the rule's lists are judged back to where they were settled, to where the rule was drawn, to the loop's turn, and to where the function
 -- begins
-abbrev start : tie.At-loop invariant-loop decreases-loop → tie.Start invariant-loop decreases-loop
+abbrev start : tie.At-loop-rule invariant-loop decreases-loop → tie.Start invariant-loop decreases-loop
 start c = c.before.before.before.before.before.before.before.before.before.before
 
-abbrev turn : tie.After-draw-row invariant-loop decreases-loop → tie.In-loop invariant-loop decreases-loop
+abbrev turn : tie.After-draw_row-drawn invariant-loop decreases-loop → tie.In-loop-rule invariant-loop decreases-loop
 turn c = c.before.before.before.before.before
 
-abbrev drawing : tie.After-slice-known6 invariant-loop decreases-loop → tie.After-draw-row invariant-loop decreases-loop
+abbrev drawing : tie.After-slice_known-in-loop-rule-3-1 invariant-loop decreases-loop → tie.After-draw_row-drawn invariant-loop decreases-loop
 drawing c = c.before.before.before.before.before.before
 
-abbrev drawn : tie.After-settle invariant-loop decreases-loop → tie.After-draw-row invariant-loop decreases-loop
+abbrev drawn : tie.After-settle-used invariant-loop decreases-loop → tie.After-draw_row-drawn invariant-loop decreases-loop
 drawn c = drawing c.before.before.before.before.before
 
-abbrev settling : tie.After-lists-over invariant-loop decreases-loop → tie.After-settle invariant-loop decreases-loop
+abbrev settling : tie.After-lists_over invariant-loop decreases-loop → tie.After-settle-used invariant-loop decreases-loop
 settling c = c.before.before.before.before.before.before.before
 
 draw-row-requires : tie.Need-draw_row-drawn-requires invariant-loop decreases-loop

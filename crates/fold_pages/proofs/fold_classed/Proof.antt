@@ -10,16 +10,6 @@ use Rattle.paved.proofs.Paging.{pages-end, pages-folded}
 use Rattle.fold_pages.proofs.fold_classed.Statement.{statement}
 use Rattle.fold_pages.proofs.fold_classed.Tie as tie
 
--- ## Places of the code
-abbrev start : tie.After-number-lists → tie.Start
-start c = c.before.before.before.before.before.before.before.before.before.before.before.before.before.before.before
-
-abbrev number : tie.After-rename → tie.After-number-lists
-number c = c.before.before.before.before.before.before.before.before.before
-
-abbrev name : tie.After-pop-groups → tie.After-rename
-name c = c.before.before.before.before.before.before
-
 -- ## What is needed there
 number-lists-requires : tie.Need-number_lists-requires
 number-lists-requires c κs =
@@ -33,15 +23,13 @@ number-lists-requires c κs =
 
 rename-requires : tie.Need-rename-requires
 rename-requires c κs =
-    let entry = start c in
-    λ box. omega (arith, entry.pre.0.2.stored.store.names box, entry.pre.1.0, c.number_lists.auto.1.1.1.1.1.1.0)
+    λ box. omega (arith, c.pre.0.2.stored.store.names box, c.pre.1.0, c.number_lists.auto.1.1.1.1.1.1.0)
 
 pop-groups-requires : tie.Need-pop_groups-stop-requires
 pop-groups-requires c κs =
-    let numbered = (number c).number_lists in
-    let entry = start (number c) in
-    let a = entry.args in
-    let given = entry.pre.0 in
+    let numbered = c.number_lists in
+    let a = c.args in
+    let given = c.pre.0 in
     let cut = given.2.cut in
     let one_Cell = c.rename.auto.0 ∙ given.2.one_Cell in (
       (one_Cell, given.2.few_boxes, record { dims = omega (arith, cut.four); filled = cut.filled; below = omega (arith, one_Cell) }),
@@ -51,34 +39,30 @@ pop-groups-requires c κs =
         (
           empty-class a.states.now a.span_counts.now a.spans.now a.row_starts.now a.sizes.now a.cuts.now a.lists.now
               a.cells.now _ _ _ a.used given.0 given.1 (store-names _ _ _ _ _ _ _ given.2) numbered.ensures c.rename.ensures,
-          omega (arith, entry.pre.1.3, numbered.kept.1.1.1.1.1.0),
+          omega (arith, c.pre.1.3, numbered.kept.1.1.1.1.1.0),
         ),
       ),
     )
 
 count-pages-requires : tie.Need-count_pages-requires
 count-pages-requires c κs =
-    let popped = c.pop_groups in
-    let renamed = name c in
-    let numbered = (number renamed).number_lists in
-    let entry = start (number renamed) in
-    let a = entry.args in
-    let given = entry.pre.0 in
+    let popped = c.pop_groups-stop in
+    let numbered = c.number_lists in
+    let a = c.args in
+    let given = c.pre.0 in
     let ended = pages-end a.states.now a.span_counts.now a.spans.now a.row_starts.now a.sizes.now a.cuts.now a.lists.now
-    a.cells.now _ _ _ a.used given.0 given.1 (store-names _ _ _ _ _ _ _ given.2) numbered.ensures renamed.rename.ensures numbered.last.1.1.1.1.1.0 _
-    (omega (arith, entry.pre.1.3, numbered.kept.1.1.1.1.1.0)) popped.ensures.1 _ popped.ensures.0 in
+    a.cells.now _ _ _ a.used given.0 given.1 (store-names _ _ _ _ _ _ _ given.2) numbered.ensures c.rename.ensures numbered.last.1.1.1.1.1.0 _
+    (omega (arith, c.pre.1.3, numbered.kept.1.1.1.1.1.0)) popped.ensures.1 _ popped.ensures.0 in
     (ended.0, omega (arith, ended.1, popped.auto.1.1.1.1.1.0))
 
 returns : tie.Need-returns
 returns c =
-    let popped = c.pop_groups in
-    let renamed = name c in
-    let numbered = (number renamed).number_lists in
-    let entry = start (number renamed) in
-    let a = entry.args in
+    let popped = c.pop_groups-stop in
+    let numbered = c.number_lists in
+    let a = c.args in
     λ rs form tables boxed commented. pages-folded a.states.now a.span_counts.now a.spans.now a.row_starts.now a.sizes.now a.cuts.now
-    a.lists.now a.cells.now _ _ _ a.used rs tables (store-names _ _ _ _ _ _ _ boxed) numbered.ensures renamed.rename.ensures numbered.last.1.1.1.1.1.0 _
-    (omega (arith, entry.pre.1.3, numbered.kept.1.1.1.1.1.0)) popped.ensures.1 _ popped.ensures.0 form commented _ c.count_pages.ensures
+    a.lists.now a.cells.now _ _ _ a.used rs tables (store-names _ _ _ _ _ _ _ boxed) numbered.ensures c.rename.ensures numbered.last.1.1.1.1.1.0 _
+    (omega (arith, c.pre.1.3, numbered.kept.1.1.1.1.1.0)) popped.ensures.1 _ popped.ensures.0 form commented _ c.count_pages.ensures
 
 pub fold_classed_spec : {M : Type 1} → statement M
 fold_classed_spec =

@@ -10,21 +10,17 @@ use Rattle.hours.proofs.Entries.{few-places, all-places, of-same, form-known, fo
 use Rattle.hours.proofs.fold_by.Statement.{statement}
 use Rattle.hours.proofs.fold_by.Tie as tie
 
-abbrev start : tie.After-form-of → tie.Start
-start c = c.before.before.before
-
 -- what the definition answers in a form
 abbrev answer : tie.Start → Form → Folded
 answer c form = fold form sheet_limits (length c.args.out.now) c.args.sheet.now
 
 -- by a number that names a form
-known : (c : tie.After-named)
-    → let entry = start c.before.before in
-    fold_in sheet_limits entry.args.form (length entry.args.out.now) entry.args.sheet.now ≡ answer entry (as_form c.named.given.0.0)
+known : (c : tie.In-Known-2)
+    → let entry = c in
+    fold_in sheet_limits entry.args.form (length entry.args.out.now) entry.args.sheet.now ≡ answer entry (as_form c.in-Known.known)
 unfolding fold_in
 known c =
-    let form = c.before.before in
-    form-known refusal (answer (start form)) (start form).args.form _ form.form_of.ensures _ c.named.given.1
+    form-known refusal (answer c) c.args.form _ c.form_of-named.ensures _ c.in-Known.is
 
 returns : tie.Need-returns-then-sheet-le-FEW_BYTES
 returns c =
@@ -37,8 +33,8 @@ returns-2 c =
 returns-3 : tie.Need-returns-in-Unknown
 unfolding fold_in
 returns-3 c =
-    let unknown = form-unknown refusal (answer (start c)) (start c).args.form _ c.form_of-named.ensures c.in-Unknown.is in
-    of-same numbers (λ w. w.result) (start c).args.out.now unknown (c.fold_refused.ensures, refl)
+    let unknown = form-unknown refusal (answer c) c.args.form _ c.form_of-named.ensures c.in-Unknown.is in
+    of-same numbers (λ w. w.result) c.args.out.now unknown (c.fold_refused.ensures, refl)
 
 pub fold_by_spec : {M : Type 1} → statement M
 fold_by_spec =

@@ -9,22 +9,18 @@ use Rattle.hours.proofs.Entries.{few-places, all-places, form-known, form-unknow
 use Rattle.hours.proofs.lookup.Statement.{statement}
 use Rattle.hours.proofs.lookup.Tie as tie
 
-abbrev start : tie.After-form-of → tie.Start
-start c = c.before.before
-
 -- what the definition answers in a form
 abbrev answer : tie.Start → Form → Looked
 answer c form = let a = c.args in lookup form sheet_limits a.sheet.now a.year a.month a.day a.minute
 
 -- by a number that names a form
-known : (c : tie.After-named)
-    → let entry = start c.before.before in
+known : (c : tie.In-Known-2)
+    → let entry = c in
     let a = entry.args in
-    lookup_in sheet_limits a.form a.sheet.now a.year a.month a.day a.minute ≡ answer entry (as_form c.named.given.0.0)
+    lookup_in sheet_limits a.form a.sheet.now a.year a.month a.day a.minute ≡ answer entry (as_form c.in-Known.known)
 unfolding lookup_in
 known c =
-    let form = c.before.before in
-    form-known refusal (answer (start form)) (start form).args.form _ form.form_of.ensures _ c.named.given.1
+    form-known refusal (answer c) c.args.form _ c.form_of-named.ensures _ c.in-Known.is
 
 returns : tie.Need-returns-then-sheet-le-FEW_BYTES
 returns c = c.lookup.ensures ∙ sym (known c)
@@ -36,7 +32,7 @@ returns-3 : tie.Need-returns-in-Unknown
 unfolding lookup_in
 returns-3 c =
     c.lookup_refused.ensures
-    ∙ sym (form-unknown refusal (answer (start c)) (start c).args.form _ c.form_of-named.ensures c.in-Unknown.is)
+    ∙ sym (form-unknown refusal (answer c) c.args.form _ c.form_of-named.ensures c.in-Unknown.is)
 
 pub lookup_spec : {M : Type 1} → statement M
 lookup_spec =

@@ -8,12 +8,9 @@ use Rattle.list_store.proofs.Listing.{named-length, appended-first, appended-mor
 use Rattle.list_store.proofs.append.Statement.{statement}
 use Rattle.list_store.proofs.append.Tie as tie
 
-abbrev start : tie.After-u16-to-usize → tie.Start
-start c = c.before.before.before.before
-
 -- the list that is copied has fewer rules than it may have
-few : (c : tie.After-u16-to-usize) → let a = (start c).args in get_or a.lists.now ((a.number - 1) * 33) 0 < 32
-few c = let a = (start c).args in omega (arith, named-length a.lists.now a.number c.before.before.if1.false, (start c).requires.2)
+few : (c : tie.After-u16_to_usize-entries) → let a = c.args in get_or a.lists.now ((a.number - 1) * 33) 0 < 32
+few c = let a = c.args in omega (arith, named-length a.lists.now a.number c.if-number-eq0.false, c.requires.2)
 
 pub append_spec : {M : Type 1} → statement M
 append_spec =
@@ -25,16 +22,16 @@ append_spec =
     (λ c. appended-first _ _ _ _ c.requires.1 c.if-number-eq0.true)
     (λ c. search rules) (λ c. search rules) (λ c. search rules) (λ c. search rules) (λ c κs. search rules) (λ c. search rules) (λ c. search rules) (λ c. search rules) (λ c. search rules)
     (λ c κs.
-    let pre = (start c).requires in
+    let pre = c.requires in
     let count = c.u16_to_usize-entries.ensures.0 in
     let some = c.if-number-eq0.false in
     (omega (arith, few c, count, pre.0, pre.1, some), omega (arith, few c, count, pre.1), λ h. omega (arith, few c, count, pre.0, some)))
     (λ c. omega (arith, few c))
     (λ c. search rules) (λ c. search rules) (λ c. search rules) (λ c. search rules) (λ c. search rules)
     (λ c.
-    simp length-set (omega (arith, few c, (start c).requires.1, c.u16_to_usize-entries.ensures.0, c.copy_words.auto.0)))
+    simp length-set (omega (arith, few c, c.requires.1, c.u16_to_usize-entries.ensures.0, c.copy_words.auto.0)))
     (λ c. search rules)
     (λ c.
     let count = c.u16_to_usize-entries.ensures.0 in
     let copy = c.copy_words in
-    appended-more _ _ _ _ (start c).requires.1 _ _ _ _ (omega (arith, count)) copy.auto.0 c.if-number-eq0.false (few c) refl copy.ensures (omega (arith, count))))
+    appended-more _ _ _ _ c.requires.1 _ _ _ _ (omega (arith, count)) copy.auto.0 c.if-number-eq0.false (few c) refl copy.ensures (omega (arith, count))))

@@ -11,33 +11,29 @@ use Rattle.list_store.proofs.Making.{number-left}
 use Rattle.list_store.proofs.draw.Statement.{statement}
 use Rattle.list_store.proofs.draw.Tie as tie
 
-abbrev start : tie.After-key-of → tie.Start
-start c = c.before.before.before.before.before.before.before
-
 -- the box's number is one of before the rule
-low : (c : tie.After-key-of) → let a = (start c).args in get_or a.cells.now a.box_index 0 ≤ a.before
-low c = omega (arith, c.before.if1.false, c.before.before.u16_to_usize.ensures.0)
+low : (c : tie.After-key_of-key) → let a = c.args in get_or a.cells.now a.box_index 0 ≤ a.before
+low c = omega (arith, c.if-number-before.false, c.u16_to_usize-number.ensures.0)
 
 -- and so is its key
-keyed : (c : tie.After-key-of) → let a = (start c).args in c.key_of.result ≡ cond a.replaces 0 (get_or a.cells.now a.box_index 0)
-keyed c = c.key_of.ensures ∙ ap (cond (start c).args.replaces 0) c.before.before.u16_to_usize.ensures.0
+keyed : (c : tie.After-key_of-key) → let a = c.args in c.key_of-key.result ≡ cond a.replaces 0 (get_or a.cells.now a.box_index 0)
+keyed c = c.key_of-key.ensures ∙ ap (cond c.args.replaces 0) c.u16_to_usize-number.ensures.0
 
-key-few : (c : tie.After-key-of) → c.key_of.result ≤ (start c).args.before
-key-few c = key-low (start c).args.replaces _ _ _ (keyed c) (low c)
+key-few : (c : tie.After-key_of-key) → c.key_of-key.result ≤ c.args.before
+key-few c = key-low c.args.replaces _ _ _ (keyed c) (low c)
 
-key_in : (c : tie.After-key-of) → c.key_of.result < length (start c).args.memo.now
-key_in c = omega (arith, key-few c, (start c).requires.0.made.many)
+key_in : (c : tie.After-key_of-key) → c.key_of-key.result < length c.args.memo.now
+key_in c = omega (arith, key-few c, c.requires.0.made.many)
 
 -- the rule has made no list of it yet
-old : (c : tie.After-has-room) → let key = c.before.before.before.before.before in get_or (start key).args.memo.now key.key_of.result 0 ≤ (start key).args.before
-old c = omega (arith, c.before.before.if2.false, c.before.before.before.u16-to-usize2.ensures.0)
+old : (c : tie.After-has_room) → let key = c in get_or key.before.before.before.before.before.before.before.args.memo.now key.key_of-key.result 0 ≤ key.before.before.before.before.before.before.before.args.before
+old c = omega (arith, c.if-u16_to_usize-before.false, c.u16_to_usize.ensures.0)
 
 -- its number fits, and its list too
-next : (c : tie.After-has-room) → let key = c.before.before.before.before.before in (start key).args.drawn.used + 1 < 65536
+next : (c : tie.After-has_room) → let key = c in key.before.before.before.before.before.before.before.args.drawn.used + 1 < 65536
 next c =
-    let key = c.before.before.before.before.before in
-    let made = (start key).requires.0 in
-    omega (arith, number-left made.made _ (key-few key) (old c), made.few)
+    let made = c.requires.0 in
+    omega (arith, number-left made.made _ (key-few c) (old c), made.few)
 
 pub draw_spec : {M : Type 1} → statement M
 draw_spec =
@@ -47,22 +43,22 @@ draw_spec =
     (λ c.
     walked-again c.requires.0 _ c.requires.1 (omega (arith, c.if-number-before.true, c.u16_to_usize-number.ensures.0)))
     (λ c κs. search rules)
-    (λ c. omega (arith, key-few c, (start c).requires.0.few))
+    (λ c. omega (arith, key-few c, c.requires.0.few))
     (λ c. key_in c)
     (λ c κs. search rules) (λ c. search rules) (λ c. search rules) (λ c. search rules)
     (λ c.
-    walked-met (start c).requires.0 _ (start c).requires.1 _ (low c) _ (keyed c) (omega (arith, c.if-u16_to_usize-before.true, c.u16_to_usize.ensures.0)))
+    walked-met c.requires.0 _ c.requires.1 _ (low c) _ (keyed c) (omega (arith, c.if-u16_to_usize-before.true, c.u16_to_usize.ensures.0)))
     (λ c κs.
-    omega (arith, key-few c, (start c).requires.0.room 0 (omega arith) (omega arith)))
+    omega (arith, key-few c, c.requires.0.room 0 (omega arith) (omega arith)))
     (λ c κs.
-    let pre = (start c).requires in (
+    let pre = c.requires in (
       omega (arith, key-few c, pre.0.made.grown),
       room-left pre.0 _ pre.1 (low c) _ (key-few c) (old c),
       ltb-true _ _ (sym c.has_room.ensures ∙ c.if-has_room.true),
     ))
     (λ c. omega (arith, next c))
     (λ c. omega (arith, next c))
-    (λ c. omega (arith, key-few c, (start c).requires.0.few))
+    (λ c. omega (arith, key-few c, c.requires.0.few))
     (λ c. key_in c)
     (λ c. omega (arith, next c))
     (λ c. omega (arith, next c))
@@ -71,10 +67,10 @@ draw_spec =
     (λ c. search rules) (λ c. search rules) (λ c. search rules)
     (λ c.
     let append = c.append in
-    let pre = (start c).requires in
+    let pre = c.requires in
     walked-new pre.0 _ pre.1 _ (low c) _ (keyed c) _ append.auto.0 (old c)
     (ltb-true _ _ (sym c.has_room.ensures ∙ c.if-has_room.true)) append.ensures)
     (λ c. search rules)
     (λ c.
-    let pre = (start c).requires in
+    let pre = c.requires in
     walked-full pre.0 _ pre.1 _ (low c) _ (keyed c) (ltb-false _ _ (sym c.has_room.ensures ∙ c.if-has_room.false))))

@@ -20,8 +20,8 @@ returns c =
     (leb-true _ _ (sym c.past_midnight.ensures ∙ c.if-past_midnight.true)))
 
 -- behind the test the minute lies in the day
-in-day : (c : tie.Else1) → c.before.before.before.before.args.minute < 1440
-in-day c = leb-false _ _ (sym c.before.past_midnight.ensures ∙ c.if1.false)
+in-day : (c : tie.Else-past_midnight) → c.args.minute < 1440
+in-day c = leb-false _ _ (sym c.past_midnight.ensures ∙ c.if-past_midnight.false)
 
 look-moment-requires : tie.Need-look_moment-requires
 look-moment-requires c κs =

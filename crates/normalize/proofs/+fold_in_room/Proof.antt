@@ -41,26 +41,24 @@ pub +fold_in_room_spec : {M : Type 1} → statement M
     (fold-in-room-at t)
     fold-in-room.Post
     (λ c.
-    let known = c.before.before.before.before in
-    let entry = known.before in
-    let sheet = entry.args.sheet.now in
-    let read = entry.requires.1.0.1 in
-    let all = rules-few _ sheet _ _ (known_bytes sheet (λ j. omega (arith, known.shared-slice-known.given j))) read.0.read in
-    omega (arith, c.before.if1.true, all, read.1))
+    let sheet = c.args.sheet.now in
+    let read = c.requires.1.0.1 in
+    let all = rules-few _ sheet _ _ (known_bytes sheet (λ j. omega (arith, c.shared_slice_known-1.given j))) read.0.read in
+    omega (arith, c.if-room-count.true, all, read.1))
     (λ c κs.
-    let pre = c.before.before.before.before.before.requires in
-    (omega (arith, pre.0, c.before.if1.true, pre.1.1), (pre.1.0, omega (arith, pre.1.1))))
+    let pre = c.requires in
+    (omega (arith, pre.0, c.if-room-count.true, pre.1.1), (pre.1.0, omega (arith, pre.1.1))))
     (λ c. search rules)
     (λ c. search rules)
-    (λ c κs. (c.before.before.before.before.before.before.requires.1.0, omega (arith, c.before.if2.true)))
+    (λ c κs. (c.requires.1.0, omega (arith, c.if-count-le4.true)))
     (λ c. search rules)
     (λ c. search rules)
-    (λ c κs. (c.before.before.before.before.before.before.before.requires.1.0, omega (arith, c.before.if3.true)))
+    (λ c κs. (c.requires.1.0, omega (arith, c.if-count-le32.true)))
     (λ c. search rules)
     (λ c. search rules)
-    (λ c κs. (c.before.before.before.before.before.before.before.before.requires.1.0, omega (arith, c.before.if4.true)))
+    (λ c κs. (c.requires.1.0, omega (arith, c.if-count-le64.true)))
     (λ c. search rules)
     (λ c. search rules)
-    (λ c κs. c.before.before.before.before.before.before.before.before.requires.1.0)
+    (λ c κs. c.requires.1.0)
     (λ c. search rules)
     (λ c. search rules)

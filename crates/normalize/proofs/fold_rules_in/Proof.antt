@@ -12,13 +12,6 @@ use Rattle.normalize.proofs.Left.{rules-leaving, rules-commented}
 use Rattle.normalize.proofs.fold_rules_in.Statement.{statement}
 use Rattle.normalize.proofs.fold_rules_in.Tie as tie
 
--- where the rules are prepared, and where the function begins
-abbrev preparing : tie.After-known-told → tie.After-prepare
-preparing c = c.before.before.before.before.before.before.before.before.before.before.before.before.before.before.before.before.before.before.before
-
-abbrev start : tie.After-prepare → tie.Start
-start c = c.before.before.before.before.before.before.before.before.before.before.before.before.before.before.before.before.before.before.before.before
-
 prepare-requires : tie.Need-prepare-judged-requires
 prepare-requires c κs =
     let pre = c.requires in
@@ -26,95 +19,77 @@ prepare-requires c κs =
     ((pre.0.0, (_, pre.0.1)), (pre.1.0, ((room.0, room.1), (omega arith, omega arith, room.2))))
 
 -- there are no more drained rules than were read
-within : (c : tie.After-known-told) → c.before.judged.given.0.0 ≤ (start (preparing c)).args.count
+within : (c : tie.In-Fine) → c.in-Fine.rules ≤ c.args.count
 within c =
-    let p = preparing c in
-    let read = (start p).pre.0.1 in
-    drained-within _ _ _ _ _ _ _ _ _ _ _ (judged-fine _ _ _ _ _ _ _ _ _ _ _ (p.prepare.ensures _ _ read.0 read.1) _ _ c.before.judged.given.1).0 _ read.1
+    let read = c.pre.0.1 in
+    drained-within _ _ _ _ _ _ _ _ _ _ _ (judged-fine _ _ _ _ _ _ _ _ _ _ _ (c.prepare-judged.ensures _ _ read.0 read.1) _ _ c.in-Fine.is).0 _ read.1
 
 mul-places : tie.Need-overflow_mul-places
 mul-places c =
-    let p = preparing c in
-    let read = (start p).pre.0.1 in
-    let told = judged-fine _ _ _ _ _ _ _ _ _ _ _ (p.prepare.ensures _ _ read.0 read.1) _ _ c.in-Fine.is in
+    let read = c.pre.0.1 in
+    let told = judged-fine _ _ _ _ _ _ _ _ _ _ _ (c.prepare-judged.ensures _ _ read.0 read.1) _ _ c.in-Fine.is in
     search (rules, told.0.drawable.0.few-rules)
 
 rules-left-requires : tie.Need-rules_left-left-requires
 rules-left-requires c κs =
-    let p = preparing c in
-    let sheet = (start p).args.sheet.now in
-    let known = p.before.before.before.before.before.before.before.before.before.before.before.before.before.before.before.before.before.before.before.shared-slice-known in
+    let sheet = c.args.sheet.now in
+    let known = c.shared_slice_known-1 in
     let bytes = known_bytes sheet (λ j. omega (arith, known.given j)) in
-    let read = (start p).pre.0.1 in
+    let read = c.pre.0.1 in
     (begins-there _ sheet bytes _ _ _ _ read.0 read.1, within c)
 
 slice-reshare-prefix-fold-boxes : tie.Need-slice_bounds-fold_boxes-end
 slice-reshare-prefix-fold-boxes c =
-    let p = preparing c in
-    omega (arith, within c, (start p).pre.1.0.0, p.prepare.kept.1.1.1.1.0)
+    omega (arith, within c, c.pre.1.0.0, c.prepare-judged.kept.1.1.1.1.0)
 
 slice-aggregate-fold-boxes : tie.Need-slice_bounds-fold_boxes-end-in-Fine
 slice-aggregate-fold-boxes c =
-    let p = preparing c in
-    sym (length-take-le c.in-Fine.rules _ (omega (arith, within c, (start p).pre.1.0.0, p.prepare.kept.1.1.1.1.0)))
+    sym (length-take-le c.in-Fine.rules _ (omega (arith, within c, c.pre.1.0.0, c.prepare-judged.kept.1.1.1.1.0)))
 
 slice-reshare-prefix-fold-boxes-2 : tie.Need-slice_bounds-fold_boxes-end-in-Fine-2
 slice-reshare-prefix-fold-boxes-2 c =
-    let p = preparing c in
-    omega (arith, within c, (start p).pre.1.0.1, p.prepare.kept.1.1.1.1.1.0)
+    omega (arith, within c, c.pre.1.0.1, c.prepare-judged.kept.1.1.1.1.1.0)
 
 slice-aggregate-fold-boxes-2 : tie.Need-slice_bounds-fold_boxes-end-in-Fine-3
 slice-aggregate-fold-boxes-2 c =
-    let p = preparing c in
-    sym (length-take-le c.judged.given.0.0 _ (omega (arith, within c, (start p).pre.1.0.1, p.prepare.kept.1.1.1.1.1.0)))
+    sym (length-take-le c.in-Fine.rules _ (omega (arith, within c, c.pre.1.0.1, c.prepare-judged.kept.1.1.1.1.1.0)))
 
 slice-reshare-prefix-fold-boxes-3 : tie.Need-slice_bounds-fold_boxes-end-in-Fine-4
 slice-reshare-prefix-fold-boxes-3 c =
-    let p = preparing c in
-    omega (arith, within c, (start p).pre.1.0.2, p.prepare.kept.1.1.1.1.1.1.0)
+    omega (arith, within c, c.pre.1.0.2, c.prepare-judged.kept.1.1.1.1.1.1.0)
 
 slice-aggregate-fold-boxes-3 : tie.Need-slice_bounds-fold_boxes-end-in-Fine-5
 slice-aggregate-fold-boxes-3 c =
-    let p = preparing c in
-    sym (length-take-le (c.judged.given.0.0 * 16) _ (omega (arith, within c, (start p).pre.1.0.2, p.prepare.kept.1.1.1.1.1.1.0)))
+    sym (length-take-le (c.in-Fine.rules * 16) _ (omega (arith, within c, c.pre.1.0.2, c.prepare-judged.kept.1.1.1.1.1.1.0)))
 
 fold-boxes-requires : tie.Need-fold_boxes-requires
 fold-boxes-requires c κs =
-    let p = preparing c in
-    let sheet = (start p).args.sheet.now in
-    let known = p.before.before.before.before.before.before.before.before.before.before.before.before.before.before.before.before.before.before.before.shared-slice-known in
+    let sheet = c.args.sheet.now in
+    let known = c.shared_slice_known-1 in
     let bytes = known_bytes sheet (λ j. omega (arith, known.given j)) in
-    let read = (start p).pre.0.1 in
-    let fine = judged-fine _ _ _ _ _ _ _ _ _ _ _ (p.prepare.ensures _ _ read.0 read.1) _ _ c.judged.given.1 in
-    let left = c.rules_left.ensures in (
+    let read = c.pre.0.1 in
+    let fine = judged-fine _ _ _ _ _ _ _ _ _ _ _ (c.prepare-judged.ensures _ _ read.0 read.1) _ _ c.in-Fine.is in
+    let left = c.rules_left-left.ensures in (
       (
-        (start p).pre.0.0,
+        c.pre.0.0,
         record {
-          end = (start p).args.end;
+          end = c.args.end;
           read = read.0.read;
           commented = rules-commented _ sheet bytes _ _ _ read.0;
           c = rules-leaving _ sheet bytes _ _ _ read.0 _ _ fine.0.rules-many read.1 _ _ _ _ _ left.0 left.1 left.2
-              (length-take-le _ _ (omega (arith, within c, (start p).pre.1.0.0, p.prepare.kept.1.1.1.1.0))) (left.3 ∙ fine.1);
-          to-draw = prepared-to-draw _ _ _ _ _ _ _ _ _ _ _ fine.0 (omega (arith, within c, (start p).pre.1.0.0, p.prepare.kept.1.1.1.1.0));
+              (length-take-le _ _ (omega (arith, within c, c.pre.1.0.0, c.prepare-judged.kept.1.1.1.1.0))) (left.3 ∙ fine.1);
+          to-draw = prepared-to-draw _ _ _ _ _ _ _ _ _ _ _ fine.0 (omega (arith, within c, c.pre.1.0.0, c.prepare-judged.kept.1.1.1.1.0));
         },
       ),
       omega arith,
     )
 
--- where the rules are prepared, at the end of either branch
-abbrev finished : tie.After-slice-known16 → tie.After-prepare
-finished c = preparing c.before.before.before.before.before.before.before.before.before.before.before.before.before.before
-
-abbrev judging : tie.After-known-told2 → tie.After-prepare
-judging c = c.before.before.before.before.before.before.before.before.before.before.before.before.before.before.before.before.before.before.before
-
 returns-2 : tie.Need-returns-in-Refused
 returns-2 c =
-    let p = judging c in
-    let args = (start p).args in
-    let read = (start p).pre.0.1 in
+    let args = c.args in
+    let read = c.pre.0.1 in
     rules-refused _ args.sheet.now args.out.now _ _ _ read.0.read _ _
-    (judged-refused _ _ _ _ _ _ _ _ _ _ _ (p.prepare.ensures _ _ read.0 read.1) _ _ c.in-Refused.is) c.fold_refused.ensures
+    (judged-refused _ _ _ _ _ _ _ _ _ _ _ (c.prepare-judged.ensures _ _ read.0 read.1) _ _ c.in-Refused.is) c.fold_refused.ensures
 
 pub fold_rules_in_spec : {M : Type 1} → statement M
 fold_rules_in_spec =
@@ -124,12 +99,12 @@ fold_rules_in_spec =
     slice-aggregate-fold-boxes slice-reshare-prefix-fold-boxes-2 slice-aggregate-fold-boxes-2 slice-reshare-prefix-fold-boxes-3
     slice-aggregate-fold-boxes-3 (λ c. search rules) (λ c. search rules) fold-boxes-requires (λ c. search rules) (λ c κs. search rules)
     (λ c. search rules)
-    (λ c. (finished c).prepare.auto.1.1.1.1.0)
-    (λ c. (finished c).prepare.auto.1.1.1.1.1.0)
-    (λ c. (finished c).prepare.auto.1.1.1.1.1.1.0)
-    (λ c. (finished c).prepare.auto.1.1.1.1.1.1.1.0)
-    (λ c. (finished c).prepare.auto.1.1.1.1.1.1.1.1.0)
-    (λ c. (finished c).prepare.auto.1.1.1.1.1.1.1.1.1.0)
-    (λ c. (finished c).prepare.auto.1.1.1.1.1.1.1.1.1.1.1.1.0) (λ c. search rules)
+    (λ c. c.prepare-judged.auto.1.1.1.1.0)
+    (λ c. c.prepare-judged.auto.1.1.1.1.1.0)
+    (λ c. c.prepare-judged.auto.1.1.1.1.1.1.0)
+    (λ c. c.prepare-judged.auto.1.1.1.1.1.1.1.0)
+    (λ c. c.prepare-judged.auto.1.1.1.1.1.1.1.1.0)
+    (λ c. c.prepare-judged.auto.1.1.1.1.1.1.1.1.1.0)
+    (λ c. c.prepare-judged.auto.1.1.1.1.1.1.1.1.1.1.1.1.0) (λ c. search rules)
     (λ c. search rules) (λ c. search rules) (λ c. search rules) (λ c. search rules) (λ c. search rules) (λ c. search rules) (λ c. search rules)
     returns-2)

@@ -32,10 +32,10 @@ Found = tie.After-slice-known7 invariant-loop decreases-loop
 abbrev start : Loop → tie.Start invariant-loop decreases-loop
 start c = c.before.before.before.before.before.before.before.before.before.before
 
-abbrev day : Found → tie.After-day-at invariant-loop decreases-loop
+abbrev day : Found → tie.After-day_at-day invariant-loop decreases-loop
 day c = c.before.before.before.before
 
-abbrev test : Found → tie.In-loop invariant-loop decreases-loop
+abbrev test : Found → tie.In-loop-place invariant-loop decreases-loop
 test c = c.before.before.before.before.before.before.before.before
 
 abbrev loop : Found → Loop
@@ -84,7 +84,7 @@ day-at-requires c κs =
     let entry = start c in
     let a = entry.args in
     let inv = c.loop-place.invariant in
-    let below = c.loop-test.true in
+    let below = c.loop-place-test.true in
     let ready = ready-kept a.states.now a.span_counts.now a.spans.now a.lists.now _ _ _ inv.5 entry.pre.0.0 in (
       (λ i l. ready i (omega (arith, l, below)), omega (arith, inv.5, inv.6, entry.pre.0.1)),
       (omega (arith, (room c).hashed, below), inv.0.0),

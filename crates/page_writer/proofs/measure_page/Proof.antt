@@ -13,43 +13,35 @@ use Rattle.page_writer.proofs.Folding.{number-ready, book-whole, book-short, boo
 use Rattle.page_writer.proofs.measure_page.Statement.{statement}
 use Rattle.page_writer.proofs.measure_page.Tie as tie
 
-abbrev named : tie.After-fetch → tie.After-u16-to-usize
-named c = c.before
-
-abbrev start : tie.After-u16-to-usize → tie.Start
-start c = c.before.before.before.before.before.before.before.before.before.before.before
-
 shared-slice-read-u16-to-usize : tie.Need-bounds-page-0
 shared-slice-read-u16-to-usize c =
     omega (arith, c.requires.0.inside, size_low c.args.page.now 0)
 
 fetch-requires : tie.Need-fetch-day-requires
 fetch-requires c κs =
-    let ready = number-ready (start c).requires.0 _ c.u16_to_usize.ensures.0 in
-    ((ready.0, c.u16_to_usize.ensures.1, ready.1), (start c).requires.1)
+    let ready = number-ready c.requires.0 _ c.u16_to_usize.ensures.0 in
+    ((ready.0, c.u16_to_usize.ensures.1, ready.1), c.requires.1)
 
 part-measure-day-end-2 : tie.Need-slice_bounds-measure_day-end-2
 part-measure-day-end-2 c =
-    let entry = start (named c) in
-    omega (arith, entry.pre.0.inside, size_low entry.args.page.now 0)
+    omega (arith, c.pre.0.inside, size_low c.args.page.now 0)
 
 measure-day-requires : tie.Need-measure_day-measure-requires
 measure-day-requires c κs =
-    let page = (start (named c)).requires.0 in
-    let number = (named c).u16_to_usize.ensures.0 in
-    let day = c.fetch.ensures in (
+    let page = c.requires.0 in
+    let number = c.u16_to_usize.ensures.0 in
+    let day = c.fetch-day.ensures in (
       (page.rows.four, page.rows.few),
       (book-whole page _ number _ _ _ day.inside day.words, omega (arith, book-short page _ number _ _ _ day.inside day.words)),
     )
 
 returns : tie.Need-returns
 returns c =
-    let entry = start (named c) in
-    let form = as_form entry.args.form in
-    let page = entry.pre.0 in
-    let number = (named c).u16_to_usize.ensures.0 in
-    let day = c.fetch.ensures in
-    let ends = page_ends entry.args.page.now 0 in
+    let form = as_form c.args.form in
+    let page = c.pre.0 in
+    let number = c.u16_to_usize.ensures.0 in
+    let day = c.fetch-day.ensures in
+    let ends = page_ends c.args.page.now 0 in
     let same = book-rules page _ number _ _ _ day.inside day.words ends refl in
     let few = book-short page _ number _ _ _ day.inside day.words in
     let measured = c.measure_day-measure.ensures in

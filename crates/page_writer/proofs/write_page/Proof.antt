@@ -12,57 +12,46 @@ use Rattle.page_writer.proofs.Folding.{ends-whole, rows_whole, number-ready, boo
 use Rattle.page_writer.proofs.write_page.Statement.{statement}
 use Rattle.page_writer.proofs.write_page.Tie as tie
 
-abbrev named : tie.After-fetch → tie.After-u16-to-usize
-named c = c.before
-
-abbrev start : tie.After-u16-to-usize → tie.Start
-start c = c.before.before.before.before.before.before.before.before.before.before.before.before
-
 shared-slice-read-u16-to-usize : tie.Need-bounds-page-0
 shared-slice-read-u16-to-usize c =
     omega (arith, c.requires.0.0.inside, size_low c.args.page.now 0)
 
 fetch-requires : tie.Need-fetch-day-requires
 fetch-requires c κs =
-    let ready = number-ready (start c).requires.0.0 _ c.u16_to_usize.ensures.0 in
-    ((ready.0, c.u16_to_usize.ensures.1, ready.1), (start c).requires.1.0)
+    let ready = number-ready c.requires.0.0 _ c.u16_to_usize.ensures.0 in
+    ((ready.0, c.u16_to_usize.ensures.1, ready.1), c.requires.1.0)
 
 sub-write-day-2 : tie.Need-slice_bounds-write_day-count-2
 sub-write-day-2 c =
-    let entry = start (named c) in
-    omega (arith, entry.pre.0.0.inside, size_low entry.args.page.now 0)
+    omega (arith, c.pre.0.0.inside, size_low c.args.page.now 0)
 
 part-write-day-start-2 : tie.Need-slice_bounds-write_day-start-2
 part-write-day-start-2 c =
-    let entry = start (named c) in
-    omega (arith, entry.pre.0.0.inside, size_low entry.args.page.now 0)
+    omega (arith, c.pre.0.0.inside, size_low c.args.page.now 0)
 
 part-write-day-end-3 : tie.Need-slice_bounds-write_day-end-3
 part-write-day-end-3 c =
-    let entry = start (named c) in
-    omega (arith, entry.pre.0.0.inside, size_low entry.args.page.now 0)
+    omega (arith, c.pre.0.0.inside, size_low c.args.page.now 0)
 
 write-day-requires : tie.Need-write_day-next-requires
 write-day-requires c κs =
-    let entry = start (named c) in
-    let form = as_form entry.args.form in
-    let page = entry.pre.0.0 in
-    let all = entry.pre.0.1 in
-    let number = (named c).u16_to_usize.ensures.0 in
-    let day = c.fetch.ensures in
+    let form = as_form c.args.form in
+    let page = c.pre.0.0 in
+    let all = c.pre.0.1 in
+    let number = c.u16_to_usize.ensures.0 in
+    let day = c.fetch-day.ensures in
     let same = book-rules page _ number _ _ _ day.inside day.words _ (ends-whole page all) in (
       book-whole page _ number _ _ _ day.inside day.words,
-      (rows_whole page all, (ap (any_of (many_items form)) same ∙ entry.pre.1.1.0, room_as (ap (rules_bits form) (sym same)) entry.pre.1.1.1)),
+      (rows_whole page all, (ap (any_of (many_items form)) same ∙ c.pre.1.1.0, room_as (ap (rules_bits form) (sym same)) c.pre.1.1.1)),
     )
 
 returns : tie.Need-returns
 returns c =
-    let entry = start (named c) in
-    let page = entry.pre.0.0 in
-    let number = (named c).u16_to_usize.ensures.0 in
-    let day = c.fetch.ensures in
-    let same = book-rules page _ number _ _ _ day.inside day.words _ (ends-whole page entry.pre.0.1) in
-    (wrote_as (ap (rules_bits (as_form entry.args.form)) (sym same)) c.write_day-next.ensures, day.opened)
+    let page = c.pre.0.0 in
+    let number = c.u16_to_usize.ensures.0 in
+    let day = c.fetch-day.ensures in
+    let same = book-rules page _ number _ _ _ day.inside day.words _ (ends-whole page c.pre.0.1) in
+    (wrote_as (ap (rules_bits (as_form c.args.form)) (sym same)) c.write_day-next.ensures, day.opened)
 
 pub write_page_spec : {M : Type 1} → statement M
 write_page_spec =

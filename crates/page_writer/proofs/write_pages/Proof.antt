@@ -22,16 +22,16 @@ abbrev decreases-loop : tie.decreases-loop-pages_left
 decreases-loop form out₀ place book₀ notes₀ filled room states counts spans lists pages count here₀ left₀ next₀ full₀ out book notes here left next full = left
 
 -- ## Places of the code
-abbrev start : tie.At-loop invariant-loop decreases-loop → tie.Start invariant-loop decreases-loop
+abbrev start : tie.At-loop-pages_left invariant-loop decreases-loop → tie.Start invariant-loop decreases-loop
 start c = c.before.before.before.before.before.before.before.before.before
 
-abbrev test : tie.After-page-size invariant-loop decreases-loop → tie.In-loop invariant-loop decreases-loop
+abbrev test : tie.After-page_size-size invariant-loop decreases-loop → tie.In-loop-pages_left invariant-loop decreases-loop
 test c = c.before
 
-abbrev loop : tie.After-page-size invariant-loop decreases-loop → tie.At-loop invariant-loop decreases-loop
+abbrev loop : tie.After-page_size-size invariant-loop decreases-loop → tie.At-loop-pages_left invariant-loop decreases-loop
 loop c = (test c).before
 
-abbrev size : tie.After-write-page invariant-loop decreases-loop → tie.After-page-size invariant-loop decreases-loop
+abbrev size : tie.After-write_page-written invariant-loop decreases-loop → tie.After-page_size-size invariant-loop decreases-loop
 size c = c.before.before.before.before.before
 
 -- ## What is needed there

@@ -39,7 +39,7 @@ pop-group-requires c κs =
       room-len₂ _ _ _ _ _ _ _ i.1 (room-len _ _ _ _ _ _ _ i.0 c.requires.0),
       (
         omega (arith, c.loop-first-test.true, c.type_size.ensures),
-        c.width_of_lem.ensures,
+        c.width_of-columns.ensures,
         omega (arith, c.requires.1.1.1.0.0, i.9),
         omega (arith, c.requires.1.1.1.0.1, i.0),
         first-with-value _ _ _ i.7 (i.8 c.loop-first-test.true),
@@ -49,9 +49,9 @@ pop-group-requires c κs =
 put-page-requires : tie.Need-put_page-next-requires invariant-loop decreases-loop
 put-page-requires c κs =
     let a = c.args in
-    let i = c.loop.invariant in
+    let i = c.loop-first.invariant in
     let one = c.pop_group in
-    let group = first_group _ _ _ _ _ _ i.7 _ _ (omega (arith, c.requires.0.marked, i.1)) one.ensures.0 (i.8 c.loop-test.true) in
+    let group = first_group _ _ _ _ _ _ i.7 _ _ (omega (arith, c.requires.0.marked, i.1)) one.ensures.0 (i.8 c.loop-first-test.true) in
     let page = put_page a.row_starts.now a.cuts.now a.sizes.now 4 in
     let round = loop-round _ _ _ _ _ c.requires.1.1.0 _ _ _ _ group.0 refl one.ensures.1 page _ _ _ _ i.3.0 i.3.1 refl in (
       c.requires.1.0,
@@ -60,24 +60,24 @@ put-page-requires c κs =
 
 next-box-requires-2 : tie.Need-next_box-first-requires-in-loop-first invariant-loop decreases-loop
 next-box-requires-2 c κs =
-    let i = c.loop.invariant in
+    let i = c.loop-first.invariant in
     (i.6, omega (arith, room-size _ _ _ _ _ _ c.requires.0, c.type_size.ensures, c.pop_group.auto.0, i.0), c.requires.1.1.0)
 
 loop-less : tie.Need-loop-first-smaller invariant-loop decreases-loop
 loop-less c =
-    let i = c.loop.invariant in
+    let i = c.loop-first.invariant in
     let one = c.pop_group in
-    let group = first_group _ _ _ _ _ _ i.7 _ _ (omega (arith, c.requires.0.marked, i.1)) one.ensures.0 (i.8 c.loop-test.true) in
+    let group = first_group _ _ _ _ _ _ i.7 _ _ (omega (arith, c.requires.0.marked, i.1)) one.ensures.0 (i.8 c.loop-first-test.true) in
     matching-falls _ _ _ _ _ c.requires.1.1.0 _ _ _ _ group.0 refl one.ensures.1
 
 loop-again : tie.Need-loop-first-preserved invariant-loop decreases-loop
 loop-again c =
     let put = c.put_page-next in
     let a = c.args in
-    let i = c.loop.invariant in
+    let i = c.loop-first.invariant in
     let none = c.requires.1.1.0 in
     let one = c.pop_group in
-    let group = first_group _ _ _ _ _ _ i.7 _ _ (omega (arith, c.requires.0.marked, i.1)) one.ensures.0 (i.8 c.loop-test.true) in
+    let group = first_group _ _ _ _ _ _ i.7 _ _ (omega (arith, c.requires.0.marked, i.1)) one.ensures.0 (i.8 c.loop-first-test.true) in
     let cleared = one.ensures.1 in
     let box = c.next_box-first-in-loop-first.ensures in
     let page = put_page a.row_starts.now a.cuts.now a.sizes.now 4 in

@@ -9,28 +9,18 @@ use Rattle.plain.proofs.Folding.{own-numbered, own-popped, own-ended, own-folded
 use Rattle.plain.proofs.fold_lists.Statement.{statement}
 use Rattle.plain.proofs.fold_lists.Tie as tie
 
--- ## Places of the code
-abbrev start : tie.After-size-of → tie.Start
-start c = c.before.before.before.before.before.before.before.before.before.before
-
-abbrev sized : tie.After-number-lists → tie.After-size-of
-sized c = c.before.before.before.before.before.before
-
-abbrev number : tie.After-pop-pages → tie.After-number-lists
-number c = c.before.before.before.before.before.before.before.before.before.before
-
 -- ## What numbering the days leaves
-abbrev pages : tie.After-number-lists → List ℕ
+abbrev pages : tie.After-number_lists → List ℕ
 pages c = c.number_lists.new.1.1.1.1.1.0
 
-abbrev numbers : tie.After-number-lists → List ℕ
+abbrev numbers : tie.After-number_lists → List ℕ
 numbers c = c.number_lists.new.1.1.1.1.1.1.0
 
-abbrev classes : tie.After-number-lists → List ℕ
+abbrev classes : tie.After-number_lists → List ℕ
 classes c = c.number_lists.new.1.1.1.1.1.1.1.0
 
 -- as many numbers as boxes are lent
-whole : (c : tie.After-size-of) → c.type_size.result + 1 - 1 ≡ c.type_size.result
+whole : (c : tie.After-size_of-boxes) → c.type_size.result + 1 - 1 ≡ c.type_size.result
 whole c = omega arith
 
 -- ## What is needed
@@ -41,46 +31,37 @@ size-of-requires c κs =
 
 number-lists-requires : tie.Need-number_lists-requires
 number-lists-requires c κs =
-    let entry = start c in
-    let a = entry.args in
-    let given = entry.pre.0 in
+    let a = c.args in
+    let given = c.pre.0 in
     own-numbered a.states.now a.span_counts.now a.spans.now a.row_starts.now a.sizes.now a.cuts.now a.lists.now given.0 given.1 given.2 _ _ _ _
-    c.type_size.ensures entry.pre.1.1 entry.pre.1.0 c.box_classes-classes.ensures
+    c.type_size.ensures c.pre.1.1 c.pre.1.0 c.box_classes-classes.ensures
 
 pop-pages-requires : tie.Need-pop_pages-stop-requires
 pop-pages-requires c κs =
-    let size = sized c in
-    let entry = start size in
-    let a = entry.args in
-    let given = entry.pre.0 in
+    let a = c.args in
+    let given = c.pre.0 in
     own-popped a.states.now a.span_counts.now a.spans.now a.row_starts.now a.sizes.now a.cuts.now a.lists.now given.0 given.1 given.2
-    (numbers c) (classes c) _ _ size.type_size.ensures (whole size)
-    (omega (arith, entry.pre.1.0, c.number_lists.auto.1.1.1.1.1.1.0)) c.number_lists.ensures _ _
-    (omega (arith, given.2.few-boxes, c.marks-marks.ensures)) (omega (arith, entry.pre.1.1, c.number_lists.auto.1.1.1.1.1.0))
+    (numbers c) (classes c) _ _ c.type_size.ensures (whole c)
+    (omega (arith, c.pre.1.0, c.number_lists.auto.1.1.1.1.1.1.0)) c.number_lists.ensures _ _
+    (omega (arith, given.2.few-boxes, c.marks-marks.ensures)) (omega (arith, c.pre.1.1, c.number_lists.auto.1.1.1.1.1.0))
 
 count-pages-requires : tie.Need-count_pages-requires
 count-pages-requires c κs =
-    let numbered = number c in
-    let size = sized numbered in
-    let entry = start size in
-    let a = entry.args in
-    let given = entry.pre.0 in
+    let a = c.args in
+    let given = c.pre.0 in
     let ended = own-ended a.states.now a.span_counts.now a.spans.now a.row_starts.now a.sizes.now a.cuts.now a.lists.now given.0 given.1 given.2
-    (numbers numbered) (classes numbered) _ _ size.type_size.ensures (whole size)
-    (omega (arith, entry.pre.1.0, numbered.number_lists.kept.1.1.1.1.1.1.0)) numbered.number_lists.ensures (pages numbered) _
-    (omega (arith, entry.pre.1.1, numbered.number_lists.kept.1.1.1.1.1.0)) c.pop_pages.ensures.1 _ c.pop_pages.ensures.0 in
-    (ended.0, omega (arith, ended.1, c.pop_pages.auto.1.1.1.1.1.1.0))
+    (numbers c) (classes c) _ _ c.type_size.ensures (whole c)
+    (omega (arith, c.pre.1.0, c.number_lists.kept.1.1.1.1.1.1.0)) c.number_lists.ensures (pages c) _
+    (omega (arith, c.pre.1.1, c.number_lists.kept.1.1.1.1.1.0)) c.pop_pages-stop.ensures.1 _ c.pop_pages-stop.ensures.0 in
+    (ended.0, omega (arith, ended.1, c.pop_pages-stop.auto.1.1.1.1.1.1.0))
 
 returns : tie.Need-returns
 returns c =
-    let numbered = number c in
-    let size = sized numbered in
-    let entry = start size in
-    let a = entry.args in
+    let a = c.args in
     λ rs form times given commented. own-folded a.states.now a.span_counts.now a.spans.now a.row_starts.now a.sizes.now a.cuts.now a.lists.now rs times given
-    (numbers numbered) (classes numbered) _ _ size.type_size.ensures (whole size)
-    (omega (arith, entry.pre.1.0, numbered.number_lists.kept.1.1.1.1.1.1.0)) numbered.number_lists.ensures (pages numbered) _
-    (omega (arith, entry.pre.1.1, numbered.number_lists.kept.1.1.1.1.1.0)) c.pop_pages.ensures.1 _ c.pop_pages.ensures.0 form commented _
+    (numbers c) (classes c) _ _ c.type_size.ensures (whole c)
+    (omega (arith, c.pre.1.0, c.number_lists.kept.1.1.1.1.1.1.0)) c.number_lists.ensures (pages c) _
+    (omega (arith, c.pre.1.1, c.number_lists.kept.1.1.1.1.1.0)) c.pop_pages-stop.ensures.1 _ c.pop_pages-stop.ensures.0 form commented _
     c.count_pages.ensures
 
 pub fold_lists_spec : {M : Type 1} → statement M

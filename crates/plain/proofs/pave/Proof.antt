@@ -5,10 +5,6 @@ use Rattle.paved.proofs.Told.{paves-refused, paves-pages}
 use Rattle.plain.proofs.pave.Statement.{statement}
 use Rattle.plain.proofs.pave.Tie as tie
 
--- where the function begins, from where the lists are made
-abbrev start : tie.After-list-rules → tie.Start
-start c = c.before.before.before.before.before.before.before.before.before.before.before.before.before.before
-
 list-rules-requires : tie.Need-list_rules-listed-requires
 list-rules-requires c κs =
     let pre = c.requires in
@@ -22,15 +18,15 @@ returns c =
 
 fold-lists-requires : tie.Need-fold_lists-count-requires
 fold-lists-requires c κs =
-    let pre = (start c).requires in
+    let pre = c.requires in
     let given = pre.0.1 in
-    let held = listing-held _ _ _ _ _ _ (c.list_rules.ensures _ (given.drawable, given.passed.apart)) c.in-Held.is in
+    let held = listing-held _ _ _ _ _ _ (c.list_rules-listed.ensures _ (given.drawable, given.passed.apart)) c.in-Held.is in
     ((_, given.times, held.1), (pre.1.numbered, pre.1.paged))
 
 returns-2 : tie.Need-returns-in-Held
 returns-2 c =
     λ rs given.
-    let held = listing-held _ _ _ _ rs _ (c.list_rules.ensures rs (given.drawable, given.passed.apart)) c.in-Held.is in
+    let held = listing-held _ _ _ _ rs _ (c.list_rules-listed.ensures rs (given.drawable, given.passed.apart)) c.in-Held.is in
     paves-pages _ _ _ _ _ rs _ held.0 (λ form commented. c.fold_lists-count.ensures rs form given.times held.1 commented)
 
 pub pave_spec : {M : Type 1} → statement M

@@ -33,21 +33,21 @@ decreases-loop cells₀ classes sizes marks₀ rows cuts pages₀ class start bo
 
 mark-group-requires : tie.Need-mark_group-requires invariant-loop decreases-loop
 mark-group-requires c κs =
-    let i = c.loop.invariant in (
+    let i = c.loop-first.invariant in (
       room-len₂ _ _ _ _ _ _ _ i.1 (room-len _ _ _ _ _ _ _ i.0 c.requires.0),
       omega (arith, c.loop-first-test.true, c.type_size.ensures),
     )
 
 empty-group-requires : tie.Need-empty_group-requires invariant-loop decreases-loop
 empty-group-requires c κs =
-    let i = c.loop.invariant in
+    let i = c.loop-first.invariant in
     room-len₂ _ _ _ _ _ _ _ (c.mark_group.auto.1.1.0 ∙ i.1) (room-len _ _ _ _ _ _ _ i.0 c.requires.0)
 
 put-page-requires : tie.Need-put_page-next-requires invariant-loop decreases-loop
 put-page-requires c κs =
     let a = c.args in
-    let i = c.loop.invariant in
-    let group = first_group _ _ _ _ _ _ i.7 _ _ (omega (arith, c.requires.0.marked, i.1)) c.mark_group.ensures (i.8 c.loop-test.true) in
+    let i = c.loop-first.invariant in
+    let group = first_group _ _ _ _ _ _ i.7 _ _ (omega (arith, c.requires.0.marked, i.1)) c.mark_group.ensures (i.8 c.loop-first-test.true) in
     let page = put_page a.row_starts.now a.cuts.now a.sizes.now 4 in
     let round = loop-round _ _ _ _ _ c.requires.1.1.0 _ _ _ _ group.0 refl c.empty_group.ensures page _ _ _ _ i.3.0 i.3.1 refl in (
       c.requires.1.0,
@@ -56,22 +56,22 @@ put-page-requires c κs =
 
 next-cell-requires-2 : tie.Need-next_cell-first-requires-in-loop-first invariant-loop decreases-loop
 next-cell-requires-2 c κs =
-    let i = c.loop.invariant in
+    let i = c.loop-first.invariant in
     (i.6, omega (arith, room-size _ _ _ _ _ _ c.requires.0, c.type_size.ensures, c.empty_group.auto.0, i.0))
 
 loop-less : tie.Need-loop-first-smaller invariant-loop decreases-loop
 loop-less c =
-    let i = c.loop.invariant in
-    let group = first_group _ _ _ _ _ _ i.7 _ _ (omega (arith, c.requires.0.marked, i.1)) c.mark_group.ensures (i.8 c.loop-test.true) in
+    let i = c.loop-first.invariant in
+    let group = first_group _ _ _ _ _ _ i.7 _ _ (omega (arith, c.requires.0.marked, i.1)) c.mark_group.ensures (i.8 c.loop-first-test.true) in
     matching-falls _ _ _ _ _ c.requires.1.1.0 _ _ _ _ group.0 refl c.empty_group.ensures
 
 loop-again : tie.Need-loop-first-preserved invariant-loop decreases-loop
 loop-again c =
     let put = c.put_page-next in
     let a = c.args in
-    let i = c.loop.invariant in
+    let i = c.loop-first.invariant in
     let none = c.requires.1.1.0 in
-    let group = first_group _ _ _ _ _ _ i.7 _ _ (omega (arith, c.requires.0.marked, i.1)) c.mark_group.ensures (i.8 c.loop-test.true) in
+    let group = first_group _ _ _ _ _ _ i.7 _ _ (omega (arith, c.requires.0.marked, i.1)) c.mark_group.ensures (i.8 c.loop-first-test.true) in
     let cleared = c.empty_group.ensures in
     let cell = c.next_cell-first-in-loop-first.ensures in
     let page = put_page a.row_starts.now a.cuts.now a.sizes.now 4 in

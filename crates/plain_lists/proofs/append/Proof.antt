@@ -15,18 +15,18 @@ use Rattle.plain_lists.proofs.append.Statement.{statement}
 use Rattle.plain_lists.proofs.append.Tie as tie
 
 -- the list at whose end the rule is put is as long as the count says
-based : (c : tie.Joined1) → let a = c.before.before.args in c.if1.count ≡ length (base a.replaces (list_of a.lists.now a.box_index))
+based : (c : tie.Joined-replaces) → let a = c.args in c.if-replaces.count ≡ length (base a.replaces (list_of a.lists.now a.box_index))
 based c =
-    let a = c.before.before.args in
-    ⊎_elim (λ w. based-none a.lists.now a.box_index a.replaces c.if1.count w.0.taken w.1)
-    (λ w. based-all a.lists.now a.box_index a.replaces c.if1.count w.0.left w.2) c.if1.branch
+    let a = c.args in
+    ⊎_elim (λ w. based-none a.lists.now a.box_index a.replaces c.if-replaces.count w.0.taken w.1)
+    (λ w. based-all a.lists.now a.box_index a.replaces c.if-replaces.count w.0.left w.2) c.if-replaces.branch
 
 -- and has fewer rules than it may have
-allowed : (c : tie.Else2) → ltb c.before.before.if1.count 32 ≡ true
-allowed c = sym c.before.entry_allowed.ensures ∙ not-false _ c.if2.false
+allowed : (c : tie.Else-not-entry_allowed) → ltb c.if-replaces.count 32 ≡ true
+allowed c = sym c.entry_allowed.ensures ∙ not-false _ c.if-not-entry_allowed.false-raw
 
-few : (c : tie.Else2) → c.before.before.if1.count < 32
-few c = ltb-true c.before.before.if1.count 32 (allowed c)
+few : (c : tie.Else-not-entry_allowed) → c.if-replaces.count < 32
+few c = ltb-true c.if-replaces.count 32 (allowed c)
 
 pub append_spec : {M : Type 1} → statement M
 append_spec =

@@ -19,10 +19,10 @@ abbrev decreases-loop : tie.decreases-loop-box_index
 decreases-loop lists₀ rows sizes cuts counts ranges rule replaces boxes box₀ lists box = boxes - box
 
 -- from where the box is known to be covered or not back to the loop's turn, and to where the function begins
-abbrev turn : tie.After-covers invariant-loop decreases-loop → tie.In-loop invariant-loop decreases-loop
+abbrev turn : tie.After-covers invariant-loop decreases-loop → tie.In-loop-box_index invariant-loop decreases-loop
 turn c = c.before
 
-abbrev start : tie.In-loop invariant-loop decreases-loop → tie.Start invariant-loop decreases-loop
+abbrev start : tie.In-loop-box_index invariant-loop decreases-loop → tie.Start invariant-loop decreases-loop
 start c = c.before.before.before.before.before.before.before.before
 
 pub draw_rule_spec : {M : Type 1} → statement M

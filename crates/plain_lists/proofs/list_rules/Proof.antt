@@ -19,16 +19,16 @@ abbrev decreases-loop : tie.decreases-loop-rule
 decreases-loop lists₀ rows sizes cuts replacing counts ranges rules boxes rule₀ lists rule = rules - rule
 
 -- from where the lists were counted back to where the rule was drawn, to the loop's turn, to where the boxes were counted, and to where the function begins
-abbrev drawn : tie.After-too-many invariant-loop decreases-loop → tie.After-draw-rule invariant-loop decreases-loop
+abbrev drawn : tie.After-too_many invariant-loop decreases-loop → tie.After-draw_rule invariant-loop decreases-loop
 drawn c = c.before.before.before.before.before
 
-abbrev turn : tie.After-draw-rule invariant-loop decreases-loop → tie.In-loop invariant-loop decreases-loop
+abbrev turn : tie.After-draw_rule invariant-loop decreases-loop → tie.In-loop-rule invariant-loop decreases-loop
 turn c = c.before.before.before
 
-abbrev sized : tie.At-loop invariant-loop decreases-loop → tie.After-size-of invariant-loop decreases-loop
+abbrev sized : tie.At-loop-rule invariant-loop decreases-loop → tie.After-size_of-boxes invariant-loop decreases-loop
 sized c = c.before
 
-abbrev start : tie.After-size-of invariant-loop decreases-loop → tie.Start invariant-loop decreases-loop
+abbrev start : tie.After-size_of-boxes invariant-loop decreases-loop → tie.Start invariant-loop decreases-loop
 start c = c.before.before.before.before.before.before.before.before
 
 draw-rule-requires : tie.Need-draw_rule-requires invariant-loop decreases-loop

@@ -19,7 +19,7 @@ abbrev decreases-loop : tie.decreases-loop-rule
 decreases-loop states span_counts spans replacing range-counts ranges moment found₀ rule₀ found rule = length states - rule
 
 -- from the loop's turn back to where the function begins
-abbrev start : tie.In-loop invariant-loop decreases-loop → tie.Start invariant-loop decreases-loop
+abbrev start : tie.In-loop-rule invariant-loop decreases-loop → tie.Start invariant-loop decreases-loop
 start c = c.before.before.before.before.before.before.before.before
 
 pub point_state_spec : {M : Type 1} → statement M

@@ -7,13 +7,6 @@ use Rattle.prepare.proofs.Judging.{twice-refused, boxes-refused, rules-passed}
 use Rattle.prepare.proofs.judge.Statement.{statement}
 use Rattle.prepare.proofs.judge.Tie as tie
 
--- where the rows are cut, and where days typed twice were looked for
-abbrev cutting : tie.After-boxes-over → tie.After-cut-all
-cutting c = c.before.before.before.before.before.before.before
-
-abbrev asking : tie.After-cut-all → tie.Else1
-asking c = c.before.before.before.before
-
 returns : tie.Need-returns-then-twice-rules
 unfolding JudgesDays
 returns c = λ ds days. twice-refused ds _ _ (c.first_overlap-twice.ensures ds days) c.if-twice-rules.true
@@ -21,21 +14,19 @@ returns c = λ ds days. twice-refused ds _ _ (c.first_overlap-twice.ensures ds d
 returns-2 : tie.Need-returns-then-boxes_over
 unfolding JudgesDays
 returns-2 c =
-    let cut = cutting c in
-    let passed = asking cut in λ ds days.
-    boxes-refused ds _ _ (passed.before.first_overlap.ensures ds days) passed.if1.left _ (cut.Cut-all.ensures ds days).0
+    λ ds days.
+    boxes-refused ds _ _ (c.first_overlap-twice.ensures ds days) c.if-twice-rules.left _ (c.Cut-all.ensures ds days).0
     (ltb-true _ _ (sym c.boxes_over.ensures ∙ c.if-boxes_over.true))
 
-returns-3 : tie.Need-returns-then-twice-rules
+returns-3 : tie.Need-returns
 unfolding JudgesDays
 returns-3 c =
-    let cut = cutting c in
-    let passed = asking cut in λ ds days.
-    let there = cut.Cut-all.ensures ds days in (
+    λ ds days.
+    let there = c.Cut-all.ensures ds days in (
       refl,
       refl,
       there.1,
-      rules-passed ds _ _ (passed.before.first_overlap.ensures ds days) passed.if1.left _ there.0 _ _ _ there.1
+      rules-passed ds _ _ (c.first_overlap-twice.ensures ds days) c.if-twice-rules.left _ there.0 _ _ _ there.1
           (ltb-false _ _ (sym c.boxes_over.ensures ∙ c.if-boxes_over.false)),
     )
 
@@ -47,9 +38,9 @@ judge_spec =
     returns
     (λ c κs. let pre = c.requires in (pre.0, pre.1))
     (λ c κs. search rules)
-    (λ c. (cutting c).Cut-all.auto.0)
-    (λ c. (cutting c).Cut-all.auto.1.0)
-    (λ c. (cutting c).Cut-all.auto.1.1.0) returns-2
-    (λ c. (cutting c).Cut-all.auto.0)
-    (λ c. (cutting c).Cut-all.auto.1.0)
-    (λ c. (cutting c).Cut-all.auto.1.1.0) returns-3)
+    (λ c. c.Cut-all.auto.0)
+    (λ c. c.Cut-all.auto.1.0)
+    (λ c. c.Cut-all.auto.1.1.0) returns-2
+    (λ c. c.Cut-all.auto.0)
+    (λ c. c.Cut-all.auto.1.0)
+    (λ c. c.Cut-all.auto.1.1.0) returns-3)

@@ -5,13 +5,6 @@ use Rattle.prepare.proofs.Reading.{rules-begin, begins-there, drained-few, drain
 use Rattle.prepare.proofs.prepare.Statement.{statement}
 use Rattle.prepare.proofs.prepare.Tie as tie
 
--- where the rules are drained, and the sheet that they are drained from
-abbrev draining : tie.After-judge → tie.After-drain
-draining c = c.before.before.before.before.before.before.before.before.before.before.before.before.before.before.before.before.before.before
-
-abbrev known : tie.After-drain → tie.After-shared-slice-known
-known c = c.before.before.before.before.before.before.before.before.before.before.before.before.before.before.before.before.before
-
 drain-requires : tie.Need-drain-drained-requires
 drain-requires c κs =
     let sheet = c.args.sheet.now in
@@ -39,13 +32,12 @@ judge-requires c κs =
 
 returns : tie.Need-returns
 returns c =
-    let drain-step = draining c in
-    let entry = (known drain-step).before in
+    let entry = (known c).before in
     let sheet = entry.args.sheet.now in
     let pre = entry.pre in
-    let drain = drain-step.drain in
+    let drain = c.drain-drained in
     let kept = drain.kept.1.1.1.1 in
-    let bytes = known_bytes sheet (λ j. omega (arith, (known drain-step).shared-slice-known.given j)) in
+    let bytes = known_bytes sheet (λ j. omega (arith, (known c).shared-slice-known.given j)) in
     λ rs end reading many. let days = drained-days _ sheet bytes _ rs end _ reading many _ _ _ _ _ _ _ drain.ensures.0 drain.ensures.2
     (omega (arith, kept.1.1.1.1.0, pre.1.1.0.0)) (omega (arith, kept.1.1.1.1.1.0, pre.1.1.0.1)) in
     sheet-judged _ sheet bytes _ rs end _ reading many _ _ _ _ _ _ _ drain.ensures.0 drain.ensures.2
@@ -57,12 +49,12 @@ pub prepare_spec : {M : Type 1} → statement M
 prepare_spec =
     tie.close
     (tie.spec drain-requires judge-requires
-    (λ c. (draining c).drain.auto.1.1.1.1.0)
-    (λ c. (draining c).drain.auto.1.1.1.1.1.0)
-    (λ c. (draining c).drain.auto.1.1.1.1.1.1.0)
-    (λ c. (draining c).drain.auto.1.1.1.1.1.1.1.0)
-    (λ c. (draining c).drain.auto.1.1.1.1.1.1.1.1.0)
-    (λ c. (draining c).drain.auto.1.1.1.1.1.1.1.1.1.0)
+    (λ c. c.drain-drained.auto.1.1.1.1.0)
+    (λ c. c.drain-drained.auto.1.1.1.1.1.0)
+    (λ c. c.drain-drained.auto.1.1.1.1.1.1.0)
+    (λ c. c.drain-drained.auto.1.1.1.1.1.1.1.0)
+    (λ c. c.drain-drained.auto.1.1.1.1.1.1.1.1.0)
+    (λ c. c.drain-drained.auto.1.1.1.1.1.1.1.1.1.0)
     (λ c. c.judge.auto.1.1.0)
     (λ c. c.judge.auto.1.0)
     (λ c. c.judge.auto.0) returns)

@@ -14,11 +14,8 @@ too_wide : tie.Need-returns-then-width_over
 too_wide c = inl (ltb-true _ _ (sym c.width_over.ensures ∙ c.if-width_over.true))
 
 -- behind the test the field is one that can be read; and where the function begins, from the read
-narrow : (c : tie.Else1) → c.before.before.before.args.width ≤ 32
-narrow c = ltb-false _ _ (sym c.before.width_over.ensures ∙ c.if1.false)
-
-abbrev start : tie.After-take-at → tie.Start
-start c = c.before.before.before.before.before.before
+narrow : (c : tie.Else-width_over) → c.args.width ≤ 32
+narrow c = ltb-false _ _ (sym c.width_over.ensures ∙ c.if-width_over.false)
 
 past_end : tie.Need-returns-then-before-sheet
 past_end c = take_short _ _ _ (omega arith)
@@ -28,12 +25,12 @@ take-at-requires c κs = search (rules, narrow c)
 
 short : tie.Need-returns-in-Refused
 short c =
-    let args = (start c).args in
+    let args = c.args in
     part-short args.sheet.now args.at args.width (omega arith) _ _ (stopped _ _ _ c.take_at-taken.ensures c.in-Refused.is)
 
 too_far : tie.Need-returns-then-at-width
 too_far c =
-    let args = (start c).args in
+    let args = c.args in
     inr (
       omega arith,
       part-within args.sheet.now args.at args.width (omega arith) _ _ (took _ _ _ c.take_at-taken.ensures c.in-Value.is),
@@ -41,7 +38,7 @@ too_far c =
 
 value : tie.Need-returns-else-at-width
 value c =
-    let args = (start c).args in
+    let args = c.args in
     part-value args.sheet.now args.at args.width (omega arith) _ _ (took _ _ _ c.take_at-taken.ensures c.in-Value.is)
 
 pub read_at_spec : {M : Type 1} → statement M

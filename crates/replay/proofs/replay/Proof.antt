@@ -18,7 +18,7 @@ decreases-loop fd sort body₀ out₀ differing₀ turn₀ body out differing tu
 
 loop-again : tie.Need-loop-preserved invariant-loop decreases-loop
 loop-again c =
-    let kept = c.before.before.before.compare_record.auto in
+    let kept = c.before.before.before.compare-record.auto in
     ⊎_elim (λ w. omega (arith, kept)) (λ w. omega (arith, kept)) c.match.branch
 
 pub replay-spec : {M : Type 1} → statement M

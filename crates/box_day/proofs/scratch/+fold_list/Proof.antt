@@ -36,18 +36,18 @@ pub +fold_list_spec : {M : Type 1} → statement M
 )
     (fold-list-at t)
     fold-list.Post
-    (λ c. omega (arith, c.before.if1.true, c.before.before.before.before.before.before.before.requires.1.0.1))
+    (λ c. omega (arith, c.if-room-list.true, c.requires.1.0.1))
     (λ c κs.
-    let pre = c.before.before.before.before.before.before.before.requires in
-    (omega (arith, pre.0, c.before.if1.true, pre.1.1), (pre.1.0, omega (arith, pre.1.1))))
+    let pre = c.requires in
+    (omega (arith, pre.0, c.if-room-list.true, pre.1.1), (pre.1.0, omega (arith, pre.1.1))))
     (λ c. search rules)
     (λ c. search rules)
-    (λ c κs. (c.before.before.before.before.before.before.before.before.requires.1.0.0, omega (arith, c.before.if2.true)))
+    (λ c κs. (c.requires.1.0.0, omega (arith, c.if-list-le4.true)))
     (λ c. search rules)
     (λ c. search rules)
-    (λ c κs. (c.before.before.before.before.before.before.before.before.before.requires.1.0.0, omega (arith, c.before.if3.true)))
+    (λ c κs. (c.requires.1.0.0, omega (arith, c.if-list-le12.true)))
     (λ c. search rules)
     (λ c. search rules)
-    (λ c κs. c.before.before.before.before.before.before.before.before.before.requires.1.0)
+    (λ c κs. c.requires.1.0)
     (λ c. search rules)
     (λ c. search rules)

@@ -17,19 +17,19 @@ use Rattle.convert.proofs.rule.move_counts.Statement.{statement}
 use Rattle.convert.proofs.rule.move_counts.Tie as tie
 
 -- the counts that were read
-read : (c : tie.After-known-told) → let entry = c.before.before.before.before.before.before in let v = c.before.counts.given.0 in
+read : (c : tie.In-Counts) → let entry = c in let v = c.counts-1.given.0 in
     (counts (as_form entry.args.form) sheet_limits).read (sheet_bits entry.args.sheet.now) entry.args.at
     ≡ got (v.0, (v.1.0, (v.1.1.0, (v.1.1.1.0, v.1.1.1.1.0)))) v.1.1.1.1.1.0
-read c = took-counts _ _ _ _ _ _ _ c.before.before.before.counts_at.ensures c.before.counts.given.1
+read c = took-counts _ _ _ _ _ _ _ c.counts_at-counts.ensures c.in-Counts.is
 
 -- as the writer takes them
-same : (c : tie.After-item-counts) → let told = c.before.before.before.before.before.before in let v = told.before.counts.given.0 in
-    counts_of (c.before.before.before.before.before.u64_to_u16.result ∷ c.before.before.before.before.u64-to-u162.result
-    ∷ c.before.before.before.u64-to-u163.result ∷ c.before.before.u64-to-u164.result ∷ []) v.1.1.1.1.0
+same : (c : tie.After-item_counts-1) → let told = c in let v = told.before.counts.given.0 in
+    counts_of (c.u64_to_u16.result ∷ c.u64_to_u16-in-Counts.result
+    ∷ c.u64_to_u16-in-Counts-2.result ∷ c.u64_to_u16-in-Counts-3.result ∷ []) v.1.1.1.1.0
     ≡ (v.0, (v.1.0, (v.1.1.0, (v.1.1.1.0, v.1.1.1.1.0))))
 same c =
-    row_counts _ _ _ _ _ _ _ _ _ c.before.before.before.before.before.u64_to_u16.ensures c.before.before.before.before.u64-to-u162.ensures
-    c.before.before.before.u64-to-u163.ensures c.before.before.u64-to-u164.ensures
+    row_counts _ _ _ _ _ _ _ _ _ c.u64_to_u16.ensures c.u64_to_u16-in-Counts.ensures
+    c.u64_to_u16-in-Counts-2.ensures c.u64_to_u16-in-Counts-3.ensures
 
 put-counts-requires : tie.Need-put_counts-requires
 put-counts-requires c κs =

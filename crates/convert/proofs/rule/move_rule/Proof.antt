@@ -18,41 +18,31 @@ use Rattle.convert.proofs.Parts.{counts-there, body-there, body-size, reaches}
 use Rattle.convert.proofs.rule.move_rule.Statement.{statement}
 use Rattle.convert.proofs.rule.move_rule.Tie as tie
 
--- where the function begins; its sheet is bytes, and the rule reaches no further than that
-abbrev start : tie.After-shared-slice-known → tie.Start
-start c = c.before
-
-bytes : (c : tie.After-shared-slice-known) → Bytes (start c).args.sheet.now
-bytes c = known_bytes (start c).args.sheet.now (λ j. omega (arith, c.shared-slice-known.given j))
+bytes : (c : tie.After-shared_slice_known-1) → Bytes c.args.sheet.now
+bytes c = known_bytes c.args.sheet.now (λ j. omega (arith, c.shared_slice_known-1.given j))
 
 move-title-requires : tie.Need-move_title-counts_place-requires
 move-title-requires c κs =
-    let entry = start c in
-    let pre = entry.pre in
-    ((pre.0.0.0, pre.0.1), (pre.1.0, room-first _ _ (room_as (rule-split (as_form entry.args.to) _) pre.1.1)))
+    let pre = c.pre in
+    ((pre.0.0.0, pre.0.1), (pre.1.0, room-first _ _ (room_as (rule-split (as_form c.args.to) _) pre.1.1)))
 
 move-counts-requires : tie.Need-move_counts-body_place-requires
 move-counts-requires c κs =
-    let entry = start c in
-    let a = entry.args in
-    let pre = entry.pre in
+    let a = c.args in
+    let pre = c.pre in
     let rest = room-rest c.move_title-counts_place.ensures _ (room_as (rule-split (as_form a.to) _) pre.1.1) in (
       (_, _, counts-there _ a.sheet.now (bytes c) a.at pre.0.0.0 _ (ap (a.at +◌) c.title_width.ensures.0), room-first _ _ rest),
       omega (arith, pre.0.1, c.title_width.ensures.1),
     )
 
--- from where the items are copied back to where the counts were written, to the title, and to the sheet
-abbrev counted : tie.After-head-width → tie.After-move-counts
-counted c = c.before.before.before
+abbrev titled : tie.After-head_width → tie.After-move_title-counts_place
+titled c = c
 
-abbrev titled : tie.After-head-width → tie.After-move-title
-titled c = (counted c).before.before.before.before.before
-
-abbrev shared : tie.After-head-width → tie.After-shared-slice-known
+abbrev shared : tie.After-head_width → tie.After-shared_slice_known-1
 shared c = (titled c).before.before.before
 
 -- the items stand from the head's end up to the rule's
-body-low : (c : tie.After-head-width) → let a = (start (shared c)).args in
+body-low : (c : tie.After-head_width) → let a = (start (shared c)).args in
     (a.at + c.head_width.result ≤ a.end) × (a.end ≤ 8 * length a.sheet.now) × (a.end < 2 ^ 26)
     × (a.end - (a.at + c.head_width.result) ≡ length (body_bits (rule_read_at (as_form a.form) (sheet_bits a.sheet.now) a.at)))
 body-low c =
@@ -73,8 +63,8 @@ copy-bits-requires c κs =
     let entry = start (shared c) in
     let a = entry.args in
     let low = body-low c in
-    let counts = (counted c).move_counts.ensures _ _
-    (counts-there _ a.sheet.now (bytes (shared c)) a.at entry.pre.0.0.0 _ (ap (a.at +◌) (counted c).before.before.title_width.ensures.0)) in
+    let counts = c.move_counts-body_place.ensures _ _
+    (counts-there _ a.sheet.now (bytes (shared c)) a.at entry.pre.0.0.0 _ (ap (a.at +◌) c.title_width.ensures.0)) in
     let rest = room-rest counts _ (room-rest (titled c).move_title.ensures _ (room_as (rule-split (as_form a.to) _) entry.pre.1.1)) in
     (omega (arith, low.0, low.1), omega (arith, rest.inside, low.3), omega (arith, low.0, low.2), omega (arith, rest.low, low.3))
 
@@ -82,8 +72,8 @@ add-result : tie.Need-overflow_add-result
 add-result c =
     let entry = start (shared c) in
     let a = entry.args in
-    let counts = (counted c).move_counts.ensures _ _
-    (counts-there _ a.sheet.now (bytes (shared c)) a.at entry.pre.0.0.0 _ (ap (a.at +◌) (counted c).before.before.title_width.ensures.0)) in
+    let counts = c.move_counts-body_place.ensures _ _
+    (counts-there _ a.sheet.now (bytes (shared c)) a.at entry.pre.0.0.0 _ (ap (a.at +◌) c.title_width.ensures.0)) in
     let rest = room-rest counts _ (room-rest (titled c).move_title.ensures _ (room_as (rule-split (as_form a.to) _) entry.pre.1.1)) in
     omega (arith, rest.low, (body-low c).3)
 
@@ -92,8 +82,8 @@ returns c =
     let entry = start (shared c) in
     let a = entry.args in
     let low = body-low c in
-    let counts = (counted c).move_counts.ensures _ _
-    (counts-there _ a.sheet.now (bytes (shared c)) a.at entry.pre.0.0.0 _ (ap (a.at +◌) (counted c).before.before.title_width.ensures.0)) in
+    let counts = c.move_counts-body_place.ensures _ _
+    (counts-there _ a.sheet.now (bytes (shared c)) a.at entry.pre.0.0.0 _ (ap (a.at +◌) c.title_width.ensures.0)) in
     let body = body-there _ a.sheet.now (bytes (shared c)) a.at entry.pre.0.0.0 _ _ _ (ap (a.at +◌) c.head_width.ensures.0) entry.pre.0.0.1 refl in
     wrote_as (rule-split (as_form a.to) _)
     (wrote_then (titled c).move_title.ensures

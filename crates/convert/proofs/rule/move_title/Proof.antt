@@ -19,21 +19,16 @@ use Rattle.convert.proofs.Parts.{kinds-there, comment-there, reaches}
 use Rattle.convert.proofs.rule.move_title.Statement.{statement}
 use Rattle.convert.proofs.rule.move_title.Tie as tie
 
--- the room in front of the comment, and behind it
-abbrev known : tie.After-copy-bits → tie.After-shared-slice-known
-known c = c.before.before.before
-
-copied : (c : tie.After-copy-bits) → let a = (known c).before.args in
+copied : (c : tie.After-copy_bits) → let a = c.args in
     (mid : List ℕ) → sheet_bits mid ≡ sets (sheet_bits a.out.now) a.place (take 4 (drop a.at (sheet_bits a.sheet.now)))
     → Wrote a.out.now a.place (kind_bits (rule_read_at (as_form a.form) (sheet_bits a.sheet.now) a.at)) mid (a.place + 4)
 copied c mid e =
-    let entry = (known c).before in
-    let a = entry.args in
+    let a = c.args in
     let r = rule_read_at (as_form a.form) (sheet_bits a.sheet.now) a.at in
-    let bytes = known_bytes a.sheet.now (λ j. omega (arith, (known c).shared-slice-known.given j)) in
+    let bytes = known_bytes a.sheet.now (λ j. omega (arith, c.shared_slice_known-1.given j)) in
     record {
       behind = omega (arith, kinds-length r);
-      stored = e ∙ ap (sets (sheet_bits a.out.now) a.place) (kinds-there _ a.sheet.now bytes a.at entry.pre.0.0);
+      stored = e ∙ ap (sets (sheet_bits a.out.now) a.place) (kinds-there _ a.sheet.now bytes a.at c.pre.0.0);
     }
 
 copy-bits-requires : tie.Need-copy_bits-requires
@@ -47,44 +42,39 @@ copy-bits-requires c κs =
 
 field-at-requires : tie.Need-field_at-requires
 field-at-requires c κs =
-    let shared = known c in
-    let entry = shared.before in
-    let a = entry.args in
-    let bytes = known_bytes a.sheet.now (λ j. omega (arith, shared.shared-slice-known.given j)) in
-    let reach = reaches _ a.sheet.now bytes a.at entry.pre.0.0 (narrow a.form) entry.pre.0.1 in
+    let a = c.args in
+    let bytes = known_bytes a.sheet.now (λ j. omega (arith, c.shared_slice_known-1.given j)) in
+    let reach = reaches _ a.sheet.now bytes a.at c.pre.0.0 (narrow a.form) c.pre.0.1 in
     let width = c.comment_width-2.ensures in
-    (omega (arith, width.1), omega (arith, entry.pre.0.1), omega (arith, reach.0, reach.1, width.0))
+    (omega (arith, width.1), omega (arith, c.pre.0.1), omega (arith, reach.0, reach.1, width.0))
 
 -- the field that is read is the comment
-comment : (c : tie.After-field-at) → let a = (known c.before.before.before.before.before.before).before.args in
+comment : (c : tie.After-field_at) → let a = c.args in
     c.field_at.result ≡ (rule_read_at (as_form a.form) (sheet_bits a.sheet.now) a.at).state.comment
 comment c =
-    let shared = known c.before.before.before.before.before.before in
-    let entry = shared.before in
-    let a = entry.args in
-    let bytes = known_bytes a.sheet.now (λ j. omega (arith, shared.shared-slice-known.given j)) in
-    c.field_at.ensures ∙ ap (field_at (sheet_bits a.sheet.now) (a.at + 4)) c.before.comment-width2.ensures.0
-    ∙ comment-there _ a.sheet.now bytes a.at entry.pre.0.0
+    let a = c.args in
+    let bytes = known_bytes a.sheet.now (λ j. omega (arith, c.shared_slice_known-1.given j)) in
+    c.field_at.ensures ∙ ap (field_at (sheet_bits a.sheet.now) (a.at + 4)) c.comment_width-2.ensures.0
+    ∙ comment-there _ a.sheet.now bytes a.at c.pre.0.0
 
 -- and so it is written in the other width
-rewritten : (c : tie.After-field-at) → let a = (known c.before.before.before.before.before.before).before.args in
+rewritten : (c : tie.After-field_at) → let a = c.args in
     bits (as_form a.to).comment (rule_read_at (as_form a.form) (sheet_bits a.sheet.now) a.at).state.comment
-    ≡ bits c.before.before.comment_width.result c.field_at.result
-rewritten c = ap₂ bits (sym c.before.before.comment_width.ensures.0) (sym (comment c))
+    ≡ bits c.comment_width.result c.field_at.result
+rewritten c = ap₂ bits (sym c.comment_width.ensures.0) (sym (comment c))
 
 put-requires : tie.Need-put-requires
 put-requires c κs =
-    let entry = (known c).before in
-    let a = entry.args in
+    let a = c.args in
     let r = rule_read_at (as_form a.form) (sheet_bits a.sheet.now) a.at in
     let width = c.comment_width.ensures in
-    let whole = room_as (title-split (as_form a.to) r) entry.pre.1.1 in
-    let low : c.field_at.result < 2 ^ c.comment_width.result = rw (comment c, width.0) entry.pre.1.0 in
+    let whole = room_as (title-split (as_form a.to) r) c.pre.1.1 in
+    let low : c.field_at.result < 2 ^ c.comment_width.result = rw (comment c, width.0) c.pre.1.0 in
     ((omega (arith, width.1), low), room_as (rewritten c) (room-rest (copied c _ c.copy_bits.ensures) _ whole))
 
 returns : tie.Need-returns
 returns c =
-    let a = (known c).before.args in
+    let a = c.args in
     let r = rule_read_at (as_form a.form) (sheet_bits a.sheet.now) a.at in
     wrote_as (title-split (as_form a.to) r) (wrote_then (copied c _ c.copy_bits.ensures) (wrote_as (rewritten c) c.put.ensures))
 

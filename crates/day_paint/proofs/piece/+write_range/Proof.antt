@@ -102,68 +102,35 @@ pub +write_range_spec : {M : Type 1} → statement M
     -- what lies to its left
     (λ c. search rules)
     (λ c κs.
-    let later = c.before.before in
-    let began = later.before in
-    let some = began.before.before in
-    let last = some.before in
-    let on = last.before.before.loop.invariant in
-    let pre = last.before.before.before.before.before.before.requires in
-    let few = fewer-still _ _ _ _ _ _ _ _ _ _ _ _ on _ last.last_meeting.ensures in
-    let room = left-room _ _ _ _ _ _ _ _ _ _ _ _ on _ last.last_meeting.ensures some.if1.false _ began.stroke_start.ensures later.if2.true in
-    (omega (arith, few, pre.0, some.if1.false), (omega (arith, few, pre.1.0), room.0, room.1)))
+    let on = c.loop-from.invariant in
+    let pre = c.requires in
+    let few = fewer-still _ _ _ _ _ _ _ _ _ _ _ _ on _ c.last_meeting-below.ensures in
+    let room = left-room _ _ _ _ _ _ _ _ _ _ _ _ on _ c.last_meeting-below.ensures c.if-below-eq0.false _ c.stroke_start.ensures c.if2.true in
+    (omega (arith, few, pre.0, c.if-below-eq0.false), (omega (arith, few, pre.1.0), room.0, room.1)))
     (λ c.
-    let later = c.before.before.before.before.before.before.before in
-    let turn = later.before.before.before.before.before in
-    omega (arith, later.if2.true, turn.loop-test.true))
+    omega (arith, c.if2.true, c.loop-from-test.true))
     (λ c.
-    let laid = c.before.before.before.before in
-    let later = laid.before.before.before in
-    let began = later.before in
-    let some = began.before.before in
-    let last = some.before in
-    let loop = last.before.before in
-    left-on _ _ _ _ _ _ _ _ _ _ _ _ loop.loop.invariant _ last.last_meeting.ensures some.if1.false _ began.stroke_start.ensures
-    later.if2.true _ _ _ laid.write_range.ensures (laid.write_range.auto.0, laid.write_range.auto.1.0))
+    left-on _ _ _ _ _ _ _ _ _ _ _ _ c.loop-from.invariant _ c.last_meeting-below.ensures c.if-below-eq0.false _ c.stroke_start.ensures
+    c.if2.true _ _ _ c.write_range.ensures (c.write_range.auto.0, c.write_range.auto.1.0))
     -- its own piece
     (λ c κs. search rules)
     (λ c κs.
-    let now = c.before.before.before in
-    let began = now.before in
-    let some = began.before.before in
-    let last = some.before in
-    let loop = last.before.before in
     let room =
-    own_room _ _ _ _ _ _ _ _ _ _ _ _ loop.loop.invariant _ last.last_meeting.ensures some.if1.false _ began.stroke_start.ensures
-    (omega (arith, now.if2.false)) _ _ _ refl refl refl in
+    own_room _ _ _ _ _ _ _ _ _ _ _ _ c.loop-from.invariant _ c.last_meeting-below.ensures c.if-below-eq0.false _ c.stroke_start-start.ensures
+    (omega (arith, c.if-from-start.false)) _ _ _ refl refl refl in
     (omega (arith, room.0), omega (arith, room.1)))
     (λ c. search rules)
     (λ c κs. search rules)
     (λ c κs. search rules)
     (λ c.
-    let ended = c.before in
-    let stated = ended.before.before.before.before.before.before in
-    let now = stated.before.before.before in
-    let began = now.before in
-    let some = began.before.before in
-    let last = some.before in
-    let turn = last.before in
-    let loop = turn.before in
-    let beyond = shows-on _ _ _ _ _ _ _ _ _ _ _ _ loop.loop.invariant _ last.last_meeting.ensures some.if1.false _ began.stroke_start.ensures
-    (omega (arith, now.if2.false)) _ _ _ stated.stroke_state.ensures ended.stroke_end.ensures c.earlier_of.ensures in
-    omega (arith, beyond, turn.loop-test.true))
+    let beyond = shows-on _ _ _ _ _ _ _ _ _ _ _ _ c.loop-from.invariant _ c.last_meeting-below.ensures c.if-below-eq0.false _ c.stroke_start-start.ensures
+    (omega (arith, c.if-from-start.false)) _ _ _ c.stroke_state.ensures c.stroke_end.ensures c.earlier_of.ensures in
+    omega (arith, beyond, c.loop-from-test.true))
     (λ c.
-    let ended = c.before in
-    let put = ended.before.before.before.before.before in
-    let stated = put.before in
-    let now = stated.before.before.before in
-    let began = now.before in
-    let some = began.before.before in
-    let last = some.before in
-    let loop = last.before.before in
-    own_on _ _ _ _ _ _ _ _ _ _ _ _ loop.loop.invariant _ last.last_meeting.ensures some.if1.false _ began.stroke_start.ensures
-    (omega (arith, now.if2.false)) _ _ _ stated.stroke_state.ensures ended.stroke_end.ensures c.earlier_of.ensures _ _ _
-    put.put-piece2.ensures (put.put-piece2.auto.0, put.put-piece2.auto.1.0))
+    own_on _ _ _ _ _ _ _ _ _ _ _ _ c.loop-from.invariant _ c.last_meeting-below.ensures c.if-below-eq0.false _ c.stroke_start-start.ensures
+    (omega (arith, c.if-from-start.false)) _ _ _ c.stroke_state.ensures c.stroke_end.ensures c.earlier_of.ensures _ _ _
+    c.put_piece-place.ensures (c.put_piece-place.auto.0, c.put_piece-place.auto.1.0))
     -- nothing is left
-    (λ c. c.before.loop.invariant.lengths.0)
-    (λ c. c.before.loop.invariant.lengths.1)
-    (λ c. nothing_left _ _ _ _ _ _ _ _ _ _ _ _ c.before.loop.invariant (omega arith))
+    (λ c. c.loop-from.invariant.lengths.0)
+    (λ c. c.loop-from.invariant.lengths.1)
+    (λ c. nothing_left _ _ _ _ _ _ _ _ _ _ _ _ c.loop-from.invariant (omega arith))

@@ -20,26 +20,26 @@ invariant-loop runs₀ sizes counts rows cuts ranges dimension count first end r
 abbrev decreases-loop : tie.decreases-loop-range
 decreases-loop runs₀ sizes counts rows cuts ranges dimension count first end range₀ runs range = count - range
 
-abbrev start : tie.After-u16-to-usize3 invariant-loop decreases-loop → tie.Start invariant-loop decreases-loop
+abbrev start : tie.After-u16_to_usize invariant-loop decreases-loop → tie.Start invariant-loop decreases-loop
 start size = size.before.before.before.before.before.before.before.before.before.before.before.before
 
 -- the dimension's row of cuts
-abbrev first : tie.After-u16-to-usize3 invariant-loop decreases-loop → tie.After-u16-to-usize2 invariant-loop decreases-loop
+abbrev first : tie.After-u16_to_usize invariant-loop decreases-loop → tie.After-u16_to_usize-first invariant-loop decreases-loop
 first size = size.before.before
 
-row_in : (size : tie.After-u16-to-usize3 invariant-loop decreases-loop) → (first size).u16-to-usize2.result + size.u16-to-usize3.result < length (start size).args.cuts.now
+row_in : (size : tie.After-u16_to_usize invariant-loop decreases-loop) → (first size).u16-to-usize2.result + size.u16-to-usize3.result < length (start size).args.cuts.now
 row_in size =
     let pre = (start size).requires in
     omega (arith, pre.0.row _ pre.1.0.0, (first size).u16-to-usize2.ensures.0, size.u16-to-usize3.ensures.0)
 
-rise : (size : tie.After-u16-to-usize3 invariant-loop decreases-loop)
+rise : (size : tie.After-u16_to_usize invariant-loop decreases-loop)
     → Rising (start size).args.cuts.now (first size).u16-to-usize2.result ((first size).u16-to-usize2.result + size.u16-to-usize3.result)
 rise size k low high =
     let pre = (start size).requires in
     let a = (start size).args in
     row-rising-at a.row_starts.now a.sizes.now a.cuts.now _ pre.0.rising a.dimension pre.1.0.0 _ _ (first size).u16-to-usize2.ensures.0 size.u16-to-usize3.ensures.0 k low (omega arith)
 
-few-ranges : (size : tie.After-u16-to-usize3 invariant-loop decreases-loop) → (first size).before.before.u16_to_usize.result * 2 ≤ range_places
+few-ranges : (size : tie.After-u16_to_usize invariant-loop decreases-loop) → (first size).before.before.u16_to_usize.result * 2 ≤ range_places
 few-ranges size =
     let pre = (start size).requires in
     omega (arith, pre.0.count (start size).args.dimension pre.1.0.0, (first size).before.before.u16_to_usize.ensures.0)

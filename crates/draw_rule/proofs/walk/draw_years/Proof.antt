@@ -15,7 +15,7 @@ invariant-loop cells₀ lists₀ memo₀ sizes counts runs rule replaces before 
 abbrev decreases-loop : tie.decreases-loop-node
 decreases-loop cells₀ lists₀ memo₀ sizes counts runs rule replaces before first end count drawn₀ node₀ range₀ cells lists memo drawn node range = (end - node) * 65536 + (count - range)
 
-abbrev start : tie.After-u16-to-usize invariant-loop decreases-loop → tie.Start invariant-loop decreases-loop
+abbrev start : tie.After-u16_to_usize-count invariant-loop decreases-loop → tie.Start invariant-loop decreases-loop
 start count = count.before.before.before.before.before.before.before.before
 
 pub draw_years_spec : {M : Type 1} → statement M

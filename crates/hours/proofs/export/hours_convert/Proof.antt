@@ -7,18 +7,15 @@ use Rattle.hours.proofs.Lent.{too_short, has_room, long-enough}
 use Rattle.hours.proofs.export.hours_convert.Statement.{statement}
 use Rattle.hours.proofs.export.hours_convert.Tie as tie
 
-abbrev start : tie.After-lacks-room → tie.Start
-start c = c.before.before.before.before
-
 put-written-requires : tie.Need-put_written-requires
 put-written-requires c κs =
-    has_room 3 (length (start c).args.lent.now) _ c.lacks_room.ensures c.if-lacks_room.false
+    has_room 3 (length c.args.lent.now) _ c.lacks_room.ensures c.if-lacks_room.false
 
 returns-2 : tie.Need-returns
 returns-2 c =
     let answer = c.convert.ensures in (
-      long-enough 3 (length (start c).args.lent.now) _ c.lacks_room.ensures c.if-lacks_room.false,
-      c.Put-written.ensures ∙ ap (λ n. buffer n (start c).args.lent.now) answer.0,
+      long-enough 3 (length c.args.lent.now) _ c.lacks_room.ensures c.if-lacks_room.false,
+      c.Put-written.ensures ∙ ap (λ n. buffer n c.args.lent.now) answer.0,
       answer.1,
     )
 
@@ -26,5 +23,5 @@ pub hours_convert_spec : {M : Type 1} → statement M
 hours_convert_spec =
     tie.close
     (tie.spec (λ c κs. search rules)
-    (λ c. (too_short 3 (length (start c).args.lent.now) _ c.lacks_room.ensures c.if-lacks_room.true, refl, refl))
+    (λ c. (too_short 3 (length c.args.lent.now) _ c.lacks_room.ensures c.if-lacks_room.true, refl, refl))
     (λ c κs. search rules) put-written-requires (λ c. search rules) (λ c. search rules) returns-2)

@@ -7,18 +7,15 @@ use Rattle.hours.proofs.Lent.{too_short, has_room, long-enough}
 use Rattle.hours.proofs.export.put_fold.Statement.{statement}
 use Rattle.hours.proofs.export.put_fold.Tie as tie
 
-abbrev start : tie.After-lacks-room → tie.Start
-start c = c.before.before.before.before
-
 put-folded-requires : tie.Need-put_folded-requires
 put-folded-requires c κs =
-    has_room 7 (length (start c).args.lent.now) _ c.lacks_room.ensures c.if-lacks_room.false
+    has_room 7 (length c.args.lent.now) _ c.lacks_room.ensures c.if-lacks_room.false
 
 returns-2 : tie.Need-returns
 returns-2 c =
     let answer = c.fold_by.ensures in (
-      long-enough 7 (length (start c).args.lent.now) _ c.lacks_room.ensures c.if-lacks_room.false,
-      c.put_folded.ensures ∙ ap (λ n. buffer n (start c).args.lent.now) answer.0,
+      long-enough 7 (length c.args.lent.now) _ c.lacks_room.ensures c.if-lacks_room.false,
+      c.put_folded.ensures ∙ ap (λ n. buffer n c.args.lent.now) answer.0,
       answer.1,
     )
 
@@ -26,5 +23,5 @@ pub put_fold_spec : {M : Type 1} → statement M
 put_fold_spec =
     tie.close
     (tie.spec (λ c κs. search rules)
-    (λ c. (too_short 7 (length (start c).args.lent.now) _ c.lacks_room.ensures c.if-lacks_room.true, refl, refl))
+    (λ c. (too_short 7 (length c.args.lent.now) _ c.lacks_room.ensures c.if-lacks_room.true, refl, refl))
     (λ c κs. search rules) put-folded-requires (λ c. search rules) (λ c. search rules) returns-2)

@@ -12,29 +12,25 @@ use Rattle.hours.proofs.Checked.{rules-read, converts-read, convert-refused}
 use Rattle.hours.proofs.in_form.convert.Statement.{statement}
 use Rattle.hours.proofs.in_form.convert.Tie as tie
 
--- where the function begins, and that the sheet is of bytes
-abbrev start : tie.After-check → tie.Start
-start c = c.before.before.before.before.before
-
-bytes : (c : tie.After-check) → Bytes (start c).args.sheet.now
-bytes c = known_bytes (start c).args.sheet.now (λ j. omega (arith, c.before.before.before.before.shared-slice-known.given j))
+bytes : (c : tie.After-check-checked) → Bytes c.args.sheet.now
+bytes c = known_bytes c.args.sheet.now (λ j. omega (arith, c.shared_slice_known-1.given j))
 
 convert-rules-requires : tie.Need-convert_rules-requires
 convert-rules-requires c κs =
-    rules-read _ _ _ c.check.ensures.0 _ _ c.check.ensures.1 (start c).requires (bytes c) (narrow (start c).args.form) _ _
-    c.checked.given.1
+    rules-read _ _ _ c.check-checked.ensures.0 _ _ c.check-checked.ensures.1 c.requires (bytes c) (narrow c.args.form) _ _
+    c.in-Rules.is
 
 returns : tie.Need-returns-in-Rules
 returns c =
-    let a = (start c).args in
-    let read = rules-read _ _ _ c.check.ensures.0 _ _ c.check.ensures.1 (start c).requires (bytes c) (narrow a.form) _ _
-    c.checked.given.1 in
+    let a = c.args in
+    let read = rules-read _ _ _ c.check-checked.ensures.0 _ _ c.check-checked.ensures.1 c.requires (bytes c) (narrow a.form) _ _
+    c.in-Rules.is in
     let same = converts-read _ _ a.sheet.now (length a.out.now) read.0 _ read.1.0.read in
     of-same written_numbers (λ w. w.result) _ same (c.convert_rules.ensures read.0 read.1.0 read.1.1)
 
 returns-2 : tie.Need-returns-in-Refused
 returns-2 c =
-    let a = (start c).args in
+    let a = c.args in
     let same = convert-refused _ a.sheet.now _ c.check-checked.ensures.0 _ (length a.out.now) _ _ c.in-Refused.is in
     of-same written_numbers (λ w. w.result) a.out.now same (refl, refl)
 

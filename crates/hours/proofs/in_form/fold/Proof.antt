@@ -9,21 +9,17 @@ use Rattle.hours.proofs.Checked.{rules-read, sheet-refused}
 use Rattle.hours.proofs.in_form.fold.Statement.{statement}
 use Rattle.hours.proofs.in_form.fold.Tie as tie
 
--- where the function begins, and that the sheet is of bytes
-abbrev start : tie.After-check → tie.Start
-start c = c.before.before.before.before.before
-
-bytes : (c : tie.After-check) → Bytes (start c).args.sheet.now
-bytes c = known_bytes (start c).args.sheet.now (λ j. omega (arith, c.before.before.before.before.shared-slice-known.given j))
+bytes : (c : tie.After-check-checked) → Bytes c.args.sheet.now
+bytes c = known_bytes c.args.sheet.now (λ j. omega (arith, c.shared_slice_known-1.given j))
 
 fold-rules-requires : tie.Need-fold_rules-requires
 fold-rules-requires c κs =
-    rules-read _ _ _ c.check.ensures.0 _ _ c.check.ensures.1 (start c).requires (bytes c) (narrow (start c).args.form) _ _
-    c.checked.given.1
+    rules-read _ _ _ c.check-checked.ensures.0 _ _ c.check-checked.ensures.1 c.requires (bytes c) (narrow c.args.form) _ _
+    c.in-Rules.is
 
 returns-2 : tie.Need-returns-in-Refused
 returns-2 c =
-    let a = (start c).args in
+    let a = c.args in
     let refusal = sheet-refused _ a.sheet.now _ c.check-checked.ensures.0 _ _ c.in-Refused.is in
     answers.sheet-refused _ a.sheet.now a.out.now _ _ _ refusal c.fold_refused.ensures
 

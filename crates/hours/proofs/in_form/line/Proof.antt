@@ -12,28 +12,24 @@ use Rattle.hours.proofs.Checked.{line-begins, line_read, line_refused}
 use Rattle.hours.proofs.in_form.line.Statement.{statement}
 use Rattle.hours.proofs.in_form.line.Tie as tie
 
--- where the function begins, and that the sheet is of bytes
-abbrev start : tie.After-check → tie.Start
-start c = c.before.before.before.before.before
-
-bytes : (c : tie.After-check) → Bytes (start c).args.sheet.now
-bytes c = known_bytes (start c).args.sheet.now (λ j. omega (arith, c.before.before.before.before.shared-slice-known.given j))
+bytes : (c : tie.After-check-checked) → Bytes c.args.sheet.now
+bytes c = known_bytes c.args.sheet.now (λ j. omega (arith, c.shared_slice_known-1.given j))
 
 line-of-requires : tie.Need-line_of-requires
 line-of-requires c κs =
-    line-begins _ _ _ c.check.ensures.0 (narrow (start c).args.form) (bytes c) _ _ c.check.ensures.1 (start c).requires _ _
-    c.checked.given.1
+    line-begins _ _ _ c.check-checked.ensures.0 (narrow c.args.form) (bytes c) _ _ c.check-checked.ensures.1 c.requires _ _
+    c.in-Rules.is
 
 returns : tie.Need-returns-in-Rules
 returns c =
-    let a = (start c).args in
-    let same = line_read _ a.sheet.now _ c.check.ensures.0 (narrow a.form) (bytes c) _ _ c.check.ensures.1 (start c).requires _ _
-    c.checked.given.1 (length a.out.now) in
+    let a = c.args in
+    let same = line_read _ a.sheet.now _ c.check-checked.ensures.0 (narrow a.form) (bytes c) _ _ c.check-checked.ensures.1 c.requires _ _
+    c.in-Rules.is (length a.out.now) in
     of-same written_numbers (λ w. w.result) _ (sym same) c.Line-of.ensures
 
 returns-2 : tie.Need-returns-in-Refused
 returns-2 c =
-    let a = (start c).args in
+    let a = c.args in
     let same = line_refused _ a.sheet.now _ c.check-checked.ensures.0 (length a.out.now) _ _ c.in-Refused.is in
     of-same written_numbers (λ w. w.result) a.out.now same (refl, refl)
 

@@ -10,22 +10,18 @@ use Rattle.hours.proofs.Checked.{rules-read, sheet-refused}
 use Rattle.hours.proofs.in_form.lookup.Statement.{statement}
 use Rattle.hours.proofs.in_form.lookup.Tie as tie
 
--- where the function begins, and that the sheet is of bytes
-abbrev start : tie.After-check → tie.Start
-start c = c.before.before.before.before
-
-bytes : (c : tie.After-check) → Bytes (start c).args.sheet.now
-bytes c = known_bytes (start c).args.sheet.now (λ j. omega (arith, c.before.before.before.shared-slice-known.given j))
+bytes : (c : tie.After-check-checked) → Bytes c.args.sheet.now
+bytes c = known_bytes c.args.sheet.now (λ j. omega (arith, c.shared_slice_known-1.given j))
 
 look-rules-requires : tie.Need-look_rules-requires
 look-rules-requires c κs =
-    let rules = rules-read _ _ _ c.check.ensures.0 _ _ c.check.ensures.1 (start c).requires (bytes c) (narrow (start c).args.form) _ _
-    c.checked.given.1 in
+    let rules = rules-read _ _ _ c.check-checked.ensures.0 _ _ c.check-checked.ensures.1 c.requires (bytes c) (narrow c.args.form) _ _
+    c.in-Rules.is in
     (rules.0, (_, rules.1))
 
 returns-2 : tie.Need-returns-in-Refused
 returns-2 c =
-    let a = (start c).args in
+    let a = c.args in
     let refusal = sheet-refused _ a.sheet.now _ c.check-checked.ensures.0 _ _ c.in-Refused.is in
     c.lookup_refused.ensures ∙ sym (look-refused _ a.sheet.now a.year a.month a.day a.minute _ _ refusal)
 

@@ -39,21 +39,18 @@ pub +look_boxes_spec : {M : Type 1} → statement M
     look-boxes.Post
     (λ c κs. search rules)
     (λ c.
-    let sized = c.before in
-    let pre = sized.before.before.before.before.before.before.before.before.before.before.requires in
-    omega (arith, c.if1.true, sized.type_size.ensures, pre.1.0.1.to-draw.passed.few-boxes))
+    let pre = c.requires in
+    omega (arith, c.if-room-size_of.true, c.type_size.ensures, pre.1.0.1.to-draw.passed.few-boxes))
     (λ c κs.
-    let sized = c.before in
-    let pre = sized.before.before.before.before.before.before.before.before.before.before.requires in
+    let pre = c.requires in
     let few = pre.1.0.1.to-draw.passed.few-boxes in
-    (omega (arith, c.if1.true, sized.type_size.ensures, few, pre.0, pre.1.1.1), (pre.1.0, (pre.1.1.0, omega (arith, pre.1.1.1)))))
+    (omega (arith, c.if-room-size_of.true, c.type_size.ensures, few, pre.0, pre.1.1.1), (pre.1.0, (pre.1.1.0, omega (arith, pre.1.1.1)))))
     (λ c. search rules)
     (λ c κs.
-    let sized = c.before.before in
-    let pre = sized.before.before.before.before.before.before.before.before.before.before.requires in
-    (pre.1.0, (pre.1.1.0, omega (arith, c.if2.true, c.before.if1.false, sized.type_size.ensures))))
+    let pre = c.requires in
+    (pre.1.0, (pre.1.1.0, omega (arith, c.if-room-le16.true, c.if-room-size_of.false, c.type_size.ensures))))
     (λ c. search rules)
     (λ c κs.
-    let pre = c.before.before.before.before.before.before.before.before.before.before.before.before.requires in
+    let pre = c.requires in
     (pre.1.0, pre.1.1.0))
     (λ c. search rules)

@@ -27,7 +27,7 @@ look-requires : tie.Need-look-requires
 look-requires c κs =
     let pre = c.requires in
     let given = pre.0.1.to-draw in
-    let held = listing-held _ _ _ _ _ _ _ (c.draw_rules.ensures _ (given.drawable, given.passed.apart)) _ c.in-Held.is in
+    let held = listing-held _ _ _ _ _ _ _ (c.draw_rules-listed.ensures _ (given.drawable, given.passed.apart)) _ c.in-Held.is in
     ((_, _, given.times, held.1), pre.1.0)
 
 returns-2 : tie.Need-returns-in-Refused
@@ -40,7 +40,7 @@ returns-2 c =
 returns-3 : tie.Need-returns-else-rules_left-gt0
 returns-3 c =
     λ rs given.
-    let told = c.draw_rules.ensures _ (given.to-draw.drawable, given.to-draw.passed.apart) in
+    let told = c.draw_rules-listed.ensures _ (given.to-draw.drawable, given.to-draw.passed.apart) in
     let held = listing-held _ _ _ _ _ _ _ told _ c.in-Held.is in
     state-found rs _ _ _ given.to-draw.passed.apart (boxes-few _ _ _ _ _ _ _ _ _ _ given.to-draw) held.0
     (omega (arith, c.if-rules_left-gt0.false, given.counted, given.to-draw.times.all-states))

@@ -16,15 +16,11 @@ use Rattle.lookup.proofs.Lookable.{lookable-days, lookable-rules}
 use Rattle.lookup.proofs.point.look_drained.Statement.{statement}
 use Rattle.lookup.proofs.point.look_drained.Tie as tie
 
--- from where no list can be refused back to where the function begins
-abbrev start : tie.Else1 → tie.Start
-start c = c.before.before.before.before.before.before.before.before.before.before.before
-
 -- neither 6 nor 14 is met
-none-met : (c : tie.Else1) → let a = (start c).args in (rs : List Rule)
+none-met : (c : tie.Else-not-few_lists) → let a = c.args in (rs : List Rule)
     → Lookable a.states.now a.span_counts.now a.spans.now a.replacing.now a.range_counts.now a.ranges.now a.row_starts.now a.sizes.now a.cuts.now a.rules_left rs
     → first_refused sheet_limits (drained rs) ≡ none
-none-met c rs given = c.before.few_lists.ensures (not-false _ c.if1.left) _ (lookable-days _ _ _ _ _ _ _ _ _ _ rs given)
+none-met c rs given = c.few_lists.ensures (not-false _ c.if-not-few_lists.left) _ (lookable-days _ _ _ _ _ _ _ _ _ _ rs given)
 
 returns-2 : tie.Need-returns-then-rules_left-gt0
 returns-2 c =
@@ -32,7 +28,7 @@ returns-2 c =
     left-refused rs _ _ _ given.to-draw.passed.apart (boxes-few _ _ _ _ _ _ _ _ _ _ given.to-draw) (none-met c rs given)
     (omega (arith, c.if-rules_left-gt0.taken, given.counted, given.to-draw.times.all-states)) c.lookup_refused.ensures
 
-returns-3 : tie.Need-returns
+returns-3 : tie.Need-returns-then-not-few_lists
 returns-3 c =
     λ rs given.
     state-found rs _ _ _ given.to-draw.passed.apart (boxes-few _ _ _ _ _ _ _ _ _ _ given.to-draw) (none-met c rs given)
@@ -45,5 +41,5 @@ look_drained_spec =
     (tie.spec
     (λ c κs. let given = c.pre.0 in (_, lookable-days _ _ _ _ _ _ _ _ _ _ _ given.1))
     (λ c κs. search rules) (λ c. search rules) (λ c κs. search rules) returns-2
-    (λ c κs. let given = (start c).pre.0 in (_, lookable-rules _ _ _ _ _ _ _ _ _ _ _ given.1))
+    (λ c κs. let given = c.pre.0 in (_, lookable-rules _ _ _ _ _ _ _ _ _ _ _ given.1))
     (λ c κs. search rules) returns-3)

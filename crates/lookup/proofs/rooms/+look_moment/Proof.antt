@@ -41,25 +41,24 @@ pub +look_moment_spec : {M : Type 1} → statement M
     (look-moment-at t)
     look-moment.Post
     (λ c.
-    let known = c.before.before in
-    omega (arith, c.if1.true, read-few _ _ _ _ (λ j. omega (arith, known.shared-slice-known.given j)) known.before.requires.1.0))
+    omega (arith, c.if-room-count.true, read-few _ _ _ _ (λ j. omega (arith, c.shared_slice_known-1.given j)) c.requires.1.0))
     (λ c κs.
-    let pre = c.before.before.before.requires in
-    (omega (arith, c.if1.true, pre.0, pre.1.1.1), (pre.1.0, (pre.1.1.0, omega (arith, pre.1.1.1)))))
+    let pre = c.requires in
+    (omega (arith, c.if-room-count.true, pre.0, pre.1.1.1), (pre.1.0, (pre.1.1.0, omega (arith, pre.1.1.1)))))
     (λ c. search rules)
     (λ c κs.
-    let pre = c.before.before.before.before.requires in
-    (pre.1.0, (pre.1.1.0, omega (arith, c.if2.true, c.before.if1.false))))
+    let pre = c.requires in
+    (pre.1.0, (pre.1.1.0, omega (arith, c.if-room-le4.true, c.if-room-count.false))))
     (λ c. search rules)
     (λ c κs.
-    let pre = c.before.before.before.before.before.requires in
-    (pre.1.0, (pre.1.1.0, omega (arith, c.if3.true, c.before.before.if1.false))))
+    let pre = c.requires in
+    (pre.1.0, (pre.1.1.0, omega (arith, c.if-room-le32.true, c.if-room-count.false))))
     (λ c. search rules)
     (λ c κs.
-    let pre = c.before.before.before.before.before.before.requires in
-    (pre.1.0, (pre.1.1.0, omega (arith, c.if4.true, c.before.before.before.if1.false))))
+    let pre = c.requires in
+    (pre.1.0, (pre.1.1.0, omega (arith, c.if-room-le64.true, c.if-room-count.false))))
     (λ c. search rules)
     (λ c κs.
-    let pre = c.before.before.before.before.before.before.requires in
+    let pre = c.requires in
     (pre.1.0, pre.1.1.0))
     (λ c. search rules)

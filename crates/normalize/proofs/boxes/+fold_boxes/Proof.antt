@@ -50,49 +50,40 @@ pub +fold_boxes_spec : {M : Type 1} → statement M
 )
     (fold-boxes-at t)
     fold-boxes.Post
-    (λ c κs. let cut = c.before.before.before.before.before.before.before.before.before.before.before.requires.1.0.1.to-draw in search (rules, cut))
+    (λ c κs. let cut = c.requires.1.0.1.to-draw in search (rules, cut))
     (λ c.
-    let sized = c.before.before in
-    let pre = sized.before.before.before.before.before.before.before.before.before.before.before.before.requires in
-    omega (arith, c.before.if1.true, sized.type_size.ensures, pre.1.0.1.to-draw.passed.few-boxes))
+    let pre = c.requires in
+    omega (arith, c.if-room-boxes.true, c.type_size.ensures, pre.1.0.1.to-draw.passed.few-boxes))
     (λ c κs.
-    let sized = c.before.before in
-    let pre = sized.before.before.before.before.before.before.before.before.before.before.before.before.requires in
+    let pre = c.requires in
     let few = pre.1.0.1.to-draw.passed.few-boxes in
-    (omega (arith, pre.0, c.before.if1.true, sized.type_size.ensures, few, pre.1.1), (pre.1.0, omega (arith, pre.1.1))))
+    (omega (arith, pre.0, c.if-room-boxes.true, c.type_size.ensures, few, pre.1.1), (pre.1.0, omega (arith, pre.1.1))))
     (λ c. search rules)
     (λ c. search rules)
     (λ c κs.
-    let sized = c.before.before.before.before in
-    let pre = sized.before.before.before.before.before.before.before.before.before.before.before.before.requires in
-    (pre.1.0, omega (arith, c.before.if3.true, sized.type_size.ensures)))
+    let pre = c.requires in
+    (pre.1.0, omega (arith, c.if-boxes-le64.true, c.type_size.ensures)))
     (λ c. search rules)
     (λ c. search rules)
-    (λ c κs. c.before.before.before.before.before.before.before.before.before.before.before.before.before.before.before.before.requires.1.0)
+    (λ c κs. c.requires.1.0)
     (λ c. search rules)
     (λ c. search rules)
     (λ c κs. search rules)
     (λ c κs.
-    let wanted = c.before.before in
-    let sized = wanted.before.before.before in
-    let pre = sized.before.before.before.before.before.before.before.before.before.before.before.before.requires in
-    (pre.1.0, omega (arith, c.before.if4.true, wanted.buffers_for.ensures, sized.type_size.ensures)))
+    let pre = c.requires in
+    (pre.1.0, omega (arith, c.if-wanted-le16.true, c.buffers_for-wanted.ensures, c.type_size.ensures)))
     (λ c. search rules)
     (λ c. search rules)
     (λ c κs.
-    let wanted = c.before.before.before in
-    let sized = wanted.before.before.before in
-    let pre = sized.before.before.before.before.before.before.before.before.before.before.before.before.requires in
-    (pre.1.0, omega (arith, c.before.if5.true, wanted.buffers_for.ensures, sized.type_size.ensures)))
+    let pre = c.requires in
+    (pre.1.0, omega (arith, c.if-wanted-le256.true, c.buffers_for-wanted.ensures, c.type_size.ensures)))
     (λ c. search rules)
     (λ c. search rules)
     (λ c κs.
-    let wanted = c.before.before.before.before in
-    let sized = wanted.before.before.before in
-    let pre = sized.before.before.before.before.before.before.before.before.before.before.before.before.requires in
-    (pre.1.0, omega (arith, c.before.if6.true, wanted.buffers_for.ensures, sized.type_size.ensures)))
+    let pre = c.requires in
+    (pre.1.0, omega (arith, c.if-wanted-le1024.true, c.buffers_for-wanted.ensures, c.type_size.ensures)))
     (λ c. search rules)
     (λ c. search rules)
-    (λ c κs. c.before.before.before.before.before.before.before.before.before.before.before.before.before.before.before.before.before.before.before.requires.1.0)
+    (λ c κs. c.requires.1.0)
     (λ c. search rules)
     (λ c. search rules)

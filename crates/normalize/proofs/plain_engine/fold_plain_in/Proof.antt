@@ -12,7 +12,7 @@ pave-requires c κs =
 write-paved-requires : tie.Need-write_paved-requires
 write-paved-requires c κs =
     let given = c.requires.0 in
-    (given.0, to_write _ _ _ _ _ _ _ _ _ _ _ _ _ _ _ _ given.1 (c.pave.ensures _ given.1.to-draw))
+    (given.0, to_write _ _ _ _ _ _ _ _ _ _ _ _ _ _ _ _ given.1 (c.pave-paved.ensures _ given.1.to-draw))
 
 pub fold_plain_in_spec : {M : Type 1} → statement M
 fold_plain_in_spec =

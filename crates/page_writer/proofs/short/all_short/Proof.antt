@@ -27,10 +27,10 @@ module _ (c : tie.In-loop invariant-loop decreases-loop) where
       PageReady given.0 given.1 given.2 given.3 entry.args.lists.now entry.args.pages.now day_room c.before.loop.here
   here-ready = let given = entry.pre in next-ready c.before.loop.invariant c.loop-test.true given.4
 
-named : (c : tie.After-u16-to-usize invariant-loop decreases-loop) → c.u16_to_usize.result - 1 ≡ get_or (entry c.before.before).args.pages.now c.before.before.before.loop.here 0 - 1
+named : (c : tie.After-u16_to_usize-place invariant-loop decreases-loop) → c.u16_to_usize.result - 1 ≡ get_or (entry c.before.before).args.pages.now c.before.before.before.loop.here 0 - 1
 named c = ap (◌- 1) c.u16_to_usize.ensures.0
 
-inside : (c : tie.After-u16-to-usize invariant-loop decreases-loop) → (c.u16_to_usize.result - 1) * list_places + list_places ≤ length (entry c.before.before).args.lists.now
+inside : (c : tie.After-u16_to_usize-place invariant-loop decreases-loop) → (c.u16_to_usize.result - 1) * list_places + list_places ≤ length (entry c.before.before).args.lists.now
 inside c = omega (arith, named c, (here-ready c.before.before).ready.there)
 
 loop-again : tie.Need-loop-pages_left-preserved invariant-loop decreases-loop

@@ -66,12 +66,12 @@ loop-holds c =
 
 add-is-good : tie.Need-overflow_add-block invariant-loop decreases-loop
 add-is-good c =
-    let inv = c.loop.invariant in
+    let inv = c.loop-interval.invariant in
     omega (arith, room-node _ _ _ _ _ _ (room-child _ _ _ _ _ _ _ _ inv.1 c.loop-interval-test.true inv.2), c.well_formed)
 
 add-is-good-2 : tie.Need-overflow_add-base invariant-loop decreases-loop
 add-is-good-2 c =
-    let inv = c.loop.invariant in
+    let inv = c.loop-interval.invariant in
     omega (arith, room-marks _ _ _ _ _ _ _ inv.1 inv.2, inv.0, c.well_formed)
 
 add-marks : tie.Need-overflow_add-marks invariant-loop decreases-loop
@@ -84,7 +84,7 @@ slice-write-marks c =
 
 loop-again : tie.Need-loop-interval-preserved invariant-loop decreases-loop
 loop-again c =
-    let inv = c.loop.invariant in (
+    let inv = c.loop-interval.invariant in (
       simp length-set inv.0,
       inv.1,
       simp length-set inv.2,

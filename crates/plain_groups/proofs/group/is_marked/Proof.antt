@@ -53,9 +53,9 @@ returns c =
 
 add-place : tie.Need-overflow_add-place invariant-loop decreases-loop
 add-place c =
-    let l = c.loop.dimension in
+    let l = c.loop-dimension.dimension in
     let on = c.loop-dimension-test.true in
-    omega (arith, width-next c.args.sizes.now (l - 1) l (omega (arith, on)), c.u16_to_usize.ensures.0, c.loop.invariant.1, c.requires.1, c.well_formed)
+    omega (arith, width-next c.args.sizes.now (l - 1) l (omega (arith, on)), c.u16_to_usize.ensures.0, c.loop-dimension.invariant.1, c.requires.1, c.well_formed)
 
 loop-again : tie.Need-loop-dimension-preserved invariant-loop decreases-loop
 loop-again c =

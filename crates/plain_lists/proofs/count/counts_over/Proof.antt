@@ -17,13 +17,13 @@ abbrev decreases-loop : tie.decreases-loop-box_index
 decreases-loop lists kinds₀ boxes count₀ box₀ kinds count box = boxes - box
 
 -- from where the kinds are counted back to where a box was noted, to the loop's turn, and to where the function begins
-abbrev noted : tie.After-lists-over invariant-loop decreases-loop → tie.After-note invariant-loop decreases-loop
+abbrev noted : tie.After-lists_over invariant-loop decreases-loop → tie.After-note-count invariant-loop decreases-loop
 noted c = c.before.before.before
 
-abbrev turn : tie.After-note invariant-loop decreases-loop → tie.In-loop invariant-loop decreases-loop
+abbrev turn : tie.After-note-count invariant-loop decreases-loop → tie.In-loop-box_index invariant-loop decreases-loop
 turn c = c.before.before
 
-abbrev start : tie.In-loop invariant-loop decreases-loop → tie.Start invariant-loop decreases-loop
+abbrev start : tie.In-loop-box_index invariant-loop decreases-loop → tie.Start invariant-loop decreases-loop
 start c = c.before.before.before.before
 
 pub counts_over_spec : {M : Type 1} → statement M

@@ -21,13 +21,13 @@ abbrev decreases-loop : tie.decreases-loop-kind
 decreases-loop lists kinds count box kind₀ kind = count - kind
 
 -- from where a kind's list was compared back to the loop's turn
-abbrev turn : tie.After-same-list invariant-loop decreases-loop → tie.In-loop invariant-loop decreases-loop
+abbrev turn : tie.After-same_list invariant-loop decreases-loop → tie.In-loop-kind invariant-loop decreases-loop
 turn c = c.before.before.before
 
-abbrev start : tie.In-loop invariant-loop decreases-loop → tie.Start invariant-loop decreases-loop
+abbrev start : tie.In-loop-kind invariant-loop decreases-loop → tie.Start invariant-loop decreases-loop
 start c = c.before.before.before.before
 
-compared : (c : tie.After-same-list invariant-loop decreases-loop) → let a = (start (turn c)).args in
+compared : (c : tie.After-same_list invariant-loop decreases-loop) → let a = (start (turn c)).args in
     c.same_list.result ≡ same_list eqb (list_of a.lists.now (get_or a.kinds.now (turn c).before.loop.kind 0)) (list_of a.lists.now a.box_index)
 compared c =
     let a = (start (turn c)).args in

@@ -5,13 +5,6 @@ use Rattle.plain_lists.proofs.Counting.{kinds-empty, kinds-known, kinds-new}
 use Rattle.plain_lists.proofs.count.note.Statement.{statement}
 use Rattle.plain_lists.proofs.count.note.Tie as tie
 
--- from where the list was asked back to where it is known not to be empty, and to where the function begins
-abbrev filled : tie.After-is-known → tie.Else1
-filled c = c.before.before
-
-abbrev start : tie.Else1 → tie.Start
-start c = c.before.before.before.before
-
 pub note_spec : {M : Type 1} → statement M
 note_spec =
     tie.close
@@ -21,12 +14,11 @@ note_spec =
     (λ c. omega (arith, (c.requires.0.each c.args.box_index (omega arith)).room))
     (λ c. (omega arith, kinds-empty _ _ _ _ c.requires.2 c.if-lists-box_index-eq0.true))
     (λ c κs.
-    let pre = (start c).requires in
-    (pre.0.each (start c).args.box_index (omega arith), omega (arith, pre.1), λ k l. pre.0.each _ (omega (arith, pre.2.names k l))))
+    let pre = c.requires in
+    (pre.0.each c.args.box_index (omega arith), omega (arith, pre.1), λ k l. pre.0.each _ (omega (arith, pre.2.names k l))))
     (λ c. search rules)
-    (λ c. (omega arith, kinds-known _ _ _ _ (start (filled c)).requires.2 _ c.is_Known.ensures c.if-is_known.true))
-    (λ c. let entry = start (filled c) in omega (arith, entry.pre.0.few-boxes))
+    (λ c. (omega arith, kinds-known _ _ _ _ c.requires.2 _ c.is_Known.ensures c.if-is_known.true))
+    (λ c. omega (arith, c.pre.0.few-boxes))
     (λ c. search rules) (λ c. search rules) (λ c. search rules) (λ c. search rules)
     (λ c.
-    let entry = start (filled c) in
-    (omega arith, kinds-new _ _ _ _ entry.pre.2 _ c.is_Known.ensures c.if-is_known.false (filled c).if1.false entry.pre.1)))
+    (omega arith, kinds-new _ _ _ _ c.pre.2 _ c.is_Known.ensures c.if-is_known.false c.if-lists-box_index-eq0.false c.pre.1)))

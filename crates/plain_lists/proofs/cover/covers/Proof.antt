@@ -16,13 +16,13 @@ abbrev decreases-loop : tie.decreases-loop-dimension
 decreases-loop rows sizes cuts counts ranges rule box dimension₀ dimension = 4 - dimension
 
 -- from the loop's turn back to where the function begins; and to the turn from where the box's interval, and the answer about it, are known
-abbrev start : tie.In-loop invariant-loop decreases-loop → tie.Start invariant-loop decreases-loop
+abbrev start : tie.In-loop-dimension invariant-loop decreases-loop → tie.Start invariant-loop decreases-loop
 start c = c.before.before.before.before.before.before.before
 
-abbrev placed : tie.After-digit invariant-loop decreases-loop → tie.In-loop invariant-loop decreases-loop
+abbrev placed : tie.After-digit invariant-loop decreases-loop → tie.In-loop-dimension invariant-loop decreases-loop
 placed c = c.before.before.before
 
-abbrev asked : tie.After-holds-in invariant-loop decreases-loop → tie.After-digit invariant-loop decreases-loop
+abbrev asked : tie.After-holds_in invariant-loop decreases-loop → tie.After-digit invariant-loop decreases-loop
 asked c = c.before.before
 
 -- the cut that is read stands in its row

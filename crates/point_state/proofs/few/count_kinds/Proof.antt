@@ -19,24 +19,24 @@ abbrev decreases-loop : tie.decreases-loop-column
 decreases-loop marks₀ row-starts cuts range-counts ranges rules dimension size first kinds₀ column₀ marks kinds column = size - column
 
 -- from the loop's turn back to where the row's first place is known, and to where the function begins
-abbrev placed : tie.In-loop invariant-loop decreases-loop → tie.After-u16-to-usize invariant-loop decreases-loop
+abbrev placed : tie.In-loop-column invariant-loop decreases-loop → tie.After-u16_to_usize-first invariant-loop decreases-loop
 placed c = c.before.before
 
-abbrev start : tie.After-u16-to-usize invariant-loop decreases-loop → tie.Start invariant-loop decreases-loop
+abbrev start : tie.After-u16_to_usize-first invariant-loop decreases-loop → tie.Start invariant-loop decreases-loop
 start c = c.before.before.before.before.before.before.before
 
 -- and to the turn from where a column's marks, and whether they were seen, are known
-abbrev marked : tie.After-marks-of invariant-loop decreases-loop → tie.In-loop invariant-loop decreases-loop
+abbrev marked : tie.After-marks_of invariant-loop decreases-loop → tie.In-loop-column invariant-loop decreases-loop
 marked c = c.before.before
 
-abbrev seen : tie.After-seen-before invariant-loop decreases-loop → tie.After-marks-of invariant-loop decreases-loop
+abbrev seen : tie.After-seen_before invariant-loop decreases-loop → tie.After-marks_of invariant-loop decreases-loop
 seen c = c.before.before
 
 -- the column's marks are put into the buffer
-abbrev after : tie.After-marks-of invariant-loop decreases-loop → List ℕ
+abbrev after : tie.After-marks_of invariant-loop decreases-loop → List ℕ
 after c = set (marked c).before.loop.marks (marked c).before.loop.column c.marks_of.result
 
-marks-put : (c : tie.After-marks-of invariant-loop decreases-loop) → let turn = marked c in let a = (start (placed turn)).args in
+marks-put : (c : tie.After-marks_of invariant-loop decreases-loop) → let turn = marked c in let a = (start (placed turn)).args in
     Marked a.range_counts.now a.ranges.now a.rules a.row_starts.now a.cuts.now a.dimension (after c) (turn.before.loop.column + 1)
 marks-put c =
     let turn = marked c in

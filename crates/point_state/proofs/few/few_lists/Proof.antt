@@ -1,4 +1,4 @@
--- `point_state::few::few_lists` meets its contract: too many rules are not counted further, and few boxes, or few combinations of kinds, have few lists.
+-- `point_state::few::few_lists` meets its contract: too rules.before.before.before.before are not counted further, and few boxes, or few combinations of kinds, have few lists.
 use mathlib.Core.Path.{sym, ◌∙◌}
 use mathlib.Core.Bool.{true≢false}
 use mathlib.Core.List.{[], ◌∷◌}
@@ -15,51 +15,30 @@ use Rattle.point_state.proofs.FewLists.{four-sizes, four_products, few-none}
 use Rattle.point_state.proofs.few.few_lists.Statement.{statement}
 use Rattle.point_state.proofs.few.few_lists.Tie as tie
 
--- ## Places of the code
-abbrev start : tie.Else1 → tie.Start
-start c = c.before.before.before.before.before.before
-
--- where there are many boxes
-abbrev boxes : tie.Else2 → tie.Else1
-boxes c = c.before.before.before
-
-all_there : (c : tie.Else2) → AllThere (start (boxes c)).args.range_counts.now (start (boxes c)).args.ranges.now (start (boxes c)).args.rules
-all_there c = let given = (start (boxes c)).pre in ranges-there _ _ _ given.0 given.1.days
-
--- from where all four kinds are known back to each of them, and to where there are many boxes
-abbrev weeks : tie.After-kinds-in4 → tie.After-kinds-in3
-weeks c = c.before
-
-abbrev months : tie.After-kinds-in4 → tie.After-kinds-in2
-months c = c.before.before
-
-abbrev years : tie.After-kinds-in4 → tie.After-kinds-in
-years c = c.before.before.before
-
-abbrev many : tie.After-kinds-in4 → tie.Else2
-many c = c.before.before.before.before
+all_there : (c : tie.Else-not-lists_over) → AllThere c.args.range_counts.now c.args.ranges.now c.args.rules
+all_there c = let given = c.pre in ranges-there _ _ _ given.0 given.1.days
 
 -- ## What is needed there
-kinds-there : (c : tie.Else2) → let a = (start (boxes c)).args in (i : ℕ) → i < 4
+kinds-there : (c : tie.Else-not-lists_over) → let a = c.args in (i : ℕ) → i < 4
     → (AllThere a.range_counts.now a.ranges.now a.rules × (i < 4) × (a.rules ≤ 32))
     × ((i < length a.row_starts.now) × (i < length a.sizes.now) × (get_or a.row_starts.now i 0 + get_or a.sizes.now i 0 < length a.cuts.now))
 kinds-there c i h =
-    let cut = (start (boxes c)).pre.1.cut in
-    ((all_there c, h, (boxes c).if1.left), (omega (arith, cut.all-rows), omega (arith, cut.four), cut.inside i h))
+    let cut = c.pre.1.cut in
+    ((all_there c, h, c.if-rules-gt32.left), (omega (arith, cut.all-rows), omega (arith, cut.four), cut.inside i h))
 
-products : (c : tie.After-kinds-in4) → let a = (years c).kinds_in.result in let b = (months c).kinds-in2.result in let d = (weeks c).kinds-in3.result in
-    (b * a < 2 ^ 64) × (d * (b * a) < 2 ^ 64) × (c.kinds-in4.result * (d * (b * a)) < 2 ^ 64)
-products c = four_products _ _ _ _ (years c).kinds_in.ensures.0 (months c).kinds-in2.ensures.0 (weeks c).kinds-in3.ensures.0 c.kinds-in4.ensures.0
+products : (c : tie.After-kinds_in-weekdays) → let a = c.kinds_in-years.result in let b = c.kinds_in-months.result in let d = c.kinds_in-weeks.result in
+    (b * a < 2 ^ 64) × (d * (b * a) < 2 ^ 64) × (c.kinds_in-weekdays.result * (d * (b * a)) < 2 ^ 64)
+products c = four_products _ _ _ _ c.kinds_in-years.ensures.0 c.kinds_in-months.ensures.0 c.kinds_in-weeks.ensures.0 c.kinds_in-weekdays.ensures.0
 
 pub few_lists_spec : {M : Type 1} → statement M
 few_lists_spec =
     tie.close
     (tie.spec
     (λ c. λ e. absurd (true≢false (sym e)))
-    (λ c κs. let given = (start c).pre.1 in (omega (arith, given.cut.four), given.cut.filled, omega (arith, given.few-boxes)))
+    (λ c κs. let given = c.pre.1 in (omega (arith, given.cut.four), given.cut.filled, omega (arith, given.few-boxes)))
     (λ c κs. search rules)
     (λ c.
-    λ _ rs given. few-none _ _ _ _ _ _ rs given (start c).args.sizes.now (omega (arith, given.cut.four)) (λ i l. kinds-all _ _ _ _ _ _ _) (omega (arith, c.if-rules-gt32.left))
+    λ _ rs given. few-none _ _ _ _ _ _ rs given c.args.sizes.now (omega (arith, given.cut.four)) (λ i l. kinds-all _ _ _ _ _ _ _) (omega (arith, c.if-rules-gt32.left))
     (omega (arith, ltb-false sheet_limits.lists c.type_size.result (sym c.lists_over.ensures ∙ not-true _ c.if-not-lists_over.taken), c.type_size.ensures)))
     (λ c κs. kinds-there c 0 (omega arith))
     (λ c κs. kinds-there c 1 (omega arith))
@@ -68,10 +47,10 @@ few_lists_spec =
     (λ c. search (rules, (products c).0)) (λ c. search (rules, (products c).1)) (λ c. search (rules, (products c).2))
     (λ c κs. search rules)
     (λ c.
-    let y = (years c).kinds_in in
-    let m = (months c).kinds-in2 in
-    let w = (weeks c).kinds-in3 in
+    let y = c.kinds_in-years in
+    let m = c.kinds_in-months in
+    let w = c.kinds_in-weeks in
     let d = c.kinds_in-weekdays in
     λ e rs given. few-none _ _ _ _ _ _ rs given (y.result ∷ m.result ∷ w.result ∷ d.result ∷ []) (omega arith)
-    (four-kinds _ _ _ _ (start (boxes (many c))).args.sizes.now _ _ _ _ _ y.ensures.1 m.ensures.1 w.ensures.1 d.ensures.1) (omega (arith, (boxes (many c)).if1.left))
+    (four-kinds _ _ _ _ c.args.sizes.now _ _ _ _ _ y.ensures.1 m.ensures.1 w.ensures.1 d.ensures.1) (omega (arith, c.if-rules-gt32.left))
     (omega (arith, four-sizes y.result m.result w.result d.result, ltb-false sheet_limits.lists (d.result * (w.result * (m.result * y.result))) (sym c.lists_over-2.ensures ∙ not-true _ e)))))

@@ -15,11 +15,11 @@ abbrev decreases-loop : tie.decreases-loop-rule
 decreases-loop range-counts ranges rules dimension value marks₀ rule₀ marks rule = rules - rule
 
 -- from the loop's turn back to where the function begins
-abbrev start : tie.In-loop invariant-loop decreases-loop → tie.Start invariant-loop decreases-loop
+abbrev start : tie.In-loop-rule invariant-loop decreases-loop → tie.Start invariant-loop decreases-loop
 start c = c.before.before.before.before
 
 -- the marks have room for one more
-fits : (c : tie.In-loop invariant-loop decreases-loop) → c.before.loop.marks < 2 ^ 32
+fits : (c : tie.In-loop-rule invariant-loop decreases-loop) → c.before.loop.marks < 2 ^ 32
 fits c =
     let a = (start c).args in
     omega (

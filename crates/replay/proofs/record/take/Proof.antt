@@ -17,7 +17,7 @@ in-front n front rest h = prefix_len_of_le n (front ++ rest) (omega (arith, leng
 returns-2 : tie.Need-returns-2
 returns-2 c =
     let args = c.before.before.before.before.before.before.args in
-    in-front _ c.before.before.read_full.new.1.0 (drop args.size args.buffer.now) c.before.before.read_full.ensures.0
+    in-front _ c.before.before.read-full.new.1.0 (drop args.size args.buffer.now) c.before.before.read-full.ensures.0
 
 pub take_spec : {M : Type 1} → statement M
 take_spec =

@@ -41,7 +41,7 @@ loop-holds c =
     )
 
 -- there is a place for this one
-placed : (c : tie.In-loop invariant-loop decreases-loop) → let old = c.before.loop in old.i < length old.begins
+placed : (c : tie.In-loop-i invariant-loop decreases-loop) → let old = c.before.loop in old.i < length old.begins
 placed c =
     let loop = c.before in
     let old = loop.loop in

@@ -8,8 +8,8 @@ use Rattle.stopping.proofs.Items.{days-stand}
 use Rattle.stopping.proofs.part.of_days.Statement.{statement}
 use Rattle.stopping.proofs.part.of_days.Tie as tie
 
-standing : (c : tie.After-every-week) → let a = c.before.before.args in days_reason a.offset a.from_start a.from_end ≡ cond c.every_week.result 0 8
-standing c = let a = c.before.before.args in days-stand a.offset a.from_start a.from_end _ c.before.if1.true c.every_week.ensures
+standing : (c : tie.After-every_week) → let a = c.args in days_reason a.offset a.from_start a.from_end ≡ cond c.every_week.result 0 8
+standing c = let a = c.args in days-stand a.offset a.from_start a.from_end _ c.if-offset-eq0.true c.every_week.ensures
 
 pub of_days_spec : {M : Type 1} → statement M
 of_days_spec =

@@ -10,17 +10,17 @@ use Rattle.stopping.proofs.rule.body_reason.Statement.{statement}
 use Rattle.stopping.proofs.rule.body_reason.Tie as tie
 
 -- how far the rows reach
-years-end : (c : tie.After-row-reason) → c.row_reason.result.at ≤ c.before.before.args.at + c.before.before.args.years * 52
-years-end c = row-reached _ _ _ _ _ c.row_reason.ensures
+years-end : (c : tie.After-row_reason-first) → c.row_reason-first.result.at ≤ c.args.at + c.args.years * 52
+years-end c = row-reached _ _ _ _ _ c.row_reason-first.ensures
 
-monthdays-end : (c : tie.After-row-reason2) → c.row-reason2.result.at ≤ c.before.row_reason.result.at + c.before.before.before.args.monthdays * 52
-monthdays-end c = row-reached _ _ _ _ _ c.row-reason2.ensures
+monthdays-end : (c : tie.After-row_reason-second) → c.row_reason-second.result.at ≤ c.row_reason-first.result.at + c.args.monthdays * 52
+monthdays-end c = row-reached _ _ _ _ _ c.row_reason-second.ensures
 
-weeks-end : (c : tie.After-row-reason3) → c.row-reason3.result.at ≤ c.before.row-reason2.result.at + c.before.before.before.before.args.weeks * 52
-weeks-end c = row-reached _ _ _ _ _ c.row-reason3.ensures
+weeks-end : (c : tie.After-row_reason-third) → c.row_reason-third.result.at ≤ c.row_reason-second.result.at + c.args.weeks * 52
+weeks-end c = row-reached _ _ _ _ _ c.row_reason-third.ensures
 
-weekdays-end : (c : tie.After-row-reason4) → c.row-reason4.result.at ≤ c.before.row-reason3.result.at + c.before.before.before.before.before.args.weekdays * 52
-weekdays-end c = row-reached _ _ _ _ _ c.row-reason4.ensures
+weekdays-end : (c : tie.After-row_reason-fourth) → c.row_reason-fourth.result.at ≤ c.row_reason-third.result.at + c.args.weekdays * 52
+weekdays-end c = row-reached _ _ _ _ _ c.row_reason-fourth.ensures
 
 returns : tie.Need-returns
 returns c =
