@@ -51,13 +51,13 @@ first-long-comment-requires c κs =
 -- ## A comment without room
 returns : tie.Need-returns-then-long-count
 returns c =
-    let a = (start c).args in
+    let a = (start c.before).args in
     let k = c.first_long_comment-long.result in
     λ rs read many.
-    let told = long-told _ (as_form c.other_form-to.result) a.sheet.now a.begins.now (bytes c) rs a.end a.count read many k
+    let told = long-told _ (as_form c.other_form-to.result) a.sheet.now a.begins.now (bytes c.before) rs a.end a.count read many k
     c.first_long_comment-long.ensures.0 in
     let first : first_long_comment (as_form c.other_form-to.result) rs ≡ some k = sym told ∙ ap (λ b. only_if b k) (lt-ltb k a.count c.if-long-count.taken) in
-    let answer = answered c rs (converts-not _ (length a.out.now) rs k first) in
+    let answer = answered c.before rs (converts-not _ (length a.out.now) rs k first) in
     (sym (ap written_numbers answer), sym (ap (λ w. buffer w.result a.out.now) answer))
 
 -- ## Behind that test
@@ -75,10 +75,10 @@ module _ (c : tie.Else1) where
 
 moved-bits-requires : tie.Need-moved_bits-requires
 moved-bits-requires c κs =
-    let entry = start c in
+    let entry = start c.before in
     let a = entry.args in
     let read = entry.pre.1 in
-    let whole = bytes c in (
+    let whole = bytes c.before in (
       omega (arith, (begins-long _ a.sheet.now a.begins.now whole _ _ read.0).0, read.1),
       heads-inside _ (as_form a.form) a.sheet.now a.begins.now whole _ _ a.count read.0 read.1,
       (rules-end _ a.sheet.now _ _ read.0.narrow whole read.0.read).1,
@@ -88,8 +88,8 @@ moved-bits-requires c κs =
 sized : (c : tie.After-moved_bits) (rs : List Rule) → Given c rs
     → length ((rules (as_form c.other_form-to.result) sheet_limits).write rs) ≡ c.moved_bits.result
 sized c rs given =
-    let a = (start c).args in
-    moved_length _ _ a.sheet.now a.begins.now (bytes c) rs a.end a.count given.0 given.1 _ c.moved_bits.ensures.0
+    let a = (start c.before.before).args in
+    moved_length _ _ a.sheet.now a.begins.now (bytes c.before.before) rs a.end a.count given.0 given.1 _ c.moved_bits.ensures.0
 
 -- and so many bytes
 encoded : (c : tie.After-moved_bits) (rs : List Rule) → Given c rs
@@ -99,11 +99,11 @@ encoded c rs given = encoded-length _ 0 rs (none-long c rs given) ∙ ap bytes_f
 -- ## A buffer without room
 returns-2 : tie.Need-returns-then-lacks_room
 returns-2 c =
-    let a = (start c).args in
+    let a = (start c.before.before.before.before).args in
     let lacking = ltb-true _ _ (sym c.lacks_room.ensures ∙ c.if-lacks_room.taken) in
     λ rs read many.
     let none = none-long c rs (read, many) in
-    let answer = answered c rs (converts-short _ (length a.out.now) rs none _ (encoded c rs (read, many)) lacking) in
+    let answer = answered c.before.before.before.before rs (converts-short _ (length a.out.now) rs none _ (encoded c.before.before rs (read, many)) lacking) in
     (sym (ap written_numbers answer), sym (ap (λ w. buffer w.result a.out.now) answer))
 
 -- ## Behind that test
@@ -115,50 +115,50 @@ room : (c : tie.Else-lacks_room) (rs : List Rule) → Given c rs → let first =
     let to = as_form first.before.other_form.result in let a = (start first).args in
     RoomFor (length a.out.now) 0 ((opening to sheet_limits).write a.count ++ flat_map (rule to sheet_limits).write rs)
 room c rs given =
-    let a = (start c).args in
-    room-for-all _ _ a.sheet.now a.begins.now (bytes c) rs a.end a.count given.0 given.1 _ _ (sized c rs given) (enough c)
+    let a = (start c.before.before.before.before).args in
+    room-for-all _ _ a.sheet.now a.begins.now (bytes c.before.before.before.before) rs a.end a.count given.0 given.1 _ _ (sized c.before.before rs given) (enough c)
     c.moved_bits.ensures.1
 
 put-opening-requires : tie.Need-put_opening-first-requires
 put-opening-requires c κs =
-    let entry = start c in
+    let entry = start c.before.before.before.before.before in
     let a = entry.args in
     let read = entry.pre.1 in
-    let few = (begins-long _ a.sheet.now a.begins.now (bytes c) _ _ read.0).0 in
-    (rules-fit c.other_form-to.result a.count (omega (arith, few, read.1)), room-first _ _ (room c _ read))
+    let few = (begins-long _ a.sheet.now a.begins.now (bytes c.before.before.before.before.before) _ _ read.0).0 in
+    (rules-fit c.other_form-to.result a.count (omega (arith, few, read.1)), room-first _ _ (room c.before _ read))
 
 move-rules-requires : tie.Need-move_rules-behind-requires
 move-rules-requires c κs =
-    let entry = start c in
+    let entry = start c.before.before.before.before.before.before.before.before.before in
     let read = entry.pre.1 in (
       entry.pre.0,
       read.0,
       read.1,
       all-commented _ 0 _ (none-long c _ read),
-      room-rest c.put_opening-first.ensures _ (room c _ read),
+      room-rest c.put_opening-first.ensures _ (room c.before.before.before.before.before _ read),
     )
 
 put-padding-requires : tie.Need-put_padding-requires
 put-padding-requires c κs =
-    let entry = start c in
+    let entry = start c.before.before.before.before.before.before.before.before.before.before.before.before.before in
     let read = entry.pre.1 in
     let all = wrote_then c.put_opening-first.ensures (c.move_rules-behind.ensures _ read.0 read.1) in
     let a = entry.args in
-    let long = ap length (laid _ (as_form c.other_form-to.result) a.sheet.now a.begins.now (bytes c) _ a.end a.count read.0 read.1) in
-    (omega (arith, all.behind, (room c _ read).inside, same_size all), omega (arith, all.behind, long, sized c _ read, c.moved_bits.ensures.1))
+    let long = ap length (laid _ (as_form c.other_form-to.result) a.sheet.now a.begins.now (bytes c.before.before.before.before.before.before.before.before.before.before.before.before.before) _ a.end a.count read.0 read.1) in
+    (omega (arith, all.behind, (room c.before.before.before.before.before.before.before.before.before _ read).inside, same_size all), omega (arith, all.behind, long, sized c.before.before.before.before.before.before.before.before.before.before.before _ read, c.moved_bits.ensures.1))
 
 returns-3 : tie.Need-returns
 returns-3 c =
-    let a = (start c).args in
+    let a = (start c.before.before.before.before.before.before.before.before.before.before.before.before.before.before.before.before).args in
     λ rs read many.
-    let given : Given c rs = (read, many) in
+    let given : Given c.before.before.before.before.before.before.before.before.before.before.before.before.before.before.before.before rs = (read, many) in
     let none = none-long c rs given in
-    let fine = answered c rs (converts-fine _ (length a.out.now) rs none _ (encoded c rs given) (enough c)) in
+    let fine = answered c.before.before.before.before.before.before.before.before.before.before.before.before.before.before.before.before rs (converts-fine _ (length a.out.now) rs none _ (encoded c.before.before.before.before.before.before.before.before.before.before.before.before.before.before rs given) (enough c.before.before.before.before.before.before.before.before.before.before.before.before)) in
     let behind = c.move_rules-behind.result in
-    let new = all-written _ _ a.sheet.now a.begins.now (bytes c) rs a.end a.count read many c.put_opening-first.ensures
-    (c.move_rules-behind.ensures rs read many) (record { behind = sym (padding-length behind); stored = c.put_padding.ensures.1 }) (omega (arith, sized c rs given, enough c)) (λ j. omega (arith, c.slice_known-1.given j))
+    let new = all-written _ _ a.sheet.now a.begins.now (bytes c.before.before.before.before.before.before.before.before.before.before.before.before.before.before.before.before) rs a.end a.count read many c.put_opening-first.ensures
+    (c.move_rules-behind.ensures rs read many) (record { behind = sym (padding-length behind); stored = c.put_padding.ensures.1 }) (omega (arith, sized c.before.before.before.before.before.before.before.before.before.before.before.before.before.before rs given, enough c.before.before.before.before.before.before.before.before.before.before.before.before)) (λ j. omega (arith, c.slice_known-1.given j))
     (λ j. omega (arith, c.slice_known-4-1.given j)) in (
-      ap (λ n. 0 ∷ n ∷ 0 ∷ []) (sym (encoded c rs given)) ∙ sym (ap written_numbers fine),
+      ap (λ n. 0 ∷ n ∷ 0 ∷ []) (sym (encoded c.before.before.before.before.before.before.before.before.before.before.before.before.before.before rs given)) ∙ sym (ap written_numbers fine),
       new ∙ sym (ap (λ w. buffer w.result a.out.now) fine),
     )
 

@@ -31,8 +31,8 @@ returns : tie.Need-returns
 returns c =
     let a = c.args in
     let moved : a.count * c.head_width-2.result ≡ a.count * head_width (as_form a.to) = ap (a.count *◌) c.head_width-2.ensures.0 in (
-      omega (arith, inside c, heads c, moved, c.opening_width.ensures.0, c.opening_width-2.ensures.0),
-      omega (arith, inside c, low₂ c, c.requires.2, c.opening_width-2.ensures.1),
+      omega (arith, inside c.before.before, heads c.before.before, moved, c.opening_width.ensures.0, c.opening_width-2.ensures.0),
+      omega (arith, inside c.before.before, low₂ c, c.requires.2, c.opening_width-2.ensures.1),
     )
 
 pub moved_bits_spec : {M : Type 1} → statement M

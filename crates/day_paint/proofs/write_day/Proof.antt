@@ -41,7 +41,7 @@ same-length-5 c = search rules
 same-length-6 : tie.Need-shape_of-states
 same-length-6 c = search rules
 
-returns-3 : tie.Need-returns-then-m-gt0
+returns-3 : tie.Need-returns
 returns-3 c = search rules
 
 pub write_day_spec : {M : Type 1} → statement M

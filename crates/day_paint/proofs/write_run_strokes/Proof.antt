@@ -87,7 +87,7 @@ loop-again-2 c =
 same-length-2 : tie.Need-shape_of-strokes invariant-loop decreases-loop
 same-length-2 c = c.loop-next.invariant.1
 
-returns-2 : tie.Need-returns-then-x-s invariant-loop decreases-loop
+returns-2 : tie.Need-returns invariant-loop decreases-loop
 returns-2 c = c.loop-next.invariant.2 _ _ (run_ends _ _ _ [] _ 0 _ _ _ (omega arith))
 
 pub write_run_strokes_spec : {M : Type 1} → statement M

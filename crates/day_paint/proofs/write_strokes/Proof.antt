@@ -82,7 +82,7 @@ returns c =
 same-length-2 : tie.Need-shape_of-strokes invariant-loop decreases-loop
 same-length-2 c = c.loop-next.invariant.1
 
-returns-2 : tie.Need-returns-in-loop-next invariant-loop decreases-loop
+returns-2 : tie.Need-returns invariant-loop decreases-loop
 returns-2 c = let laid = c.loop-next.invariant.2 _ _ (list-ends _ _ _ [] _ 0 _ _ (omega arith)) in (laid.0, omega (arith, laid.1))
 
 pub write_strokes_spec : {M : Type 1} → statement M

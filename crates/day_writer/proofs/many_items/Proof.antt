@@ -26,7 +26,7 @@ loop-again c =
     let counts = args.item_counts.now in
     (omega arith, sym (many-later _ counts c.loop-sort.sort (omega arith) c.if-item_counts-sort.false) ∙ c.loop-sort.invariant.1)
 
-returns-2 : tie.Need-returns-then-item_counts-sort invariant-loop decreases-loop
+returns-2 : tie.Need-returns invariant-loop decreases-loop
 returns-2 c =
     let args = c.args in
     let counts = args.item_counts.now in

@@ -32,7 +32,7 @@ returns : tie.Need-returns-then-size-gt0
 returns c =
     let a = c.args in (
       λ ends h.
-          let size = sized c ends h in (
+          let size = sized c.before.before ends h in (
             size.0,
             size.1,
             some-counted (as_form a.form) ends a.item_counts.now h (items-wide a.form) _ c.requires.1.0.carried _ size.0 c.if-size-gt0.true ∙ sym c.many_items.ensures,
@@ -45,7 +45,7 @@ returns-2 : tie.Need-returns-else-size-gt0
 returns-2 c =
     let a = c.args in (
       λ ends h.
-          let size = sized c ends h in (
+          let size = sized c.before ends h in (
             size.0,
             size.1,
             none-counted (as_form a.form) ends a.item_counts.now h (items-wide a.form) _ c.requires.1.0.carried _ size.0 (omega (arith, c.if-size-gt0.false))

@@ -55,7 +55,7 @@ write-sheet-requires c κs =
             count_fits form paged leaving m.0 m.2 c.most_rules.ensures c.if-rules-most_rules.left,
             (
               countable form paged leaving m.0 m.2 c.most_rules.ensures c.if-rules-most_rules.left,
-              (omega (arith, long, enough c), omega (arith, long, m.4, paged.few, leaving.low, opened.1)),
+              (omega (arith, long, enough c.before.before.before), omega (arith, long, m.4, paged.few, leaving.low, opened.1)),
             ),
           ),
         ),
@@ -66,7 +66,7 @@ returns-3 : tie.Need-returns
 returns-3 c =
     λ rs paged leaving. let m = c.measure_pages-measured.ensures in
     with-room c.args.form paged leaving m.0 m.1 c.opening_width.ensures.0 m.2 c.most_rules.ensures
-    c.if-rules-most_rules.left c.args.out.now _ (enough c) c.write_sheet.ensures
+    c.if-rules-most_rules.left c.args.out.now _ (enough c.before.before.before.before.before.before.before.before.before.before) c.write_sheet.ensures
 
 -- what the result takes fits a machine word
 short : (c : tie.After-opening_width)
@@ -81,7 +81,7 @@ pub emit_in_spec : {M : Type 1} → statement M
 emit_in_spec =
     tie.close
     (tie.spec measure-pages-requires add-rules (λ c κs. search rules) (λ c κs. search rules) (λ c. search rules) (λ c. search rules) returns (λ c κs. search rules)
-    (λ c. let few = short c in omega (arith, few.0)) (λ c. let few = short c in omega (arith, few.1))
-    (λ c. let few = short c in omega (arith, few.0, few.2)) (λ c. let few = short c in omega (arith, few.0, few.2))
+    (λ c. let few = short c.before in omega (arith, few.0)) (λ c. let few = short c.before in omega (arith, few.1))
+    (λ c. let few = short c.before in omega (arith, few.0, few.2)) (λ c. let few = short c.before in omega (arith, few.0, few.2))
     (λ c κs. search rules) (λ c κs. search rules) (λ c. search rules) (λ c. search rules) returns-2 write-sheet-requires (λ c. search rules) (λ c. search rules)
     (λ c. search rules) returns-3)

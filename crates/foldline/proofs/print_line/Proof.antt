@@ -9,11 +9,9 @@ use Rattle.foldline.proofs.print_line.Tie as tie
 pub print_line_spec : {M : Type 1} → statement M
 print_line_spec =
     tie.close
-    (tie.spec (λ c. sym (length-take-le _ _ (leb-true _ _ c.before.if2.true)))
+    (tie.spec (λ c. sym (length-take-le _ _ (leb-true _ _ c.if-bytes-text.true-raw)))
     (λ c κs. search rules)
-    (λ c. search rules)
     (λ c κs. search rules)
-    (λ c. search rules)
     (λ c. search rules)
     (λ c κs. search rules)
     (λ c. search rules)

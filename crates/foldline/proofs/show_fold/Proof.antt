@@ -9,9 +9,8 @@ use Rattle.foldline.proofs.show_fold.Tie as tie
 pub show_fold_spec : {M : Type 1} → statement M
 show_fold_spec =
     tie.close
-    (tie.spec (λ c. sym (length-take-le _ _ (leb-true _ _ c.before.if2.true)))
+    (tie.spec (λ c. sym (length-take-le _ _ (leb-true _ _ c.if-bytes-out.true-raw)))
     (λ c κs. search rules)
-    (λ c. search rules)
     (λ c κs. search rules)
     (λ c. search rules)
     (λ c. search rules))

@@ -10,5 +10,5 @@ pub print_result_spec : {M : Type 1} → statement M
 print_result_spec =
     tie.close
     (tie.spec
-    (λ c. sym (length-take-le _ _ (leb-true _ _ c.before.if2.true)))
-    (λ c κs. search rules) (λ c. search rules) (λ c κs. search rules) (λ c. search rules) (λ c κs. search rules) (λ c. search rules))
+    (λ c. sym (length-take-le _ _ (leb-true _ _ c.if-bytes-out.true-raw)))
+    (λ c κs. search rules) (λ c κs. search rules) (λ c κs. search rules) (λ c. search rules))

@@ -20,7 +20,7 @@ known : (c : tie.In-Known-2)
     fold_in sheet_limits entry.args.form (length entry.args.out.now) entry.args.sheet.now ≡ answer entry (as_form c.in-Known.known)
 unfolding fold_in
 known c =
-    form-known refusal (answer c) c.args.form _ c.form_of-named.ensures _ c.in-Known.is
+    form-known refusal (answer c.before.before.before.before) c.args.form _ c.form_of-named.ensures _ c.in-Known.is
 
 returns : tie.Need-returns-then-sheet-le-FEW_BYTES
 returns c =
@@ -33,7 +33,7 @@ returns-2 c =
 returns-3 : tie.Need-returns-in-Unknown
 unfolding fold_in
 returns-3 c =
-    let unknown = form-unknown refusal (answer c) c.args.form _ c.form_of-named.ensures c.in-Unknown.is in
+    let unknown = form-unknown refusal (answer c.before.before.before.before.before) c.args.form _ c.form_of-named.ensures c.in-Unknown.is in
     of-same numbers (λ w. w.result) c.args.out.now unknown (c.fold_refused.ensures, refl)
 
 pub fold_by_spec : {M : Type 1} → statement M

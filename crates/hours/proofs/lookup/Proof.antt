@@ -20,7 +20,7 @@ known : (c : tie.In-Known-2)
     lookup_in sheet_limits a.form a.sheet.now a.year a.month a.day a.minute ≡ answer entry (as_form c.in-Known.known)
 unfolding lookup_in
 known c =
-    form-known refusal (answer c) c.args.form _ c.form_of-named.ensures _ c.in-Known.is
+    form-known refusal (answer c.before.before.before) c.args.form _ c.form_of-named.ensures _ c.in-Known.is
 
 returns : tie.Need-returns-then-sheet-le-FEW_BYTES
 returns c = c.lookup.ensures ∙ sym (known c)
@@ -32,7 +32,7 @@ returns-3 : tie.Need-returns-in-Unknown
 unfolding lookup_in
 returns-3 c =
     c.lookup_refused.ensures
-    ∙ sym (form-unknown refusal (answer c) c.args.form _ c.form_of-named.ensures c.in-Unknown.is)
+    ∙ sym (form-unknown refusal (answer c.before.before.before.before) c.args.form _ c.form_of-named.ensures c.in-Unknown.is)
 
 pub lookup_spec : {M : Type 1} → statement M
 lookup_spec =

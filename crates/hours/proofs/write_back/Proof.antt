@@ -20,7 +20,7 @@ known : (c : tie.In-Known-2)
     write_back_in sheet_limits entry.args.form (length entry.args.out.now) entry.args.sheet.now ≡ answer entry (as_form c.in-Known.known)
 unfolding write_back_in
 known c =
-    form-known unwritten (answer c) c.args.form _ c.form_of-named.ensures _ c.in-Known.is
+    form-known unwritten (answer c.before.before.before.before) c.args.form _ c.form_of-named.ensures _ c.in-Known.is
 
 returns : tie.Need-returns-then-sheet-le-FEW_BYTES
 returns c =
@@ -33,7 +33,7 @@ returns-2 c =
 returns-3 : tie.Need-returns-in-Unknown
 unfolding write_back_in
 returns-3 c =
-    let unknown = form-unknown unwritten (answer c) c.args.form _ c.form_of-named.ensures c.in-Unknown.is in
+    let unknown = form-unknown unwritten (answer c.before.before.before.before) c.args.form _ c.form_of-named.ensures c.in-Unknown.is in
     of-same written_numbers (λ w. w.result) c.args.out.now unknown (refl, refl)
 
 pub write_back_spec : {M : Type 1} → statement M

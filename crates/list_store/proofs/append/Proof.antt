@@ -25,13 +25,13 @@ append_spec =
     let pre = c.requires in
     let count = c.u16_to_usize-entries.ensures.0 in
     let some = c.if-number-eq0.false in
-    (omega (arith, few c, count, pre.0, pre.1, some), omega (arith, few c, count, pre.1), λ h. omega (arith, few c, count, pre.0, some)))
-    (λ c. omega (arith, few c))
+    (omega (arith, few c.before, count, pre.0, pre.1, some), omega (arith, few c.before, count, pre.1), λ h. omega (arith, few c.before, count, pre.0, some)))
+    (λ c. omega (arith, few c.before.before.before.before))
     (λ c. search rules) (λ c. search rules) (λ c. search rules) (λ c. search rules) (λ c. search rules)
     (λ c.
-    simp length-set (omega (arith, few c, c.requires.1, c.u16_to_usize-entries.ensures.0, c.copy_words.auto.0)))
+    simp length-set (omega (arith, few c.before.before.before.before, c.requires.1, c.u16_to_usize-entries.ensures.0, c.copy_words.auto.0)))
     (λ c. search rules)
     (λ c.
     let count = c.u16_to_usize-entries.ensures.0 in
     let copy = c.copy_words in
-    appended-more _ _ _ _ c.requires.1 _ _ _ _ (omega (arith, count)) copy.auto.0 c.if-number-eq0.false (few c) refl copy.ensures (omega (arith, count))))
+    appended-more _ _ _ _ c.requires.1 _ _ _ _ (omega (arith, count)) copy.auto.0 c.if-number-eq0.false (few c.before.before.before.before) refl copy.ensures (omega (arith, count))))

@@ -26,14 +26,14 @@ key_in : (c : tie.After-key_of-key) → c.key_of-key.result < length c.args.memo
 key_in c = omega (arith, key-few c, c.requires.0.made.many)
 
 -- the rule has made no list of it yet
-old : (c : tie.After-has_room) → let key = c in get_or key.before.before.before.before.before.before.before.args.memo.now key.key_of-key.result 0 ≤ key.before.before.before.before.before.before.before.args.before
+old : (c : tie.After-has_room) → let key = c in get_or key.before.before.before.before.before.before.before.args.memo.now key.key_of.result 0 ≤ key.before.before.before.before.before.before.before.args.before
 old c = omega (arith, c.if-u16_to_usize-before.false, c.u16_to_usize.ensures.0)
 
 -- its number fits, and its list too
 next : (c : tie.After-has_room) → let key = c in key.before.before.before.before.before.before.before.args.drawn.used + 1 < 65536
 next c =
     let made = c.requires.0 in
-    omega (arith, number-left made.made _ (key-few c) (old c), made.few)
+    omega (arith, number-left made.made _ (key-few c.before.before.before.before) (old c), made.few)
 
 pub draw_spec : {M : Type 1} → statement M
 draw_spec =
@@ -44,33 +44,33 @@ draw_spec =
     walked-again c.requires.0 _ c.requires.1 (omega (arith, c.if-number-before.true, c.u16_to_usize-number.ensures.0)))
     (λ c κs. search rules)
     (λ c. omega (arith, key-few c, c.requires.0.few))
-    (λ c. key_in c)
+    (λ c. key_in c.before)
     (λ c κs. search rules) (λ c. search rules) (λ c. search rules) (λ c. search rules)
     (λ c.
-    walked-met c.requires.0 _ c.requires.1 _ (low c) _ (keyed c) (omega (arith, c.if-u16_to_usize-before.true, c.u16_to_usize.ensures.0)))
+    walked-met c.requires.0 _ c.requires.1 _ (low c.before.before.before) _ (keyed c.before.before.before) (omega (arith, c.if-u16_to_usize-before.true, c.u16_to_usize.ensures.0)))
     (λ c κs.
-    omega (arith, key-few c, c.requires.0.room 0 (omega arith) (omega arith)))
+    omega (arith, key-few c.before.before.before, c.requires.0.room 0 (omega arith) (omega arith)))
     (λ c κs.
     let pre = c.requires in (
-      omega (arith, key-few c, pre.0.made.grown),
-      room-left pre.0 _ pre.1 (low c) _ (key-few c) (old c),
+      omega (arith, key-few c.before.before.before.before.before.before, pre.0.made.grown),
+      room-left pre.0 _ pre.1 (low c.before.before.before.before.before.before) _ (key-few c.before.before.before.before.before.before) (old c.before.before),
       ltb-true _ _ (sym c.has_room.ensures ∙ c.if-has_room.true),
     ))
-    (λ c. omega (arith, next c))
-    (λ c. omega (arith, next c))
-    (λ c. omega (arith, key-few c, c.requires.0.few))
-    (λ c. key_in c)
-    (λ c. omega (arith, next c))
-    (λ c. omega (arith, next c))
+    (λ c. omega (arith, next c.before.before.before.before.before))
+    (λ c. omega (arith, next c.before.before.before.before.before))
+    (λ c. omega (arith, key-few c.before.before.before.before.before.before.before.before.before, c.requires.0.few))
+    (λ c. key_in c.before.before.before.before.before.before.before.before.before)
+    (λ c. omega (arith, next c.before.before.before.before.before))
+    (λ c. omega (arith, next c.before.before.before.before.before))
     (λ c. search rules) (λ c. search rules)
-    (λ c. omega (arith, next c))
+    (λ c. omega (arith, next c.before.before.before.before.before))
     (λ c. search rules) (λ c. search rules) (λ c. search rules)
     (λ c.
     let append = c.append in
     let pre = c.requires in
-    walked-new pre.0 _ pre.1 _ (low c) _ (keyed c) _ append.auto.0 (old c)
+    walked-new pre.0 _ pre.1 _ (low c.before.before.before.before.before.before.before.before.before) _ (keyed c.before.before.before.before.before.before.before.before.before) _ append.auto.0 (old c.before.before.before.before.before)
     (ltb-true _ _ (sym c.has_room.ensures ∙ c.if-has_room.true)) append.ensures)
     (λ c. search rules)
     (λ c.
     let pre = c.requires in
-    walked-full pre.0 _ pre.1 _ (low c) _ (keyed c) (ltb-false _ _ (sym c.has_room.ensures ∙ c.if-has_room.false))))
+    walked-full pre.0 _ pre.1 _ (low c.before.before.before.before.before) _ (keyed c.before.before.before.before.before) (ltb-false _ _ (sym c.has_room.ensures ∙ c.if-has_room.false))))

@@ -36,7 +36,7 @@ returns-2 c =
     let point = point-dated _ _ _ _ (sym (ap point_in c.in-Point.is) ∙ c.point_of-dated.ensures) in
     c.look_moment.ensures _ _ rules.1.1.0 rules.1.1.1 ∙ ap (λ p. look_at rules.0 p args.minute) point.1
     ∙ sym (look-dated _ args.sheet.now args.year args.month args.day args.minute _ _ read point.0
-    (in-day c))
+    (in-day c.before.before.before))
 
 returns-3 : tie.Need-returns-in-NoDate
 returns-3 c =
@@ -49,5 +49,5 @@ pub look_rules_spec : {M : Type 1} → statement M
 look_rules_spec =
     tie.close
     (tie.spec (λ c κs. search rules) (λ c κs. search rules) returns (λ c κs. search rules) (λ c. search rules)
-    (λ c. search (rules, in-day c)) look-moment-requires
+    (λ c. search (rules, in-day c.before.before)) look-moment-requires
     (λ c. search rules) (λ c κs. search rules) returns-2 returns-3)

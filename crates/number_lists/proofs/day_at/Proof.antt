@@ -32,13 +32,13 @@ find-day-requires c κs =
     let a = c.args in
     let pre = c.pre in (
       λ i l. ready-kept a.states.now a.span_counts.now a.spans.now a.lists.now _ _ _ pre.0.1 pre.0.0 i (omega (arith, l)),
-      ((words-fit c, pre.1.0), (c.fold_box-word_count.ensures.0, hashed c, pre.1.1)),
+      ((words-fit c.before.before.before.before.before, pre.1.0), (c.fold_box-word_count.ensures.0, hashed c.before, pre.1.1)),
     )
 
 returns : tie.Need-returns
 returns c =
     record {
-      hashed = hashed c;
+      hashed = hashed c.before.before.before.before.before;
       first = c.find_day-number.ensures;
       classed = c.day_class.ensures ∙ ap (λ w. day_class (unflat w)) c.fold_box-word_count.ensures.0;
     }
@@ -48,10 +48,10 @@ day_at_spec =
     tie.close
     (tie.spec
     (λ c κs. c.requires.0.0 c.args.place (omega arith))
-    (λ c κs. words-fit c)
+    (λ c κs. words-fit c.before.before)
     (λ c κs. omega arith)
     find-day-requires
-    (λ c κs. words-fit c)
+    (λ c κs. words-fit c.before.before.before.before.before.before.before.before)
     (λ c. c.fold_box-word_count.auto.0)
     (λ c. c.find_day-number.auto.1.0)
     returns)

@@ -38,7 +38,7 @@ pop-group-requires c κs =
     let i = c.loop-first.invariant in (
       room-len₂ _ _ _ _ _ _ _ i.1 (room-len _ _ _ _ _ _ _ i.0 c.requires.0),
       (
-        omega (arith, c.loop-first-test.true, c.type_size.ensures),
+        omega (arith, c.loop-first-test.true, c.size_of-end.ensures),
         c.width_of-columns.ensures,
         omega (arith, c.requires.1.1.1.0.0, i.9),
         omega (arith, c.requires.1.1.1.0.1, i.0),
@@ -61,7 +61,7 @@ put-page-requires c κs =
 next-box-requires-2 : tie.Need-next_box-first-requires-in-loop-first invariant-loop decreases-loop
 next-box-requires-2 c κs =
     let i = c.loop-first.invariant in
-    (i.6, omega (arith, room-size _ _ _ _ _ _ c.requires.0, c.type_size.ensures, c.pop_group.auto.0, i.0), c.requires.1.1.0)
+    (i.6, omega (arith, room-size _ _ _ _ _ _ c.requires.0, c.size_of-end.ensures, c.pop_group.auto.0, i.0), c.requires.1.1.0)
 
 loop-less : tie.Need-loop-first-smaller invariant-loop decreases-loop
 loop-less c =
@@ -90,7 +90,7 @@ loop-again c =
       elsewhere-round _ _ _ _ _ none _ _ _ _ group.0 refl cleared _ i.5,
       box.1,
       none-join _ _ _ _ _
-          (none_after _ _ _ _ _ _ _ c.requires.0.column.filled (empty-unmatched _ _ none) cleared (omega (arith, i.6, c.type_size.ensures)) i.7) box.2,
+          (none_after _ _ _ _ _ _ _ c.requires.0.column.filled (empty-unmatched _ _ none) cleared (omega (arith, i.6, c.size_of-end.ensures)) i.7) box.2,
       box.3,
       one.auto.1.1.1.0 ∙ i.9,
     )
@@ -100,7 +100,7 @@ returns c =
     let a = c.args in
     let i = c.loop-first.invariant in
     let none = c.requires.1.1.0 in
-    let over = no-group _ _ a.sizes.now _ 4 _ i.7 (omega (arith, c.loop-first-test.false, c.type_size.ensures)) in
+    let over = no-group _ _ a.sizes.now _ 4 _ i.7 (omega (arith, c.loop-first-test.false, c.size_of-end.ensures)) in
     let page = put_page a.row_starts.now a.cuts.now a.sizes.now 4 in
     let written = loop-end _ _ _ _ _ none page _ _ over refl _ _ _ i.3.0 i.3.1 in
     let marked = loop-end _ _ _ _ _ none (mark_group _ _) _ _ over refl _ _ _ i.4 i.3.1 in
@@ -116,11 +116,11 @@ pop_class_spec =
     (λ c κs.
     (c.requires.0.column.dims, omega (arith, c.requires.0.marked, c.well_formed)))
     (λ c κs.
-    (omega arith, omega (arith, room-size _ _ _ _ _ _ c.requires.0, c.type_size.ensures), c.requires.1.1.0))
+    (omega arith, omega (arith, room-size _ _ _ _ _ _ c.requires.0, c.size_of-end.ensures), c.requires.1.1.0))
     (λ c. let box = c.next_box-first.ensures in (refl, refl, refl, (refl, refl), refl, (λ d h. refl), box.1, box.2, box.3, refl))
     (λ c.
-    omega (arith, room-size _ _ _ _ _ _ c.requires.0, c.type_size.ensures, c.loop-first-test.true, c.well_formed))
+    omega (arith, room-size _ _ _ _ _ _ c.requires.0, c.size_of-end.ensures, c.loop-first-test.true, c.well_formed))
     (λ c.
-    omega (arith, room-size _ _ _ _ _ _ c.requires.0, c.type_size.ensures, c.loop-first-test.true, c.loop-first.invariant.0))
+    omega (arith, room-size _ _ _ _ _ _ c.requires.0, c.size_of-end.ensures, c.loop-first-test.true, c.loop-first.invariant.0))
     pop-group-requires put-page-requires next-box-requires-2 loop-less loop-again
     (λ c. c.loop-first.invariant.0) (λ c. c.loop-first.invariant.1) (λ c. c.loop-first.invariant.9) (λ c. c.loop-first.invariant.2) returns)

@@ -20,7 +20,7 @@ abbrev classes : tie.After-number_lists → List ℕ
 classes c = c.number_lists.new.1.1.1.1.1.1.1.0
 
 -- as many numbers as boxes are lent
-whole : (c : tie.After-size_of-boxes) → c.type_size.result + 1 - 1 ≡ c.type_size.result
+whole : (c : tie.After-size_of-boxes) → c.size_of-boxes.result + 1 - 1 ≡ c.size_of-boxes.result
 whole c = omega arith
 
 -- ## What is needed
@@ -34,14 +34,14 @@ number-lists-requires c κs =
     let a = c.args in
     let given = c.pre.0 in
     own-numbered a.states.now a.span_counts.now a.spans.now a.row_starts.now a.sizes.now a.cuts.now a.lists.now given.0 given.1 given.2 _ _ _ _
-    c.type_size.ensures c.pre.1.1 c.pre.1.0 c.box_classes-classes.ensures
+    c.size_of-boxes.ensures c.pre.1.1 c.pre.1.0 c.box_classes-classes.ensures
 
 pop-pages-requires : tie.Need-pop_pages-stop-requires
 pop-pages-requires c κs =
     let a = c.args in
     let given = c.pre.0 in
     own-popped a.states.now a.span_counts.now a.spans.now a.row_starts.now a.sizes.now a.cuts.now a.lists.now given.0 given.1 given.2
-    (numbers c) (classes c) _ _ c.type_size.ensures (whole c)
+    (numbers c.before.before.before.before.before.before.before.before.before) (classes c.before.before.before.before.before.before.before.before.before) _ _ c.size_of-boxes.ensures (whole c.before.before.before.before.before.before.before.before.before.before.before.before.before.before.before)
     (omega (arith, c.pre.1.0, c.number_lists.auto.1.1.1.1.1.1.0)) c.number_lists.ensures _ _
     (omega (arith, given.2.few-boxes, c.marks-marks.ensures)) (omega (arith, c.pre.1.1, c.number_lists.auto.1.1.1.1.1.0))
 
@@ -50,8 +50,8 @@ count-pages-requires c κs =
     let a = c.args in
     let given = c.pre.0 in
     let ended = own-ended a.states.now a.span_counts.now a.spans.now a.row_starts.now a.sizes.now a.cuts.now a.lists.now given.0 given.1 given.2
-    (numbers c) (classes c) _ _ c.type_size.ensures (whole c)
-    (omega (arith, c.pre.1.0, c.number_lists.kept.1.1.1.1.1.1.0)) c.number_lists.ensures (pages c) _
+    (numbers c.before.before.before.before.before.before.before.before.before.before.before.before.before.before.before) (classes c.before.before.before.before.before.before.before.before.before.before.before.before.before.before.before) _ _ c.size_of-boxes.ensures (whole c.before.before.before.before.before.before.before.before.before.before.before.before.before.before.before.before.before.before.before.before.before)
+    (omega (arith, c.pre.1.0, c.number_lists.kept.1.1.1.1.1.1.0)) c.number_lists.ensures (pages c.before.before.before.before.before.before.before.before.before.before.before.before.before.before.before) _
     (omega (arith, c.pre.1.1, c.number_lists.kept.1.1.1.1.1.0)) c.pop_pages-stop.ensures.1 _ c.pop_pages-stop.ensures.0 in
     (ended.0, omega (arith, ended.1, c.pop_pages-stop.auto.1.1.1.1.1.1.0))
 
@@ -59,8 +59,8 @@ returns : tie.Need-returns
 returns c =
     let a = c.args in
     λ rs form times given commented. own-folded a.states.now a.span_counts.now a.spans.now a.row_starts.now a.sizes.now a.cuts.now a.lists.now rs times given
-    (numbers c) (classes c) _ _ c.type_size.ensures (whole c)
-    (omega (arith, c.pre.1.0, c.number_lists.kept.1.1.1.1.1.1.0)) c.number_lists.ensures (pages c) _
+    (numbers c.before.before.before.before.before.before.before.before.before.before.before.before.before.before.before.before) (classes c.before.before.before.before.before.before.before.before.before.before.before.before.before.before.before.before) _ _ c.size_of-boxes.ensures (whole c.before.before.before.before.before.before.before.before.before.before.before.before.before.before.before.before.before.before.before.before.before.before)
+    (omega (arith, c.pre.1.0, c.number_lists.kept.1.1.1.1.1.1.0)) c.number_lists.ensures (pages c.before.before.before.before.before.before.before.before.before.before.before.before.before.before.before.before) _
     (omega (arith, c.pre.1.1, c.number_lists.kept.1.1.1.1.1.0)) c.pop_pages-stop.ensures.1 _ c.pop_pages-stop.ensures.0 form commented _
     c.count_pages.ensures
 

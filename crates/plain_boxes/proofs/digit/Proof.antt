@@ -10,7 +10,7 @@ use Rattle.plain_boxes.proofs.digit.Tie as tie
 
 div-result : tie.Need-nonzero_div-result
 div-result c =
-    omega (arith, size-pos c.args.sizes.now c.args.dimension (λ k l. c.requires.1 k (omega arith)), c.type_size.ensures)
+    omega (arith, size-pos c.args.sizes.now c.args.dimension (λ k l. c.requires.1 k (omega arith)), c.size_of-below.ensures)
 
 rem-result : tie.Need-nonzero_rem-result
 rem-result c =
@@ -18,7 +18,7 @@ rem-result c =
 
 returns : tie.Need-returns
 unfolding digit_of
-returns c = ap₂ (λ below width. c.args.box_index / below % width) c.type_size.ensures c.u16_to_usize-width.ensures.0
+returns c = ap₂ (λ below width. c.args.box_index / below % width) c.size_of-below.ensures c.u16_to_usize-width.ensures.0
 
 pub digit_spec : {M : Type 1} → statement M
 digit_spec =

@@ -35,7 +35,7 @@ mark-group-requires : tie.Need-mark_group-requires invariant-loop decreases-loop
 mark-group-requires c κs =
     let i = c.loop-first.invariant in (
       room-len₂ _ _ _ _ _ _ _ i.1 (room-len _ _ _ _ _ _ _ i.0 c.requires.0),
-      omega (arith, c.loop-first-test.true, c.type_size.ensures),
+      omega (arith, c.loop-first-test.true, c.size_of-boxes.ensures),
     )
 
 empty-group-requires : tie.Need-empty_group-requires invariant-loop decreases-loop
@@ -57,7 +57,7 @@ put-page-requires c κs =
 next-cell-requires-2 : tie.Need-next_cell-first-requires-in-loop-first invariant-loop decreases-loop
 next-cell-requires-2 c κs =
     let i = c.loop-first.invariant in
-    (i.6, omega (arith, room-size _ _ _ _ _ _ c.requires.0, c.type_size.ensures, c.empty_group.auto.0, i.0))
+    (i.6, omega (arith, room-size _ _ _ _ _ _ c.requires.0, c.size_of-boxes.ensures, c.empty_group.auto.0, i.0))
 
 loop-less : tie.Need-loop-first-smaller invariant-loop decreases-loop
 loop-less c =
@@ -84,7 +84,7 @@ loop-again c =
       elsewhere-round _ _ _ _ _ none _ _ _ _ group.0 refl cleared _ i.5,
       cell.1,
       none-join _ _ _ _ _
-          (none_after _ _ _ _ _ _ _ c.requires.0.column.filled (empty-unmatched _ _ none) cleared (omega (arith, i.6, c.type_size.ensures)) i.7) cell.2,
+          (none_after _ _ _ _ _ _ _ c.requires.0.column.filled (empty-unmatched _ _ none) cleared (omega (arith, i.6, c.size_of-boxes.ensures)) i.7) cell.2,
       cell.3,
     )
 
@@ -93,7 +93,7 @@ returns c =
     let a = c.args in
     let i = c.loop-first.invariant in
     let none = c.requires.1.1.0 in
-    let over = no-group _ _ a.sizes.now _ 4 _ i.7 (omega (arith, c.loop-first-test.false, c.type_size.ensures)) in
+    let over = no-group _ _ a.sizes.now _ 4 _ i.7 (omega (arith, c.loop-first-test.false, c.size_of-boxes.ensures)) in
     let page = put_page a.row_starts.now a.cuts.now a.sizes.now 4 in
     let written = loop-end _ _ _ _ _ none page _ _ over refl _ _ _ i.3.0 i.3.1 in
     let marked = loop-end _ _ _ _ _ none (mark_group _ _) _ _ over refl _ _ _ i.4 i.3.1 in
@@ -107,11 +107,11 @@ pop_class_spec =
     let room = c.requires.0 in
     (room.column.dims, room.column.filled, omega (arith, room-size _ _ _ _ _ _ room, c.well_formed)))
     (λ c κs.
-    (omega arith, omega (arith, room-size _ _ _ _ _ _ c.requires.0, c.type_size.ensures)))
+    (omega arith, omega (arith, room-size _ _ _ _ _ _ c.requires.0, c.size_of-boxes.ensures)))
     (λ c. let cell = c.next_cell-first.ensures in (refl, refl, refl, (refl, refl), refl, (λ d h. refl), cell.1, cell.2, cell.3))
     (λ c.
-    omega (arith, room-size _ _ _ _ _ _ c.requires.0, c.type_size.ensures, c.loop-first-test.true, c.well_formed))
+    omega (arith, room-size _ _ _ _ _ _ c.requires.0, c.size_of-boxes.ensures, c.loop-first-test.true, c.well_formed))
     (λ c.
-    omega (arith, room-size _ _ _ _ _ _ c.requires.0, c.type_size.ensures, c.loop-first-test.true, c.loop-first.invariant.0))
+    omega (arith, room-size _ _ _ _ _ _ c.requires.0, c.size_of-boxes.ensures, c.loop-first-test.true, c.loop-first.invariant.0))
     mark-group-requires empty-group-requires put-page-requires next-cell-requires-2 loop-less loop-again
     (λ c. c.loop-first.invariant.0) (λ c. c.loop-first.invariant.1) (λ c. c.loop-first.invariant.2) returns)

@@ -33,13 +33,13 @@ append_spec =
     tie.close
     (tie.spec
     (λ c. search rules) (λ c. search rules) (λ c. search rules) (λ c κs. search rules)
-    (λ c. appended-full _ _ _ _ _ (based c) (sym c.entry_allowed.ensures ∙ not-true _ c.if-not-entry_allowed.true-raw))
+    (λ c. appended-full _ _ _ _ _ (based c.before.before) (sym c.entry_allowed.ensures ∙ not-true _ c.if-not-entry_allowed.true-raw))
     (λ c. search rules) (λ c κs. search rules) (λ c. search rules) (λ c. search rules)
     (λ c.
-    omega (arith, c.requires.room, few c, c.u16_to_usize.ensures.0))
-    (λ c. omega (arith, few c))
+    omega (arith, c.requires.room, few c.before, c.u16_to_usize.ensures.0))
+    (λ c. omega (arith, few c.before.before))
     (λ c. search rules)
     (λ c. simp length-set (omega (arith, c.requires.room)))
     (λ c. search rules)
     (λ c.
-    appended-more _ _ _ _ _ (based c) c.requires (allowed c) (few c) _ (omega (arith, c.u16_to_usize.ensures.0))))
+    appended-more _ _ _ _ _ (based c.before.before.before.before) c.requires (allowed c.before.before) (few c.before.before) _ (omega (arith, c.u16_to_usize.ensures.0))))

@@ -86,7 +86,7 @@ list_rules_spec =
     (omega (arith, cut.four), cut.filled, omega (arith, pre.1.0)))
     (λ c.
     let pre = (start c).requires in
-    (omega arith, refl, have-none _ _ pre.1.2 _ c.type_size.ensures pre.1.0 pre.1.1, going_start _ _ pre.1.2 _ _ _ _ _ _))
+    (omega arith, refl, have-none _ _ pre.1.2 _ c.size_of-boxes.ensures pre.1.0 pre.1.1, going_start _ _ pre.1.2 _ _ _ _ _ _))
     (λ c.
     let t = (start (sized c)).pre.0.1 in
     omega (arith, c.loop-rule-test.true, t.0.0.many, t.0.1.all-replacing))

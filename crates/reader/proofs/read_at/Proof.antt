@@ -21,7 +21,7 @@ past_end : tie.Need-returns-then-before-sheet
 past_end c = take_short _ _ _ (omega arith)
 
 take-at-requires : tie.Need-take_at-taken-requires
-take-at-requires c κs = search (rules, narrow c)
+take-at-requires c κs = search (rules, narrow c.before.before)
 
 short : tie.Need-returns-in-Refused
 short c =
@@ -45,4 +45,4 @@ pub read_at_spec : {M : Type 1} → statement M
 read_at_spec =
     tie.close
     (tie.spec (λ c κs. search rules) too_wide past_end (λ c. search rules) (λ c. search rules) (λ c. search rules) take-at-requires (λ c. search rules)
-    (λ c. search rules) (λ c. search (rules, narrow c)) (λ c. search rules) short too_far value)
+    (λ c. search rules) (λ c. search (rules, narrow c.before.before.before.before)) (λ c. search rules) short too_far value)

@@ -55,7 +55,7 @@ loop-again c =
     let s = sheet_bits args.sheet.now in
     let bytes = known_bytes args.sheet.now (λ j. omega (arith, c.shared_slice_known-1.given j)) in (
       omega (arith, least.1),
-      c.put_field.auto.0 ∙ loop.invariant.1,
+      c.put_field.auto.out ∙ loop.invariant.1,
       copy-next s args.from args.count args.at (sheet-bits args.sheet.now bytes) (omega (arith, length-sheet_bits args.sheet.now))
           (sheet_bits loop.out) _ loop.done _ _ (omega (arith, least.1)) c.field_at.ensures c.put_field.ensures ∙ loop.invariant.2,
     )

@@ -34,9 +34,9 @@ same c =
 put-counts-requires : tie.Need-put_counts-requires
 put-counts-requires c κs =
     let given = c.requires.0 in
-    let few = counts-low _ _ _ _ _ (read c) in
+    let few = counts-low _ _ _ _ _ (read c.before.before.before.before.before.before) in
     let wide = items-wide c.args.to in
-    let counted = same c ∙ read-once _ given.0 _ _ (read c) given.2 in (
+    let counted = same c ∙ read-once _ given.0 _ _ (read c.before.before.before.before.before.before) given.2 in (
       (
         omega arith,
         row-few (most_items (as_form c.args.to)) _ _ _ _ (omega (arith, c.u64_to_u16.ensures, few.0, wide))
@@ -50,12 +50,12 @@ put-counts-requires c κs =
 returns : tie.Need-returns-in-Counts
 returns c =
     let a = c.args in
-    λ n next e. wrote_as (sym (ap (counts (as_form a.to) sheet_limits).write (same c ∙ read-once _ n _ next (read c) e))) c.put_counts.ensures
+    λ n next e. wrote_as (sym (ap (counts (as_form a.to) sheet_limits).write (same c.before.before.before ∙ read-once _ n _ next (read c.before.before.before.before.before.before.before.before.before) e))) c.put_counts.ensures
 
 pub move_counts_spec : {M : Type 1} → statement M
 move_counts_spec =
     tie.close
-    (tie.spec (λ c κs. search rules) (λ c. search rules) (λ c κs. omega (arith, (counts-low _ _ _ _ _ (read c)).0)) (λ c κs. omega (arith, (counts-low _ _ _ _ _ (read c)).1))
-    (λ c κs. omega (arith, (counts-low _ _ _ _ _ (read c)).2)) (λ c κs. omega (arith, (counts-low _ _ _ _ _ (read c)).3)) (λ c. search rules)
+    (tie.spec (λ c κs. search rules) (λ c. search rules) (λ c κs. omega (arith, (counts-low _ _ _ _ _ (read c)).0)) (λ c κs. omega (arith, (counts-low _ _ _ _ _ (read c.before)).1))
+    (λ c κs. omega (arith, (counts-low _ _ _ _ _ (read c.before.before)).2)) (λ c κs. omega (arith, (counts-low _ _ _ _ _ (read c.before.before.before)).3)) (λ c. search rules)
     put-counts-requires (λ c. search rules) (λ c. search rules) returns
     (λ c n next e. clash _ _ n next (sym (stopped-counts _ _ _ c.counts_at-counts.ensures c.in-Refused.is) ∙ e)))

@@ -31,7 +31,7 @@ move-counts-requires c κs =
     let a = c.args in
     let pre = c.pre in
     let rest = room-rest c.move_title-counts_place.ensures _ (room_as (rule-split (as_form a.to) _) pre.1.1) in (
-      (_, _, counts-there _ a.sheet.now (bytes c) a.at pre.0.0.0 _ (ap (a.at +◌) c.title_width.ensures.0), room-first _ _ rest),
+      (_, _, counts-there _ a.sheet.now (bytes c.before.before.before.before.before.before.before) a.at pre.0.0.0 _ (ap (a.at +◌) c.title_width.ensures.0), room-first _ _ rest),
       omega (arith, pre.0.1, c.title_width.ensures.1),
     )
 
@@ -60,37 +60,37 @@ body-low c =
 
 copy-bits-requires : tie.Need-copy_bits-requires
 copy-bits-requires c κs =
-    let entry = start (shared c) in
+    let entry = start (shared c.before) in
     let a = entry.args in
-    let low = body-low c in
+    let low = body-low c.before in
     let counts = c.move_counts-body_place.ensures _ _
-    (counts-there _ a.sheet.now (bytes (shared c)) a.at entry.pre.0.0.0 _ (ap (a.at +◌) c.title_width.ensures.0)) in
-    let rest = room-rest counts _ (room-rest (titled c).move_title.ensures _ (room_as (rule-split (as_form a.to) _) entry.pre.1.1)) in
+    (counts-there _ a.sheet.now (bytes (shared c.before)) a.at entry.pre.0.0.0 _ (ap (a.at +◌) c.title_width.ensures.0)) in
+    let rest = room-rest counts _ (room-rest (titled c.before).move_title.ensures _ (room_as (rule-split (as_form a.to) _) entry.pre.1.1)) in
     (omega (arith, low.0, low.1), omega (arith, rest.inside, low.3), omega (arith, low.0, low.2), omega (arith, rest.low, low.3))
 
 add-result : tie.Need-overflow_add-result
 add-result c =
-    let entry = start (shared c) in
+    let entry = start (shared c.before.before.before.before) in
     let a = entry.args in
     let counts = c.move_counts-body_place.ensures _ _
-    (counts-there _ a.sheet.now (bytes (shared c)) a.at entry.pre.0.0.0 _ (ap (a.at +◌) c.title_width.ensures.0)) in
-    let rest = room-rest counts _ (room-rest (titled c).move_title.ensures _ (room_as (rule-split (as_form a.to) _) entry.pre.1.1)) in
-    omega (arith, rest.low, (body-low c).3)
+    (counts-there _ a.sheet.now (bytes (shared c.before.before.before.before)) a.at entry.pre.0.0.0 _ (ap (a.at +◌) c.title_width.ensures.0)) in
+    let rest = room-rest counts _ (room-rest (titled c.before.before.before.before).move_title.ensures _ (room_as (rule-split (as_form a.to) _) entry.pre.1.1)) in
+    omega (arith, rest.low, (body-low c.before.before.before.before).3)
 
 returns : tie.Need-returns
 returns c =
-    let entry = start (shared c) in
+    let entry = start (shared c.before.before.before.before) in
     let a = entry.args in
-    let low = body-low c in
+    let low = body-low c.before.before.before.before in
     let counts = c.move_counts-body_place.ensures _ _
-    (counts-there _ a.sheet.now (bytes (shared c)) a.at entry.pre.0.0.0 _ (ap (a.at +◌) c.title_width.ensures.0)) in
-    let body = body-there _ a.sheet.now (bytes (shared c)) a.at entry.pre.0.0.0 _ _ _ (ap (a.at +◌) c.head_width.ensures.0) entry.pre.0.0.1 refl in
+    (counts-there _ a.sheet.now (bytes (shared c.before.before.before.before)) a.at entry.pre.0.0.0 _ (ap (a.at +◌) c.title_width.ensures.0)) in
+    let body = body-there _ a.sheet.now (bytes (shared c.before.before.before.before)) a.at entry.pre.0.0.0 _ _ _ (ap (a.at +◌) c.head_width.ensures.0) entry.pre.0.0.1 refl in
     wrote_as (rule-split (as_form a.to) _)
-    (wrote_then (titled c).move_title.ensures
+    (wrote_then (titled c.before.before.before.before).move_title.ensures
     (wrote_then counts (record { behind = omega (arith, low.3); stored = c.copy_bits.ensures ∙ ap (sets _ _) body })))
 
 pub move_rule_spec : {M : Type 1} → statement M
 move_rule_spec =
     tie.close
     (tie.spec move-title-requires (λ c κs. search rules) (λ c. search rules) move-counts-requires (λ c κs. search rules) (λ c. search rules) (λ c. (body-low c).0)
-    copy-bits-requires (λ c. (body-low c).0) add-result (λ c. search rules) returns)
+    copy-bits-requires (λ c. (body-low c.before.before.before.before).0) add-result (λ c. search rules) returns)

@@ -70,13 +70,13 @@ put-requires c κs =
     let width = c.comment_width.ensures in
     let whole = room_as (title-split (as_form a.to) r) c.pre.1.1 in
     let low : c.field_at.result < 2 ^ c.comment_width.result = rw (comment c, width.0) c.pre.1.0 in
-    ((omega (arith, width.1), low), room_as (rewritten c) (room-rest (copied c _ c.copy_bits.ensures) _ whole))
+    ((omega (arith, width.1), low), room_as (rewritten c) (room-rest (copied c.before.before.before.before.before.before _ c.copy_bits.ensures) _ whole))
 
 returns : tie.Need-returns
 returns c =
     let a = c.args in
     let r = rule_read_at (as_form a.form) (sheet_bits a.sheet.now) a.at in
-    wrote_as (title-split (as_form a.to) r) (wrote_then (copied c _ c.copy_bits.ensures) (wrote_as (rewritten c) c.put.ensures))
+    wrote_as (title-split (as_form a.to) r) (wrote_then (copied c.before.before.before.before.before.before.before.before.before _ c.copy_bits.ensures) (wrote_as (rewritten c.before.before.before) c.put.ensures))
 
 pub move_title_spec : {M : Type 1} → statement M
 move_title_spec =

@@ -26,7 +26,7 @@ shared-slice-read-stroke-state c = search rules
 stroke-state-requires : tie.Need-stroke_state-requires
 stroke-state-requires c κs = search rules
 
-returns-2 : tie.Need-returns-then-number-eq0
+returns-2 : tie.Need-returns
 returns-2 c =
     state-some _ _ _ c.if-number-eq0.false (c.stroke_state.ensures ∙ ap (λ k. stroke_state (get_or c.args.strokes.now (k - 1) 0)) c.u16_to_usize.ensures.0)
 

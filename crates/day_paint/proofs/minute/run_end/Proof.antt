@@ -40,7 +40,7 @@ loop-again c =
     let inv = c.loop-next.invariant in
     (omega arith, omega arith, more-alike c.args.minutes.now _ _ _ inv.2 c.if-minutes-next.false)
 
-returns-2 : tie.Need-returns-then-minutes-next invariant-loop decreases-loop
+returns-2 : tie.Need-returns invariant-loop decreases-loop
 returns-2 c =
     let inv = c.loop-next.invariant in
     (inv.0, inv.1, inv.2, λ l. absurd (omega arith))

@@ -59,60 +59,40 @@ pub +write_range_spec : {M : Type 1} → statement M
     write-range-Inv-loop
     write-range-μ-loop
     (λ c.
-    let entry = c.before.before.before in
-    let pre = entry.requires in
+    let pre = c.requires in
     record { fewer = omega arith; room = (pre.1.1, pre.1.2); lengths = (refl, refl); finishes = λ cs₁ vs₁ r h. h })
-    (λ c κs. (omega (arith, c.before.loop.invariant.fewer, c.before.before.before.before.before.requires.1.0), c.loop-test.true))
-    -- no stroke meets what is left
+    (λ c κs. (omega (arith, c.loop-from.invariant.fewer, c.requires.1.0), c.loop-from-test.true))
     (λ c κs.
-    let none = c.before.before in
-    let last = none.before in
-    let turn = last.before in
-    let loop = turn.before in
-    bare-room _ _ _ _ _ _ _ _ _ _ _ _ loop.loop.invariant _ last.last_meeting.ensures (omega (arith, none.if1.true)) turn.loop-test.true)
-    (λ c. let put = c.before.before.before.before in put.put_piece.auto.0 ∙ put.before.before.before.before.before.before.loop.invariant.lengths.0)
+    bare-room _ _ _ _ _ _ _ _ _ _ _ _ c.loop-from.invariant _ c.last_meeting-below.ensures (omega (arith, c.if-below-eq0.true)) c.loop-from-test.true)
+    (λ c. c.put_piece.auto.0 ∙ c.loop-from.invariant.lengths.0)
     (λ c.
-    let put = c.before.before.before.before in
-    put.put_piece.auto.1.0 ∙ put.before.before.before.before.before.before.loop.invariant.lengths.1)
+    c.put_piece.auto.1.0 ∙ c.loop-from.invariant.lengths.1)
     (λ c.
-    let put = c.before.before.before.before in
-    let none = put.before.before.before in
-    let last = none.before in
-    let turn = last.before in
-    let loop = turn.before in
-    bare-laid _ _ _ _ _ _ _ _ _ _ _ _ loop.loop.invariant _ last.last_meeting.ensures (omega (arith, none.if1.true)) turn.loop-test.true _ _
-    _ put.put_piece.ensures)
-    -- the last one that meets it
+    bare-laid _ _ _ _ _ _ _ _ _ _ _ _ c.loop-from.invariant _ c.last_meeting-below.ensures (omega (arith, c.if-below-eq0.true)) c.loop-from-test.true _ _
+    _ c.put_piece.ensures)
     (λ c. search rules)
     (λ c.
-    let last = c.before in
-    let loop = last.before.before in
-    let entry = loop.before.before.before.before in
-    omega (arith, fewer-still _ _ _ _ _ _ _ _ _ _ _ _ loop.loop.invariant _ last.last_meeting.ensures, entry.requires.1.0))
+    omega (arith, fewer-still _ _ _ _ _ _ _ _ _ _ _ _ c.loop-from.invariant _ c.last_meeting-below.ensures, c.requires.1.0))
     (λ c.
-    let some = c.before in
-    let last = some.before in
     omega (
       arith,
-      fewer-still _ _ _ _ _ _ _ _ _ _ _ _ last.before.before.loop.invariant _ last.last_meeting.ensures,
-      last.before.before.before.before.before.before.requires.1.0,
-      some.if1.false,
+      fewer-still _ _ _ _ _ _ _ _ _ _ _ _ c.loop-from.invariant _ c.last_meeting-below.ensures,
+      c.requires.1.0,
+      c.if-below-eq0.false,
     ))
     (λ c κs. search rules)
-    -- what lies to its left
     (λ c. search rules)
     (λ c κs.
     let on = c.loop-from.invariant in
     let pre = c.requires in
     let few = fewer-still _ _ _ _ _ _ _ _ _ _ _ _ on _ c.last_meeting-below.ensures in
-    let room = left-room _ _ _ _ _ _ _ _ _ _ _ _ on _ c.last_meeting-below.ensures c.if-below-eq0.false _ c.stroke_start.ensures c.if2.true in
+    let room = left-room _ _ _ _ _ _ _ _ _ _ _ _ on _ c.last_meeting-below.ensures c.if-below-eq0.false _ c.stroke_start-start.ensures c.if-from-start.true in
     (omega (arith, few, pre.0, c.if-below-eq0.false), (omega (arith, few, pre.1.0), room.0, room.1)))
     (λ c.
-    omega (arith, c.if2.true, c.loop-from-test.true))
+    omega (arith, c.if-from-start.true, c.loop-from-test.true))
     (λ c.
-    left-on _ _ _ _ _ _ _ _ _ _ _ _ c.loop-from.invariant _ c.last_meeting-below.ensures c.if-below-eq0.false _ c.stroke_start.ensures
-    c.if2.true _ _ _ c.write_range.ensures (c.write_range.auto.0, c.write_range.auto.1.0))
-    -- its own piece
+    left-on _ _ _ _ _ _ _ _ _ _ _ _ c.loop-from.invariant _ c.last_meeting-below.ensures c.if-below-eq0.false _ c.stroke_start-start.ensures
+    c.if-from-start.true _ _ _ c.write_range-place.ensures (c.write_range-place.auto.0, c.write_range-place.auto.1.0))
     (λ c κs. search rules)
     (λ c κs.
     let room =
@@ -124,13 +104,12 @@ pub +write_range_spec : {M : Type 1} → statement M
     (λ c κs. search rules)
     (λ c.
     let beyond = shows-on _ _ _ _ _ _ _ _ _ _ _ _ c.loop-from.invariant _ c.last_meeting-below.ensures c.if-below-eq0.false _ c.stroke_start-start.ensures
-    (omega (arith, c.if-from-start.false)) _ _ _ c.stroke_state.ensures c.stroke_end.ensures c.earlier_of.ensures in
+    (omega (arith, c.if-from-start.false)) _ _ _ c.stroke_state.ensures c.stroke_end.ensures c.earlier_of-from.ensures in
     omega (arith, beyond, c.loop-from-test.true))
     (λ c.
     own_on _ _ _ _ _ _ _ _ _ _ _ _ c.loop-from.invariant _ c.last_meeting-below.ensures c.if-below-eq0.false _ c.stroke_start-start.ensures
-    (omega (arith, c.if-from-start.false)) _ _ _ c.stroke_state.ensures c.stroke_end.ensures c.earlier_of.ensures _ _ _
+    (omega (arith, c.if-from-start.false)) _ _ _ c.stroke_state.ensures c.stroke_end.ensures c.earlier_of-from.ensures _ _ _
     c.put_piece-place.ensures (c.put_piece-place.auto.0, c.put_piece-place.auto.1.0))
-    -- nothing is left
     (λ c. c.loop-from.invariant.lengths.0)
     (λ c. c.loop-from.invariant.lengths.1)
     (λ c. nothing_left _ _ _ _ _ _ _ _ _ _ _ _ c.loop-from.invariant (omega arith))

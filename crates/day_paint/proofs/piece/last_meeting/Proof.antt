@@ -42,7 +42,7 @@ loop-again : tie.Need-loop-next-preserved invariant-loop decreases-loop
 loop-again c =
     (omega arith, last-below _ _ _ _ (omega arith) (sym c.meets_range.ensures ∙ c.if-meets_range.false) ∙ c.loop-next.invariant.1)
 
-returns-2 : tie.Need-returns-then-meets_range invariant-loop decreases-loop
+returns-2 : tie.Need-returns invariant-loop decreases-loop
 returns-2 c = last_none _ _ _ _ (omega arith) ∙ c.loop-next.invariant.1
 
 pub last_meeting_spec : {M : Type 1} → statement M

@@ -19,7 +19,7 @@ stroke-start-requires c κs = search rules
 returns-2 : tie.Need-returns-then-b-start
 returns-2 c = sym (meets-before _ _ _ (omega arith))
 
-returns-3 : tie.Need-returns-then-end-a
+returns-3 : tie.Need-returns
 returns-3 c =
     ap₂ ltb c.stroke_start-start.ensures c.stroke_end-end.ensures ∙ meets-in _ _ _ c.requires (omega arith) (omega arith)
 

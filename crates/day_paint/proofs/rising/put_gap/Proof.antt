@@ -19,7 +19,7 @@ returns c =
     let laid = c.put_piece.ensures in
     (λ h. laid, λ h. absurd (omega (arith, c.if-a-b.true)), omega (arith, laid.2))
 
-returns-2 : tie.Need-returns-then-a-b
+returns-2 : tie.Need-returns
 returns-2 c = (λ h. absurd (omega arith), λ h. (refl, refl, refl), omega arith)
 
 pub put_gap_spec : {M : Type 1} → statement M

@@ -119,7 +119,7 @@ same-length-8 : tie.Need-shape_of-states invariant-loop decreases-loop
 same-length-8 c =
     c.put_gap-last.auto.1.0 ∙ c.loop-i.invariant.2
 
-returns-4 : tie.Need-returns-then-start-from invariant-loop decreases-loop
+returns-4 : tie.Need-returns invariant-loop decreases-loop
 returns-4 c =
     let inv = c.loop-i.invariant in
     let pre = c.requires in

@@ -12,7 +12,7 @@ find_run_spec =
     (λ c. search rules) (λ c. search rules) (λ c κs. search rules) (λ c. search rules) (λ c. search rules) (λ c. search rules)
     (λ c κs.
     let pre = c.requires in
-    ((c.IsPlace-in.ensures.to_end, pre.1.0.1), rising-later c.args.cuts.now _ _ _ c.IsPlace-in.ensures.from_first pre.1.1))
+    ((c.place_in-begin.ensures.to_end, pre.1.0.1), rising-later c.args.cuts.now _ _ _ c.place_in-begin.ensures.from_first pre.1.1))
     (λ c. search rules) (λ c. search rules) (λ c. search rules) (λ c. search rules) (λ c. search rules)
     (λ c. search rules) (λ c. search rules) (λ c. search rules) (λ c. search rules) (λ c. search rules)
-    (λ c. placed c.requires.0.0 c.IsPlace-in.ensures c.place_in-stop.ensures))
+    (λ c. placed c.requires.0.0 c.place_in-begin.ensures c.place_in-stop.ensures))

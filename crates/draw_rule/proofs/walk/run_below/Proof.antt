@@ -18,8 +18,8 @@ run_below_spec =
     (λ c. search rules) (λ c. search rules) (λ c κs. search rules)
     (λ c. omega (arith, based c, c.requires.1))
     (λ c. search rules) (λ c. search rules) (λ c. search rules) (λ c. search rules) (λ c. search rules) (λ c κs. search rules)
-    (λ c. omega (arith, based c, c.u16_to_usize-2.ensures.1, c.requires.1))
+    (λ c. omega (arith, based c.before.before, c.u16_to_usize-2.ensures.1, c.requires.1))
     (λ c. search rules) (λ c. search rules) (λ c. search rules) (λ c κs. search rules)
-    (λ c. omega (arith, based c, c.u16_to_usize-3.ensures.1, c.requires.1))
+    (λ c. omega (arith, based c.before.before.before.before, c.u16_to_usize-3.ensures.1, c.requires.1))
     (λ c.
-    (omega (arith, based c, c.u16_to_usize-2.ensures.0), omega (arith, based c, c.u16_to_usize-3.ensures.0))))
+    (omega (arith, based c.before.before.before.before, c.u16_to_usize-2.ensures.0), omega (arith, based c.before.before.before.before, c.u16_to_usize-3.ensures.0))))

@@ -17,13 +17,13 @@ bytes c = known_bytes c.args.sheet.now (λ j. omega (arith, c.shared_slice_known
 
 convert-rules-requires : tie.Need-convert_rules-requires
 convert-rules-requires c κs =
-    rules-read _ _ _ c.check-checked.ensures.0 _ _ c.check-checked.ensures.1 c.requires (bytes c) (narrow c.args.form) _ _
+    rules-read _ _ _ c.check-checked.ensures.0 _ _ c.check-checked.ensures.1 c.requires (bytes c.before.before.before.before) (narrow c.args.form) _ _
     c.in-Rules.is
 
 returns : tie.Need-returns-in-Rules
 returns c =
     let a = c.args in
-    let read = rules-read _ _ _ c.check-checked.ensures.0 _ _ c.check-checked.ensures.1 c.requires (bytes c) (narrow a.form) _ _
+    let read = rules-read _ _ _ c.check-checked.ensures.0 _ _ c.check-checked.ensures.1 c.requires (bytes c.before.before.before.before.before.before.before) (narrow a.form) _ _
     c.in-Rules.is in
     let same = converts-read _ _ a.sheet.now (length a.out.now) read.0 _ read.1.0.read in
     of-same written_numbers (λ w. w.result) _ same (c.convert_rules.ensures read.0 read.1.0 read.1.1)

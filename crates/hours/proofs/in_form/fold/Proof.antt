@@ -14,7 +14,7 @@ bytes c = known_bytes c.args.sheet.now (λ j. omega (arith, c.shared_slice_known
 
 fold-rules-requires : tie.Need-fold_rules-requires
 fold-rules-requires c κs =
-    rules-read _ _ _ c.check-checked.ensures.0 _ _ c.check-checked.ensures.1 c.requires (bytes c) (narrow c.args.form) _ _
+    rules-read _ _ _ c.check-checked.ensures.0 _ _ c.check-checked.ensures.1 c.requires (bytes c.before.before.before.before) (narrow c.args.form) _ _
     c.in-Rules.is
 
 returns-2 : tie.Need-returns-in-Refused

@@ -17,13 +17,13 @@ bytes c = known_bytes c.args.sheet.now (λ j. omega (arith, c.shared_slice_known
 
 line-of-requires : tie.Need-line_of-requires
 line-of-requires c κs =
-    line-begins _ _ _ c.check-checked.ensures.0 (narrow c.args.form) (bytes c) _ _ c.check-checked.ensures.1 c.requires _ _
+    line-begins _ _ _ c.check-checked.ensures.0 (narrow c.args.form) (bytes c.before.before.before.before) _ _ c.check-checked.ensures.1 c.requires _ _
     c.in-Rules.is
 
 returns : tie.Need-returns-in-Rules
 returns c =
     let a = c.args in
-    let same = line_read _ a.sheet.now _ c.check-checked.ensures.0 (narrow a.form) (bytes c) _ _ c.check-checked.ensures.1 c.requires _ _
+    let same = line_read _ a.sheet.now _ c.check-checked.ensures.0 (narrow a.form) (bytes c.before.before.before.before.before.before.before) _ _ c.check-checked.ensures.1 c.requires _ _
     c.in-Rules.is (length a.out.now) in
     of-same written_numbers (λ w. w.result) _ (sym same) c.Line-of.ensures
 

@@ -15,7 +15,7 @@ bytes c = known_bytes c.args.sheet.now (λ j. omega (arith, c.shared_slice_known
 
 look-rules-requires : tie.Need-look_rules-requires
 look-rules-requires c κs =
-    let rules = rules-read _ _ _ c.check-checked.ensures.0 _ _ c.check-checked.ensures.1 c.requires (bytes c) (narrow c.args.form) _ _
+    let rules = rules-read _ _ _ c.check-checked.ensures.0 _ _ c.check-checked.ensures.1 c.requires (bytes c.before.before.before) (narrow c.args.form) _ _
     c.in-Rules.is in
     (rules.0, (_, rules.1))
 

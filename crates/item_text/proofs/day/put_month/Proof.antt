@@ -20,5 +20,5 @@ returns c =
 
 pub put_month_spec : {M : Type 1} → statement M
 put_month_spec = tie.close
-    (tie.spec (λ c. search rules) (λ c. (month-found c.args.month c.requires.0).0) put-name-requires
+    (tie.spec (λ c. (month-found c.args.month c.requires.0).0) put-name-requires
     (λ c. search rules) returns)

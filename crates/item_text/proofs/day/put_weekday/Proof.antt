@@ -19,4 +19,4 @@ returns c =
     put_as (weekday-found c.args.weekday c.requires.0).1 c.put_name.ensures
 
 pub put_weekday_spec : {M : Type 1} → statement M
-put_weekday_spec = tie.close (tie.spec (λ c. search rules) put-name-requires (λ c. search rules) returns)
+put_weekday_spec = tie.close (tie.spec put-name-requires (λ c. search rules) returns)

@@ -12,13 +12,10 @@ pub put_before_spec : {M : Type 1} → statement M
 put_before_spec =
     tie.close
     (tie.spec
-    (λ c. search rules)
     (λ c κs.
-    omega (arith, c.before.before.before.before.requires, ap length (before-normal c.before.before.before.before.args.operator (omega arith))))
-    (λ c. search rules)
+    omega (arith, c.requires, ap length (before-normal c.args.operator (omega arith))))
     (λ c κs.
     omega (arith, c.requires, ap length (before-additional c.args.operator (omega arith) (omega arith))))
-    (λ c. search rules)
     (λ c κs.
     omega (arith, c.requires, ap length (before-fallback c.args.operator (omega arith) (omega arith))))
     (λ c. search rules)

@@ -12,8 +12,7 @@ pub put_comment_spec : {M : Type 1} → statement M
 put_comment_spec =
     tie.close
     (tie.spec
-    (λ c. put_as (sym (comment-none (state_of c.before.before.args.kind c.before.before.args.comment) c.if1.true)) (put-none _ _))
-    (λ c. search rules)
+    (λ c. put_as (sym (comment-none (state_of c.args.kind c.args.comment) c.if-comment-eq0.true)) (put-none _ _))
     (λ c κs.
     let args = c.args in
     omega (arith, c.requires, comment-long (state_of args.kind args.comment) c.if-comment-eq0.false))

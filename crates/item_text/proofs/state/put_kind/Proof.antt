@@ -12,18 +12,13 @@ pub put_kind_spec : {M : Type 1} → statement M
 put_kind_spec =
     tie.close
     (tie.spec
-    (λ c. put_as (kind-none c.before.before.before.args.kind c.before.before.before.args.comment (omega arith) (omega arith)) (put-none _ _))
-    (λ c. search rules)
+    (λ c. put_as (kind-none c.args.kind c.args.comment (omega arith) (omega arith)) (put-none _ _))
     (λ c κs.
-    let if1 = c.before.before in
-    let entry = if1.before.before.before in
-    let args = entry.args in
-    omega (arith, entry.requires, ap length (kind-open args.kind args.comment (omega arith) if1.if1.false)))
-    (λ c. search rules)
+    let args = c.args in
+    omega (arith, c.requires, ap length (kind-open args.kind args.comment (omega arith) c.if-comment-eq0.false)))
     (λ c κs.
     let args = c.args in
     omega (arith, c.requires, ap length (kind-closed args.kind args.comment (omega arith) (omega arith))))
-    (λ c. search rules)
     (λ c κs.
     let args = c.args in
     omega (arith, c.requires, ap length (kind-unknown args.kind args.comment (omega arith) (omega arith))))

@@ -40,15 +40,15 @@ pub +look_boxes_spec : {M : Type 1} → statement M
     (λ c κs. search rules)
     (λ c.
     let pre = c.requires in
-    omega (arith, c.if-room-size_of.true, c.type_size.ensures, pre.1.0.1.to-draw.passed.few-boxes))
+    omega (arith, c.if-room-size_of.true, c.size_of.ensures, pre.1.0.1.to-draw.passed.few-boxes))
     (λ c κs.
     let pre = c.requires in
     let few = pre.1.0.1.to-draw.passed.few-boxes in
-    (omega (arith, c.if-room-size_of.true, c.type_size.ensures, few, pre.0, pre.1.1.1), (pre.1.0, (pre.1.1.0, omega (arith, pre.1.1.1)))))
+    (omega (arith, c.if-room-size_of.true, c.size_of.ensures, few, pre.0, pre.1.1.1), (pre.1.0, (pre.1.1.0, omega (arith, pre.1.1.1)))))
     (λ c. search rules)
     (λ c κs.
     let pre = c.requires in
-    (pre.1.0, (pre.1.1.0, omega (arith, c.if-room-le16.true, c.if-room-size_of.false, c.type_size.ensures))))
+    (pre.1.0, (pre.1.1.0, omega (arith, c.if-room-le16.true, c.if-room-size_of.false, c.size_of.ensures))))
     (λ c. search rules)
     (λ c κs.
     let pre = c.requires in

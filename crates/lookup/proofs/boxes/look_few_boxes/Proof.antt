@@ -8,12 +8,12 @@ use Rattle.lookup.proofs.boxes.look_few_boxes.Tie as tie
 slice-aggregate-look-boxes-in : tie.Need-slice_bounds-look_boxes_in-end
 slice-aggregate-look-boxes-in c =
     let pre = c.requires in
-    cells-lent _ 16 _ c.type_size.ensures (omega (arith, pre.1.1, c.type_size.ensures))
+    cells-lent _ 16 _ c.size_of-boxes.ensures (omega (arith, pre.1.1, c.size_of-boxes.ensures))
 
 look-boxes-in-requires : tie.Need-look_boxes_in-requires
 look-boxes-in-requires c κs =
     let pre = c.requires in
-    (pre.0, (pre.1.0, few-places _ 16 _ c.type_size.ensures (omega (arith, pre.1.1, c.type_size.ensures)) 16 (omega (arith, pre.1.1, c.type_size.ensures)) (omega arith)))
+    (pre.0, (pre.1.0, few-places _ 16 _ c.size_of-boxes.ensures (omega (arith, pre.1.1, c.size_of-boxes.ensures)) 16 (omega (arith, pre.1.1, c.size_of-boxes.ensures)) (omega arith)))
 
 pub look_few_boxes_spec : {M : Type 1} → statement M
 look_few_boxes_spec =

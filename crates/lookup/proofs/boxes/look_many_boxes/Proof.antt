@@ -8,12 +8,12 @@ use Rattle.lookup.proofs.boxes.look_many_boxes.Tie as tie
 slice-aggregate-look-boxes-in : tie.Need-slice_bounds-look_boxes_in-end
 slice-aggregate-look-boxes-in c =
     let pre = c.requires in
-    cells-lent _ 4096 _ c.type_size.ensures (omega (arith, pre.0.1.to-draw.passed.few-boxes, c.type_size.ensures))
+    cells-lent _ 4096 _ c.size_of-boxes.ensures (omega (arith, pre.0.1.to-draw.passed.few-boxes, c.size_of-boxes.ensures))
 
 look-boxes-in-requires : tie.Need-look_boxes_in-requires
 look-boxes-in-requires c κs =
     let pre = c.requires in
-    (pre.0, (pre.1, all-places _ 4096 _ c.type_size.ensures (omega (arith, pre.0.1.to-draw.passed.few-boxes, c.type_size.ensures)) pre.0.1.to-draw.passed.few-boxes))
+    (pre.0, (pre.1, all-places _ 4096 _ c.size_of-boxes.ensures (omega (arith, pre.0.1.to-draw.passed.few-boxes, c.size_of-boxes.ensures)) pre.0.1.to-draw.passed.few-boxes))
 
 pub look_many_boxes_spec : {M : Type 1} → statement M
 look_many_boxes_spec =

@@ -25,13 +25,13 @@ none-met c rs given = c.few_lists.ensures (not-false _ c.if-not-few_lists.left) 
 returns-2 : tie.Need-returns-then-rules_left-gt0
 returns-2 c =
     λ rs given.
-    left-refused rs _ _ _ given.to-draw.passed.apart (boxes-few _ _ _ _ _ _ _ _ _ _ given.to-draw) (none-met c rs given)
+    left-refused rs _ _ _ given.to-draw.passed.apart (boxes-few _ _ _ _ _ _ _ _ _ _ given.to-draw) (none-met c.before.before rs given)
     (omega (arith, c.if-rules_left-gt0.taken, given.counted, given.to-draw.times.all-states)) c.lookup_refused.ensures
 
-returns-3 : tie.Need-returns-then-not-few_lists
+returns-3 : tie.Need-returns
 returns-3 c =
     λ rs given.
-    state-found rs _ _ _ given.to-draw.passed.apart (boxes-few _ _ _ _ _ _ _ _ _ _ given.to-draw) (none-met c rs given)
+    state-found rs _ _ _ given.to-draw.passed.apart (boxes-few _ _ _ _ _ _ _ _ _ _ given.to-draw) (none-met c.before.before.before rs given)
     (omega (arith, c.if-rules_left-gt0.left, given.counted, given.to-draw.times.all-states))
     (c.Numbers-of.ensures ∙ c.point_state.ensures _ (lookable-rules _ _ _ _ _ _ _ _ _ _ rs given))
 

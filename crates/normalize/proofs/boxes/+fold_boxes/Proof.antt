@@ -53,16 +53,16 @@ pub +fold_boxes_spec : {M : Type 1} → statement M
     (λ c κs. let cut = c.requires.1.0.1.to-draw in search (rules, cut))
     (λ c.
     let pre = c.requires in
-    omega (arith, c.if-room-boxes.true, c.type_size.ensures, pre.1.0.1.to-draw.passed.few-boxes))
+    omega (arith, c.if-room-boxes.true, c.size_of-boxes.ensures, pre.1.0.1.to-draw.passed.few-boxes))
     (λ c κs.
     let pre = c.requires in
     let few = pre.1.0.1.to-draw.passed.few-boxes in
-    (omega (arith, pre.0, c.if-room-boxes.true, c.type_size.ensures, few, pre.1.1), (pre.1.0, omega (arith, pre.1.1))))
+    (omega (arith, pre.0, c.if-room-boxes.true, c.size_of-boxes.ensures, few, pre.1.1), (pre.1.0, omega (arith, pre.1.1))))
     (λ c. search rules)
     (λ c. search rules)
     (λ c κs.
     let pre = c.requires in
-    (pre.1.0, omega (arith, c.if-boxes-le64.true, c.type_size.ensures)))
+    (pre.1.0, omega (arith, c.if-boxes-le64.true, c.size_of-boxes.ensures)))
     (λ c. search rules)
     (λ c. search rules)
     (λ c κs. c.requires.1.0)
@@ -71,17 +71,17 @@ pub +fold_boxes_spec : {M : Type 1} → statement M
     (λ c κs. search rules)
     (λ c κs.
     let pre = c.requires in
-    (pre.1.0, omega (arith, c.if-wanted-le16.true, c.buffers_for-wanted.ensures, c.type_size.ensures)))
+    (pre.1.0, omega (arith, c.if-wanted-le16.true, c.buffers_for-wanted.ensures, c.size_of-boxes.ensures)))
     (λ c. search rules)
     (λ c. search rules)
     (λ c κs.
     let pre = c.requires in
-    (pre.1.0, omega (arith, c.if-wanted-le256.true, c.buffers_for-wanted.ensures, c.type_size.ensures)))
+    (pre.1.0, omega (arith, c.if-wanted-le256.true, c.buffers_for-wanted.ensures, c.size_of-boxes.ensures)))
     (λ c. search rules)
     (λ c. search rules)
     (λ c κs.
     let pre = c.requires in
-    (pre.1.0, omega (arith, c.if-wanted-le1024.true, c.buffers_for-wanted.ensures, c.type_size.ensures)))
+    (pre.1.0, omega (arith, c.if-wanted-le1024.true, c.buffers_for-wanted.ensures, c.size_of-boxes.ensures)))
     (λ c. search rules)
     (λ c. search rules)
     (λ c κs. c.requires.1.0)

@@ -28,21 +28,21 @@ is-marked-requires c κs =
 
 slice-write-cells : tie.Need-bounds-cells-box_index invariant-loop decreases-loop
 slice-write-cells c =
-    omega (arith, room-size _ _ _ _ _ _ c.requires, c.type_size.ensures, c.loop-box_index.invariant.1, c.loop-box_index-test.true)
+    omega (arith, room-size _ _ _ _ _ _ c.requires, c.size_of-boxes.ensures, c.loop-box_index.invariant.1, c.loop-box_index-test.true)
 
 loop-again : tie.Need-loop-box_index-preserved invariant-loop decreases-loop
 loop-again c =
     let inv = c.loop-box_index.invariant in
     let on = c.loop-box_index-test.true in
     let marked = c.is_marked.ensures in
-    let cell : c.loop-box_index.box_index < length c.loop-box_index.cells = omega (arith, room-size _ _ _ _ _ _ c.requires, c.type_size.ensures, inv.1, on) in
+    let cell : c.loop-box_index.box_index < length c.loop-box_index.cells = omega (arith, room-size _ _ _ _ _ _ c.requires, c.size_of-boxes.ensures, inv.1, on) in
     ⊎_elim
     (λ w. (omega (arith, on), ap length w.1 ∙ simp length-set inv.1, emptied-in _ _ _ _ _ _ _ _ inv.2 marked w.0.taken cell w.1))
     (λ w. (omega (arith, on), ap length w.1 ∙ inv.1, emptied-out _ _ _ _ _ _ _ _ inv.2 marked w.0.left w.1)) c.if-is_marked.branch
 
 returns : tie.Need-returns invariant-loop decreases-loop
 returns c =
-    let sized = c.type_size.ensures in
+    let sized = c.size_of-boxes.ensures in
     emptied-end _ _ _ _ _ _ c.requires.column.filled (omega (arith, sized, c.loop-box_index-test.false, c.loop-box_index.invariant.0)) c.loop-box_index.invariant.2
 
 pub empty_group_spec : {M : Type 1} → statement M

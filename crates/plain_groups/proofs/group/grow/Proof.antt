@@ -43,7 +43,7 @@ size-of-requires c κs =
 div-block : tie.Need-nonzero_div-block invariant-loop decreases-loop
 div-block c =
     let some = size-pos c.args.sizes.now (c.args.dimension + 1) (λ k lt. c.requires.0.column.filled k (omega (arith, c.requires.1.1))) in
-    omega (arith, some, c.type_size.ensures)
+    omega (arith, some, c.size_of.ensures)
 
 width-of-requires-2 : tie.Need-width_of-requires-2 invariant-loop decreases-loop
 width-of-requires-2 c κs =
@@ -61,7 +61,7 @@ loop-holds : tie.Need-loop-interval-init invariant-loop decreases-loop
 loop-holds c =
     let width = c.u16_to_usize-width.ensures.0 in
     let pre = c.requires in
-    let begin = grown-begin _ _ _ _ _ _ _ _ _ pre.1.1 pre.1.0 width c.type_size.ensures c.width_of.ensures c.width_of-2.ensures pre.0 in
+    let begin = grown-begin _ _ _ _ _ _ _ _ _ pre.1.1 pre.1.0 width c.size_of.ensures c.width_of.ensures c.width_of-2.ensures pre.0 in
     (refl, width, begin.0, begin.1)
 
 add-is-good : tie.Need-overflow_add-block invariant-loop decreases-loop

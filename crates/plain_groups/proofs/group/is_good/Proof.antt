@@ -25,18 +25,18 @@ size-of-requires c κs =
 add-end : tie.Need-overflow_add-end invariant-loop decreases-loop
 add-end c =
     let a = c.args in
-    omega (arith, block-fits (length a.cells.now) a.sizes.now a.dims_left a.block c.type_size.result c.type_size.ensures c.requires.column, c.well_formed)
+    omega (arith, block-fits (length a.cells.now) a.sizes.now a.dims_left a.block c.size_of-size.result c.size_of-size.ensures c.requires.column, c.well_formed)
 
 mul-if1 : tie.Need-offset_bounds-cells-box_index invariant-loop decreases-loop
 mul-if1 c =
     let a = c.args in
-    let fits = block-fits (length a.cells.now) a.sizes.now a.dims_left a.block c.type_size.result c.type_size.ensures c.requires.column in
+    let fits = block-fits (length a.cells.now) a.sizes.now a.dims_left a.block c.size_of-size.result c.size_of-size.ensures c.requires.column in
     omega (arith, fits, c.loop-box_index-test.true, c.well_formed)
 
 shared-slice-read-if1 : tie.Need-bounds-cells-box_index invariant-loop decreases-loop
 shared-slice-read-if1 c =
     let a = c.args in
-    let fits = block-fits (length a.cells.now) a.sizes.now a.dims_left a.block c.type_size.result c.type_size.ensures c.requires.column in
+    let fits = block-fits (length a.cells.now) a.sizes.now a.dims_left a.block c.size_of-size.result c.size_of-size.ensures c.requires.column in
     omega (arith, fits, c.loop-box_index-test.true)
 
 is-marked-requires : tie.Need-is_marked-requires invariant-loop decreases-loop
@@ -46,7 +46,7 @@ is-marked-requires c κs =
 
 returns : tie.Need-returns-then-is_marked invariant-loop decreases-loop
 returns c =
-    good-no _ _ _ _ _ _ c.requires.column.filled _ _ c.type_size.ensures _ _ c.loop-box_index.invariant.0 (omega (arith, c.loop-box_index-test.true))
+    good-no _ _ _ _ _ _ c.requires.column.filled _ _ c.size_of-size.ensures _ _ c.loop-box_index.invariant.0 (omega (arith, c.loop-box_index-test.true))
     c.is_marked.ensures c.if-is_marked.true c.if-cells-box_index.true
 
 loop-again : tie.Need-loop-box_index-preserved invariant-loop decreases-loop
@@ -61,7 +61,7 @@ loop-again c =
 
 returns-2 : tie.Need-returns invariant-loop decreases-loop
 returns-2 c =
-    good-end _ _ _ _ _ _ c.requires.column.filled _ _ c.type_size.ensures _ (omega (arith, c.loop-box_index-test.false)) c.loop-box_index.invariant.2
+    good-end _ _ _ _ _ _ c.requires.column.filled _ _ c.size_of-size.ensures _ (omega (arith, c.loop-box_index-test.false)) c.loop-box_index.invariant.2
 
 pub is_good_spec : {M : Type 1} → statement M
 is_good_spec =

@@ -39,11 +39,11 @@ few_lists_spec =
     (λ c κs. search rules)
     (λ c.
     λ _ rs given. few-none _ _ _ _ _ _ rs given c.args.sizes.now (omega (arith, given.cut.four)) (λ i l. kinds-all _ _ _ _ _ _ _) (omega (arith, c.if-rules-gt32.left))
-    (omega (arith, ltb-false sheet_limits.lists c.type_size.result (sym c.lists_over.ensures ∙ not-true _ c.if-not-lists_over.taken), c.type_size.ensures)))
+    (omega (arith, ltb-false sheet_limits.lists c.size_of.result (sym c.lists_over.ensures ∙ not-true _ c.if-not-lists_over.taken), c.size_of.ensures)))
     (λ c κs. kinds-there c 0 (omega arith))
-    (λ c κs. kinds-there c 1 (omega arith))
-    (λ c κs. kinds-there c 2 (omega arith))
-    (λ c κs. kinds-there c 3 (omega arith))
+    (λ c κs. kinds-there c.before 1 (omega arith))
+    (λ c κs. kinds-there c.before.before 2 (omega arith))
+    (λ c κs. kinds-there c.before.before.before 3 (omega arith))
     (λ c. search (rules, (products c).0)) (λ c. search (rules, (products c).1)) (λ c. search (rules, (products c).2))
     (λ c κs. search rules)
     (λ c.

@@ -15,6 +15,6 @@ pub of_days_spec : {M : Type 1} → statement M
 of_days_spec =
     tie.close
     (tie.spec (λ c κs. search rules)
-    (λ c. sym (standing c ∙ ap (λ b. cond b 0 8) c.if-every_week.true))
-    (λ c. sym (standing c ∙ ap (λ b. cond b 0 8) c.if-every_week.false))
+    (λ c. sym (standing c.before ∙ ap (λ b. cond b 0 8) c.if-every_week.true))
+    (λ c. sym (standing c.before ∙ ap (λ b. cond b 0 8) c.if-every_week.false))
     (λ c. sym (rw (ne_eqb _ 0 c.if-offset-eq0.false))))

@@ -35,8 +35,8 @@ body_reason_spec =
     (tie.spec
     (λ c κs. search rules)
     (λ c κs. omega (arith, c.requires, years-end c))
-    (λ c κs. omega (arith, c.requires, years-end c, monthdays-end c))
-    (λ c κs. omega (arith, c.requires, years-end c, monthdays-end c, weeks-end c))
+    (λ c κs. omega (arith, c.requires, years-end c.before, monthdays-end c))
+    (λ c κs. omega (arith, c.requires, years-end c.before.before, monthdays-end c.before, weeks-end c))
     (λ c κs.
-    omega (arith, c.requires, years-end c, monthdays-end c, weeks-end c, weekdays-end c))
+    omega (arith, c.requires, years-end c.before.before.before, monthdays-end c.before.before, weeks-end c.before, weekdays-end c))
     (λ c κs. search rules) (λ c κs. search rules) (λ c κs. search rules) (λ c κs. search rules) returns)
