@@ -1,5 +1,5 @@
-// The entries for C and Rust: an answer's numbers go into a lent slice. A slice too short for them is answered no, and nothing is written
-// anywhere.
+// The entries with lent numbers, as C and Rust call them by crate `hours_c`: an answer's numbers go into a lent slice. A slice too short for them is
+// answered no, and nothing is written anywhere.
 ghost use Rattle.std.specs.Prelude.{◌≡◌, leb, length};
 ghost use Rattle.definition.specs.Sheet.{sheet_limits};
 ghost use Rattle.definition.specs.Fold.{numbers, written_numbers};
@@ -24,8 +24,7 @@ fn put_fold(form: u64, sheet: &[u8], out: &mut [u8], lent: &mut [u64], plain: bo
 }
 
 // Code, drained, emitted, left, bytes, place, why.
-#[unsafe(no_mangle)]
-pub extern "C" fn hours_fold(form: u64, sheet: &[u8], out: &mut [u8], lent: &mut [u64]) -> bool
+pub fn hours_fold(form: u64, sheet: &[u8], out: &mut [u8], lent: &mut [u64]) -> bool
     ensures { (result ≡ leb 7 (length lent.old))
         × (lent.new ≡ put result (numbers (fold_in sheet_limits form (length out.old) sheet.now)) lent.old)
         × (out.new ≡ put result (fold_in sheet_limits form (length out.old) sheet.now).result out.old) }
@@ -34,8 +33,7 @@ pub extern "C" fn hours_fold(form: u64, sheet: &[u8], out: &mut [u8], lent: &mut
 }
 
 // The same by the plain engine.
-#[unsafe(no_mangle)]
-pub extern "C" fn hours_fold_plain(
+pub fn hours_fold_plain(
     form: u64,
     sheet: &[u8],
     out: &mut [u8],
@@ -49,8 +47,7 @@ pub extern "C" fn hours_fold_plain(
 }
 
 // Code, kind, comment, place.
-#[unsafe(no_mangle)]
-pub extern "C" fn hours_lookup(
+pub fn hours_lookup(
     form: u64,
     sheet: &[u8],
     year: u64,
@@ -70,8 +67,7 @@ pub extern "C" fn hours_lookup(
 }
 
 // Code, bytes, place.
-#[unsafe(no_mangle)]
-pub extern "C" fn hours_write_back(
+pub fn hours_write_back(
     form: u64,
     sheet: &[u8],
     out: &mut [u8],
@@ -89,8 +85,7 @@ pub extern "C" fn hours_write_back(
 }
 
 // Code, bytes, place.
-#[unsafe(no_mangle)]
-pub extern "C" fn hours_line(form: u64, sheet: &[u8], out: &mut [u8], lent: &mut [u64]) -> bool
+pub fn hours_line(form: u64, sheet: &[u8], out: &mut [u8], lent: &mut [u64]) -> bool
     ensures { (result ≡ leb 3 (length lent.old))
         × (lent.new ≡ put result (written_numbers (show_line_in sheet_limits form (length out.old) sheet.now)) lent.old)
         × (out.new ≡ put result (show_line_in sheet_limits form (length out.old) sheet.now).result out.old) }
@@ -103,8 +98,7 @@ pub extern "C" fn hours_line(form: u64, sheet: &[u8], out: &mut [u8], lent: &mut
 }
 
 // Code, bytes, place.
-#[unsafe(no_mangle)]
-pub extern "C" fn hours_convert(form: u64, sheet: &[u8], out: &mut [u8], lent: &mut [u64]) -> bool
+pub fn hours_convert(form: u64, sheet: &[u8], out: &mut [u8], lent: &mut [u64]) -> bool
     ensures { (result ≡ leb 3 (length lent.old))
         × (lent.new ≡ put result (written_numbers (convert_in sheet_limits form (length out.old) sheet.now)) lent.old)
         × (out.new ≡ put result (convert_in sheet_limits form (length out.old) sheet.now).result out.old) }
