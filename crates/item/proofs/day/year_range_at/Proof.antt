@@ -4,7 +4,7 @@ use native.Mathlib.Omega.{arith}
 use borrow.Author.Rules.{rules}
 use Rattle.definition.proofs.Reading.{then-goes, then-stops, then-stops-later, via-goes, via-stops}
 use Rattle.field.proofs.Taking.{took, took-end, stopped}
-use Rattle.definition.specs.Sheet.{year_range}
+use Rattle.definition.specs.Sheet.{year_range, years_of}
 use Rattle.item.proofs.Returns.{stepped-stops}
 use Rattle.item.proofs.day.year_range_at.Statement.{statement}
 use Rattle.item.proofs.day.year_range_at.Tie as tie
@@ -17,13 +17,13 @@ year_range_at_spec =
     (λ c κs. search rules)
     (λ c. search rules) (λ c. search rules) (λ c κs. search rules)
     (λ c.
-    stepped-stops _ _ _ _ c.refused.ensures c.in_default.is
+    stepped-stops _ years_of _ _ c.refused.ensures c.in_default.is
     (via-stops _ _ _ _ _ (then-stops _ _ _ _ (stopped _ _ _ c.year_at-first.ensures c.in_default.is))))
     (λ c κs.
     omega (arith, took-end _ _ _ _ _ c.year_at-first.ensures c.in-Value.is))
     (λ c. search rules) (λ c. search rules) (λ c κs. search rules)
     (λ c.
-    stepped-stops _ _ _ _ c.refused-in_default-second.ensures c.in_default-second.is
+    stepped-stops _ years_of _ _ c.refused-in_default-second.ensures c.in_default-second.is
     (via-stops _ _ _ _ _
     (then-stops-later _ _ _ _ (took _ _ _ c.year_at-first.ensures c.in-Value.is)
     (then-stops _ _ _ _ (stopped _ _ _ c.year_at-second.ensures c.in_default-second.is)))))
@@ -38,7 +38,7 @@ year_range_at_spec =
     ))
     (λ c. search rules) (λ c. search rules) (λ c κs. search rules)
     (λ c.
-    stepped-stops _ _ _ _ c.refused-in_default-third.ensures c.in_default-third.is
+    stepped-stops _ years_of _ _ c.refused-in_default-third.ensures c.in_default-third.is
     (via-stops _ _ _ _ _
     (then-stops-later _ _ _ _ (took _ _ _ c.year_at-first.ensures c.in-Value.is)
     (then-stops-later _ _ _ _ (took _ _ _ c.year_at-second.ensures c.in-Value-second.is)
