@@ -21,7 +21,7 @@ grow-column-requires c κs =
     let lt = c.loop-column-test.true in (
       to.more,
       column-room _ _ _ _ _ _ _ _ _ pre.0 pre.1 _ _ _ _ _ _ to lt,
-      omega (arith, pre.1.marked, lt, simp length-set at to.places, c.unmark.auto.0),
+      omega (arith, pre.1.marked, lt, simp length-set at to.places, c.unmark.auto.marks),
       pre.1.numbered,
       column-there _ _ _ _ _ _ _ _ _ pre.0 pre.1 _ _ _ _ _ _ to lt,
     )
@@ -30,7 +30,7 @@ loop-again : tie.Need-loop-column-preserved invariant-loop decreases-loop
 loop-again c =
     let pre = c.requires in
     let one = c.grow_column-listed in
-    grown-next _ _ _ _ _ _ _ _ _ pre.0 pre.1 _ _ _ _ _ _ c.loop-column.invariant c.loop-column-test.true _ _ _ one.auto.1.0 one.auto.1.1.0 one.ensures
+    grown-next _ _ _ _ _ _ _ _ _ pre.0 pre.1 _ _ _ _ _ _ c.loop-column.invariant c.loop-column-test.true _ _ _ one.auto.marks one.auto.boxes one.ensures
 
 returns : tie.Need-returns invariant-loop decreases-loop
 returns c =
@@ -55,5 +55,5 @@ grow_spec =
     (λ c. omega (arith, c.loop-column-test.true))
     (λ c. omega (arith, c.loop-column-test.true))
     loop-again
-    (λ c. simp length-set at c.loop-column.invariant.places ∙ c.unmark.auto.0)
+    (λ c. simp length-set at c.loop-column.invariant.places ∙ c.unmark.auto.marks)
     (λ c. c.loop-column.invariant.room) returns)

@@ -39,7 +39,7 @@ loop-again c =
     let pre = c.requires in
     let one = c.grow-count in
     group-next _ _ _ _ _ _ _ _ _ _ _ _ _ c.loop-dimension.invariant c.loop-dimension-test.true c.u16_to_usize-width.ensures.0 pre.0 pre.1.0
-    (omega (arith, pre.1.2, length-set a.boxes.now 0 a.first)) _ _ _ one.auto.1.0 one.auto.1.1.0 one.ensures.0 one.ensures.1
+    (omega (arith, pre.1.2, length-set a.boxes.now 0 a.first)) _ _ _ one.auto.marks one.auto.boxes one.ensures.0 one.ensures.1
 
 returns : tie.Need-returns invariant-loop decreases-loop
 returns c =
