@@ -33,8 +33,8 @@ move_down_spec =
     let inv = c.loop-place.invariant in
     let inside = c.loop-place-test.true in (
       omega (arith, inside),
-      c.move_list-next.auto.0 ∙ inv.1,
-      c.move_list-next.auto.1.0 ∙ inv.2,
+      c.move_list-next.auto.lists ∙ inv.1,
+      c.move_list-next.auto.memo ∙ inv.2,
       moved_more _ _ _ _ _ _ _ _ _ (λ l h. c.requires.3 l (omega (arith, h, inside))) inv.3 c.move_list-next.ensures,
     ))
     (λ c. c.loop-place.invariant.1) (λ c. c.loop-place.invariant.2)

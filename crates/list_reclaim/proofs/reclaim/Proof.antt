@@ -13,18 +13,18 @@ reclaim_spec =
     (tie.spec
     (λ c κs. search rules)
     (λ c κs.
-    λ box. omega (arith, c.requires.0.names box, c.requires.1, c.clear.auto.0))
+    λ box. omega (arith, c.requires.0.names box, c.requires.1, c.clear.auto.memo))
     (λ c. search rules)
     (λ c κs.
     let pre = c.requires in
-    (pre.0.room, simp length-set (omega (arith, pre.1, c.clear.auto.0, c.mark.auto.1.0)), pre.2, pre.0.short))
+    (pre.0.room, simp length-set (omega (arith, pre.1, c.clear.auto.memo, c.mark.auto.memo)), pre.2, pre.0.short))
     (λ c κs.
     let pre = c.requires in
-    λ box. omega (arith, pre.0.names box, pre.1, c.clear.kept.0, c.mark.kept.1.0, simp length-set at c.move_down-kept.auto.1.0))
+    λ box. omega (arith, pre.0.names box, pre.1, c.clear.auto.memo, c.mark.auto.memo, simp length-set at c.move_down-kept.auto.memo))
     (λ c κs. search rules) (λ c. search rules) (λ c. search rules)
     (λ c.
-    c.clear-2.auto.0 ∙ (simp length-set at c.move_down-kept.kept.1.0) ∙ c.mark.kept.1.0 ∙ c.clear.auto.0)
+    c.clear-2.auto.memo ∙ (simp length-set at c.move_down-kept.auto.memo) ∙ c.mark.auto.memo ∙ c.clear.auto.memo)
     (λ c.
-    let pre = c.pre in
-    reclaimed _ _ _ _ _ _ _ _ _ _ pre.0 (omega (arith, pre.1, c.clear.kept.0, c.mark.kept.1.0)) c.clear.ensures c.mark.ensures
-    c.move_down-kept.ensures c.rename.ensures c.rename.auto.0 c.move_down-kept.kept.0 c.clear-2.ensures))
+    let pre = c.requires in
+    reclaimed _ _ _ _ _ _ _ _ _ _ pre.0 (omega (arith, pre.1, c.clear.auto.memo, c.mark.auto.memo)) c.clear.ensures c.mark.ensures
+    c.move_down-kept.ensures c.rename.ensures c.rename.auto.cells c.move_down-kept.auto.lists c.clear-2.ensures))
