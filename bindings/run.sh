@@ -1,6 +1,6 @@
 #!/usr/bin/env bash
 # Compiles and runs the examples and tests of the C header and of the Rust crate. Fails unless the examples print what documents 01 and 02 say.
-# `HOURS_ARCHIVE` names the folder of libhours.a; without it, that of `rt staticlib hours`, which makes the archive if it is missing.
+# `HOURS_ARCHIVE` names the folder of libhours.a; without it, that of `bindings/archive.sh`, which makes the archive if it is missing.
 set -euo pipefail
 cd "$(dirname "$0")/.."
 
@@ -25,7 +25,7 @@ expect() {
 }
 
 if [ -z "${HOURS_ARCHIVE:-}" ] && [ ! -f target/staticlib/libhours.a ]; then
-    rt staticlib hours
+    bindings/archive.sh
 fi
 HOURS_ARCHIVE=$(realpath "${HOURS_ARCHIVE:-target/staticlib}")
 export HOURS_ARCHIVE

@@ -51,7 +51,7 @@ TITLES = {  # the chapters in their order: no file stands before one that it res
 }
 CRATES = ("definition", "grid")
 EXCEPTED = {"definition/specs/Lib", "grid/specs/Lib"}  # lists of modules
-USE = re.compile(r"use (?:Rattle·(\w+)(?:·specs)?\.specs\.(\w+)|.+?)(?:\.\{(.*)\}| as \w+)")
+USE = re.compile(r"use (?:Rattle\.(\w+)\.specs\.(\w+)|.+?)(?:\.\{(.*)\}| as \w+)")
 QUOTATION = re.compile(r'"(?:`[^`]*`|[^"`])*"')
 
 INTRODUCTION = """# The definition
@@ -59,7 +59,7 @@ INTRODUCTION = """# The definition
 Made by `python3 docs/definition.py` from `crates/definition/specs/` and `crates/grid/specs/`. What is to change is changed there.
 
 Here stands, in full, what is right. Everything promised of the software (docs/PROMISES.md) is an equation to these definitions: for every number of a form, byte
-string, date and buffer, the answer and the bytes written are those of the entries in [Forms]: `fold` and `writeBack` ([Fold]), `showLine` ([Show]), `lookup`
+string, date and buffer, the answer and the bytes written are those of the entries in [Forms]: `fold` and `write_back` ([Fold]), `show_line` ([Show]), `lookup`
 ([Lookup]) and `convert`, in the form that the caller names. That these equations hold is proved, and checked by machine. That the definitions say what was
 wanted, no machine can check: a person has to read them. This document is for that person, and asks for nothing but reading.
 
@@ -87,14 +87,14 @@ No definition uses a name of a later chapter. [grid's Group] and [grid's Cut] ho
 | `A → B → C`, `f x y`, `f x` | a function of an A and a B that gives a C; its value for x and y; for x alone, the function of y that is left |
 | `λ x y. e` | the function that takes x and y to e |
 | `Type 0`, `{A : Type 0} →`, `(s : Span) →` | the type of types; for every type A, which isn't written where the function is used; for every span s |
-| `A × B`, `(x, y)`, `p .0`, `p .1` | the pairs of an A and a B; a pair; its first part; its second. `p .1 .0` is the first part of the second part |
+| `A × B`, `(x, y)`, `p.0`, `p.1` | the pairs of an A and a B; a pair; its first part; its second. `p.1.0` is the first part of the second part |
 | `data T where`, below it `c : A → T` | a type by its cases: each value of T is made by exactly one of the words listed, here `c x` from an x of A |
-| `record R where`, `record { f = e; g = d }`, `r .f` | a type of values with named fields; a value by its fields; the field f of r |
+| `record R where`, `record { f = e; g = d }`, `r.f` | a type of values with named fields; a value by its fields; the field f of r |
 | `elim e [ c x ↦ a \\| d ↦ b ]`, `let x = e in b` | by cases: a where e is `c x`, b where e is d; b, where x is e |
 | `module _ (x : A) where` | each definition indented below takes x first; among themselves they leave it out |
-| `infixr 20 _then_` | `then` is written between its arguments; `a then b then c` is `a then (b then c)` |
+| `infixr 20 ◌then◌` | `then` is written between its arguments; `a then b then c` is `a then (b then c)` |
 | `a ≡ b` | the statement that a and b are equal. A statement is a type, so `×` between two says that both hold |
-| what binds | strongest first: `f x` and `r .f`; `^`; `*` `/` `%`; `∷`; `+` `-` `++`; `&&`; `\\|\\|`; `then`; `≡`; `×`; `→` |
+| what binds | strongest first: `r.f`; `f x`; `^`; `*` `/` `%`; `∷`; `+` `-` `++`; `&&`; `\\|\\|`; `then`; `≡`; `×`; `→` |
 
 | numbers and tests | read |
 |---|---|
@@ -103,19 +103,19 @@ No definition uses a name of a later chapter. [grid's Group] and [grid's Cut] ho
 | `a / b`, `a % b` | quotient without remainder; remainder. No divisor here is 0 |
 | `Bool`, `true`, `false`, `a && b`, `a \\|\\| b`, `not a` | the two answers of a test; both; one at least; the other answer |
 | `eqb a b`, `ltb a b`, `leb a b`, `cond t a b` | tests of two numbers: equal; a below b; a not above b. And a where the test t is true, b where it is false |
-| `sameList`, `samePair`, `sameOption`, `sameFlag` | equality as a test: of lists, pairs and options by tests of their parts, and of Bools |
+| `same_list`, `same_pair`, `same_option`, `same_flag` | equality as a test: of lists, pairs and options by tests of their parts, and of Bools |
 
 | lists, options, texts | read |
 |---|---|
 | `List A`, `[]`, `x ∷ xs`, `xs ++ ys` | lists of A; the empty one; x, then the list xs; one list behind the other |
-| `length xs`, `take n xs`, `drop n xs`, `getD xs n d` | how many; the first n, or all there are; the list without these; the one at place n, from 0, or d where there is none |
-| `map f xs`, `flatMap f xs`, `sum h xs` | f of each; f of each, a list, joined one behind the other; the sum of h of each |
-| `every t xs`, `anyOf t xs`, `count t xs`, `keep t xs` | do all pass the test t; does one at least; how many do; those that do, in order |
-| `anyPair t xs`, `firstIndex t xs` | does one element pass the test t with a later one; `some` index of the first that passes a test, from 0, or `none` |
+| `length xs`, `take n xs`, `drop n xs`, `get_or xs n d` | how many; the first n, or all there are; the list without these; the one at place n, from 0, or d where there is none |
+| `map f xs`, `flat_map f xs`, `sum h xs` | f of each; f of each, a list, joined one behind the other; the sum of h of each |
+| `every t xs`, `any_of t xs`, `count t xs`, `keep t xs` | do all pass the test t; does one at least; how many do; those that do, in order |
+| `any_pair t xs`, `first_index t xs` | does one element pass the test t with a later one; `some` index of the first that passes a test, from 0, or `none` |
 | `distinct same xs`, `filled xs` | each element once, of those that the test `same` finds equal the last; has the list an element |
 | `from s n`, `replicate n x` | the n numbers from s on; n times x |
-| `Option A`, `none`, `some x`, `Option·map f o` | an A or nothing; nothing; the value x; f of the value, if there is one |
-| `onlyIf t x`, `firstOf h xs` | `some x` if t is true, else `none`; the first `some` among h of each, else `none` |
+| `Option A`, `none`, `some x`, `map f o` | an A or nothing; nothing; the value x; f of the value, if there is one |
+| `only_if t x`, `first_of h xs` | `some x` if t is true, else `none`; the first `some` among h of each, else `none` |
 | `String`, `"ab"`, `[]ˢ`, `c ∷ˢ s`, `code c` | texts; a text; the empty one; the character c, then the text s; the number of c in ASCII |
 """
 
@@ -133,7 +133,7 @@ def read_chapter(path: str) -> Chapter:
     places = [place for place, line in enumerate(lines) if line.startswith("use ")]
     uses = [USE.fullmatch(lines[place]).groups() for place in places]
     rests_on = [f"{crate}/specs/{name}" for crate, name, _ in uses if crate in CRATES]
-    words = [word.split(" as ")[-1].strip("_") for crate, _, names in uses if crate not in CRATES and names for word in names.split(", ")]
+    words = [word.split(" as ")[-1].strip("◌") for crate, _, names in uses if crate not in CRATES and names for word in names.split(", ")]
     return Chapter(path, lines[: places[0]], rests_on, words, lines[places[-1] + 1 :])
 
 

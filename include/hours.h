@@ -1,6 +1,6 @@
 /* The fold of landing-site hours, for C and C++: what the archive libhours.a exports.
  *
- * `rt staticlib hours` proves it and writes target/staticlib/libhours.a, x86-64 code with the System V calling convention:
+ * `bindings/archive.sh` proves it and writes target/staticlib/libhours.a, x86-64 code with the System V calling convention:
  *
  *     cc -Iinclude program.c target/staticlib/libhours.a
  *

@@ -1,4 +1,4 @@
-//! Links the archive: `HOURS_ARCHIVE` names its folder; without it, that is where `rt staticlib hours` writes it.
+//! Links the archive: `HOURS_ARCHIVE` names its folder; without it, that is where `bindings/archive.sh` writes it.
 
 use std::env;
 use std::path::{Path, PathBuf};
@@ -12,7 +12,7 @@ fn main() {
     println!("cargo::rerun-if-changed={}", archive.display());
     if !archive.is_file() {
         println!(
-            "cargo::error={} is missing: `rt staticlib hours` writes it",
+            "cargo::error={} is missing: `bindings/archive.sh` writes it",
             archive.display()
         );
     }

@@ -1,4 +1,4 @@
-//! Links the archive that `rt staticlib hours` writes; `HOURS_ARCHIVE` names another folder to take it from.
+//! Links the archive that `bindings/archive.sh` writes; `HOURS_ARCHIVE` names another folder to take it from.
 
 use std::env;
 use std::path::PathBuf;
