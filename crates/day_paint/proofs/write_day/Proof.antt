@@ -30,7 +30,7 @@ returns-2 : tie.Need-returns-then-k-lt-MANY
 returns-2 c =
     let pre = c.requires in
     let kept = c.write_rising-m.auto in
-    day-pieces _ _ _ _ _ _ _ c.write_pieces.ensures (omega (arith, kept.0, pre.2)) (omega (arith, kept.1.0, pre.3))
+    day-pieces _ _ _ _ _ _ _ c.write_pieces.ensures (omega (arith, kept.starts, pre.2)) (omega (arith, kept.states, pre.3))
 
 write-painted-requires : tie.Need-write_painted-requires
 write-painted-requires c κs = search rules

@@ -71,7 +71,7 @@ write-run-strokes-requires c κs = search rules
 
 same_length : tie.Need-shape_of-strokes-in-loop-next invariant-loop decreases-loop
 same_length c =
-    c.write_run_strokes.auto.0 ∙ c.loop-next.invariant.1
+    c.write_run_strokes.auto.strokes ∙ c.loop-next.invariant.1
 
 returns : tie.Need-returns-in-loop-next invariant-loop decreases-loop
 returns c =

@@ -59,7 +59,7 @@ loop-again c =
     let inv = c.loop-i.invariant in (
       omega (arith, c.loop-i-test.true),
       omega (arith, inv.1),
-      c.fill.auto.0 ∙ inv.2,
+      c.fill.auto.minutes ∙ inv.2,
       painted-on _ _ _ _ _ refl _ _ _ (c.u64_to_usize.ensures ∙ c.stroke_start.ensures)
           (c.u64_to_usize-in-loop-i.ensures ∙ c.earlier_of-end.ensures ∙ ap (λ e. earlier e 1440) c.stroke_end.ensures) (omega (arith, inv.1))
           c.fill.ensures inv.3,

@@ -52,8 +52,8 @@ loop-less c =
 loop-again : tie.Need-loop-from-preserved invariant-loop decreases-loop
 loop-again c =
     let inv = c.loop-from.invariant in (
-      c.put_piece-place.auto.0 ∙ inv.0,
-      c.put_piece-place.auto.1.0 ∙ inv.1,
+      c.put_piece-place.auto.starts ∙ inv.0,
+      c.put_piece-place.auto.states ∙ inv.1,
       reading-on _ _ _ _ _ _ _ _ inv.2 c.loop-from-test.true _ refl _ c.number_state-state.ensures _ c.run_end-from.ensures _ _ _ _
           c.usize_to_u64.ensures c.put_piece-place.ensures,
     )

@@ -22,7 +22,7 @@ write-minutes-requires : tie.Need-write_minutes-requires
 write-minutes-requires c κs =
     let pre = c.requires in
     let painted = c.paint.ensures in (
-      (omega (arith, c.paint.auto.0, c.bare_minutes-minutes.ensures.0), omega (arith, painted.few, pre.2), omega (arith, painted.few, pre.3)),
+      (omega (arith, c.paint.auto.minutes, c.bare_minutes-minutes.ensures.0), omega (arith, painted.few, pre.2), omega (arith, painted.few, pre.3)),
       λ m. omega (arith, painted.numbers m, pre.1),
     )
 

@@ -64,9 +64,9 @@ pub +write_range_spec : {M : Type 1} → statement M
     (λ c κs. (omega (arith, c.loop-from.invariant.fewer, c.requires.1.0), c.loop-from-test.true))
     (λ c κs.
     bare-room _ _ _ _ _ _ _ _ _ _ _ _ c.loop-from.invariant _ c.last_meeting-below.ensures (omega (arith, c.if-below-eq0.true)) c.loop-from-test.true)
-    (λ c. c.put_piece.auto.0 ∙ c.loop-from.invariant.lengths.0)
+    (λ c. c.put_piece.auto.starts ∙ c.loop-from.invariant.lengths.0)
     (λ c.
-    c.put_piece.auto.1.0 ∙ c.loop-from.invariant.lengths.1)
+    c.put_piece.auto.states ∙ c.loop-from.invariant.lengths.1)
     (λ c.
     bare-laid _ _ _ _ _ _ _ _ _ _ _ _ c.loop-from.invariant _ c.last_meeting-below.ensures (omega (arith, c.if-below-eq0.true)) c.loop-from-test.true _ _
     _ c.put_piece.ensures)
@@ -92,7 +92,7 @@ pub +write_range_spec : {M : Type 1} → statement M
     omega (arith, c.if-from-start.true, c.loop-from-test.true))
     (λ c.
     left-on _ _ _ _ _ _ _ _ _ _ _ _ c.loop-from.invariant _ c.last_meeting-below.ensures c.if-below-eq0.false _ c.stroke_start-start.ensures
-    c.if-from-start.true _ _ _ c.write_range-place.ensures (c.write_range-place.auto.0, c.write_range-place.auto.1.0))
+    c.if-from-start.true _ _ _ c.write_range-place.ensures (c.write_range-place.auto.starts, c.write_range-place.auto.states))
     (λ c κs. search rules)
     (λ c κs.
     let room =
@@ -109,7 +109,7 @@ pub +write_range_spec : {M : Type 1} → statement M
     (λ c.
     own_on _ _ _ _ _ _ _ _ _ _ _ _ c.loop-from.invariant _ c.last_meeting-below.ensures c.if-below-eq0.false _ c.stroke_start-start.ensures
     (omega (arith, c.if-from-start.false)) _ _ _ c.stroke_state.ensures c.stroke_end.ensures c.earlier_of-from.ensures _ _ _
-    c.put_piece-place.ensures (c.put_piece-place.auto.0, c.put_piece-place.auto.1.0))
+    c.put_piece-place.ensures (c.put_piece-place.auto.starts, c.put_piece-place.auto.states))
     (λ c. c.loop-from.invariant.lengths.0)
     (λ c. c.loop-from.invariant.lengths.1)
     (λ c. nothing_left _ _ _ _ _ _ _ _ _ _ _ _ c.loop-from.invariant (omega arith))

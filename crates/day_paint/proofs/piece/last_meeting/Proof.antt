@@ -32,7 +32,7 @@ meets-range-requires c κs = search rules
 returns : tie.Need-returns-then-meets_range invariant-loop decreases-loop
 returns c = last-here _ _ _ _ (omega arith) (sym c.meets_range.ensures ∙ c.if-meets_range.true) ∙ c.loop-next.invariant.1
 
-sub-next : tie.Need-overflow_sub-next invariant-loop decreases-loop
+sub-next : tie.Need-overflow_sub-next-in-loop-next invariant-loop decreases-loop
 sub-next c = search rules
 
 loop-less : tie.Need-loop-next-smaller invariant-loop decreases-loop

@@ -13,11 +13,11 @@ write-range-requires c κs =
 
 mul-starts : tie.Need-offset_bounds-starts-m
 mul-starts c =
-    omega (arith, pieces-few c.args.strokes.now c.args.k 0 1440, c.requires, c.write_range-m.ensures.2, c.write_range-m.auto.0)
+    omega (arith, pieces-few c.args.strokes.now c.args.k 0 1440, c.requires, c.write_range-m.ensures.2, c.write_range-m.auto.starts)
 
 slice-write-starts : tie.Need-bounds-starts-m
 slice-write-starts c =
-    omega (arith, pieces-few c.args.strokes.now c.args.k 0 1440, c.requires, c.write_range-m.ensures.2, c.write_range-m.auto.0)
+    omega (arith, pieces-few c.args.strokes.now c.args.k 0 1440, c.requires, c.write_range-m.ensures.2, c.write_range-m.auto.starts)
 
 same_length : tie.Need-shape_of-starts
 same_length c = search rules

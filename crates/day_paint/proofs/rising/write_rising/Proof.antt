@@ -73,7 +73,7 @@ put-piece-requires c κs =
     let more = c.loop-i-test.true in
     let next = c.put_gap-next.ensures.2 in
     let kept = c.put_gap-next.auto in
-    (omega (arith, more, next, inv.3.few, inv.1, kept.0, pre.2), omega (arith, more, next, inv.3.few, inv.2, kept.1.0, pre.3))
+    (omega (arith, more, next, inv.3.few, inv.1, kept.starts, pre.2), omega (arith, more, next, inv.3.few, inv.2, kept.states, pre.3))
 
 add-i : tie.Need-overflow_add-i invariant-loop decreases-loop
 add-i c = search rules
@@ -86,8 +86,8 @@ loop-again : tie.Need-loop-i-preserved invariant-loop decreases-loop
 loop-again c =
     let inv = c.loop-i.invariant in (
       omega (arith, c.loop-i-test.true),
-      c.put_piece-place.auto.0 ∙ c.put_gap-next.auto.0 ∙ inv.1,
-      c.put_piece-place.auto.1.0 ∙ c.put_gap-next.auto.1.0 ∙ inv.2,
+      c.put_piece-place.auto.starts ∙ c.put_gap-next.auto.starts ∙ inv.1,
+      c.put_piece-place.auto.states ∙ c.put_gap-next.auto.states ∙ inv.2,
       rising-on _ _ _ _ _ _ _ _ inv.3 _ refl _ _ _ c.stroke_start-start.ensures c.stroke_end-end.ensures c.stroke_state.ensures
           (omega (arith, c.if-start-from.false)) (omega (arith, c.if-end-start.false)) (omega (arith, c.if-end-gt-DAY_END.false)) _ _ _ c.put_gap-next.ensures _ _ _
           c.put_piece-place.ensures,
@@ -103,21 +103,21 @@ mul-starts : tie.Need-offset_bounds-starts-last invariant-loop decreases-loop
 mul-starts c =
     let inv = c.loop-i.invariant in
     let pre = c.requires in
-    omega (arith, c.put_gap-last.ensures.2, c.put_gap-last.auto.0, inv.0, inv.3.few, inv.1, pre.2)
+    omega (arith, c.put_gap-last.ensures.2, c.put_gap-last.auto.starts, inv.0, inv.3.few, inv.1, pre.2)
 
 slice-write-starts : tie.Need-bounds-starts-last invariant-loop decreases-loop
 slice-write-starts c =
     let inv = c.loop-i.invariant in
     let pre = c.requires in
-    omega (arith, c.put_gap-last.ensures.2, c.put_gap-last.auto.0, inv.0, inv.3.few, inv.1, pre.2)
+    omega (arith, c.put_gap-last.ensures.2, c.put_gap-last.auto.starts, inv.0, inv.3.few, inv.1, pre.2)
 
 same-length-7 : tie.Need-shape_of-starts invariant-loop decreases-loop
 same-length-7 c =
-    simp length-set (c.put_gap-last.auto.0 ∙ c.loop-i.invariant.1)
+    simp length-set (c.put_gap-last.auto.starts ∙ c.loop-i.invariant.1)
 
 same-length-8 : tie.Need-shape_of-states invariant-loop decreases-loop
 same-length-8 c =
-    c.put_gap-last.auto.1.0 ∙ c.loop-i.invariant.2
+    c.put_gap-last.auto.states ∙ c.loop-i.invariant.2
 
 returns-4 : tie.Need-returns invariant-loop decreases-loop
 returns-4 c =
