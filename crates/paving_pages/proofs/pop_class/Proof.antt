@@ -55,13 +55,13 @@ put-page-requires c κs =
     let page = put_page a.row_starts.now a.cuts.now a.sizes.now 4 in
     let round = loop-round _ _ _ _ _ c.requires.1.1.0 _ _ _ _ group.0 refl one.ensures.1 page _ _ _ _ i.3.0 i.3.1 refl in (
       c.requires.1.0,
-      (omega (arith, c.requires.0.marked, one.auto.1.1.0, i.1), round_room _ _ _ _ _ _ _ _ _ _ _ round.0 i.2 c.requires.1.1.1.1),
+      (omega (arith, c.requires.0.marked, one.auto.marks, i.1), round_room _ _ _ _ _ _ _ _ _ _ _ round.0 i.2 c.requires.1.1.1.1),
     )
 
 next-box-requires-2 : tie.Need-next_box-first-requires-in-loop-first invariant-loop decreases-loop
 next-box-requires-2 c κs =
     let i = c.loop-first.invariant in
-    (i.6, omega (arith, room-size _ _ _ _ _ _ c.requires.0, c.size_of-end.ensures, c.pop_group.auto.0, i.0), c.requires.1.1.0)
+    (i.6, omega (arith, room-size _ _ _ _ _ _ c.requires.0, c.size_of-end.ensures, c.pop_group.auto.cells, i.0), c.requires.1.1.0)
 
 loop-less : tie.Need-loop-first-smaller invariant-loop decreases-loop
 loop-less c =
@@ -82,9 +82,9 @@ loop-again c =
     let box = c.next_box-first-in-loop-first.ensures in
     let page = put_page a.row_starts.now a.cuts.now a.sizes.now 4 in
     let marked = marks-round _ _ _ _ _ none _ _ _ _ group.0 refl cleared _ _ group.1 in (
-      one.auto.0 ∙ i.0,
-      one.auto.1.1.0 ∙ i.1,
-      put.auto.0 ∙ i.2,
+      one.auto.cells ∙ i.0,
+      one.auto.marks ∙ i.1,
+      put.auto.pages ∙ i.2,
       loop-round _ _ _ _ _ none _ _ _ _ group.0 refl cleared page _ _ _ _ i.3.0 i.3.1 put.ensures,
       (loop-round _ _ _ _ _ none _ _ _ _ group.0 refl cleared (mark_group _ _) _ _ _ _ i.4 i.3.1 marked).0,
       elsewhere-round _ _ _ _ _ none _ _ _ _ group.0 refl cleared _ i.5,
@@ -92,7 +92,7 @@ loop-again c =
       none-join _ _ _ _ _
           (none_after _ _ _ _ _ _ _ c.requires.0.column.filled (empty-unmatched _ _ none) cleared (omega (arith, i.6, c.size_of-end.ensures)) i.7) box.2,
       box.3,
-      one.auto.1.1.1.0 ∙ i.9,
+      one.auto.boxes ∙ i.9,
     )
 
 returns : tie.Need-returns invariant-loop decreases-loop

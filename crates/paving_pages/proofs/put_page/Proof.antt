@@ -33,5 +33,5 @@ put_page_spec =
     (λ c. omega (arith, fits c))
     (λ c. omega (arith, fits c))
     fits put-sorts-requires
-    (λ c. let a = c.args in c.put_sorts.auto.0 ∙ length-set a.pages.now a.at a.value)
+    (λ c. let a = c.args in c.put_sorts.auto.pages ∙ length-set a.pages.now a.at a.value)
     (λ c. put-page _ _ _ _ _ _ _ _ _ _ c.put_sorts.ensures))

@@ -30,7 +30,7 @@ put-items-requires c κs =
 loop-again : tie.Need-loop-sort-preserved invariant-loop decreases-loop
 loop-again c =
     laid_more _ _ _ _ _ _ _ _ _ _ _ _ _ _ c.loop-sort.invariant c.loop-sort-test.true c.u16_to_usize-width.ensures.0 c.u16_to_usize.ensures.0 _ _
-    c.requires.1.0.1 c.put_items-item_count.auto.1.1.1.1.1.0 c.put_items-item_count.ensures
+    c.requires.1.0.1 c.put_items-item_count.auto.ends c.put_items-item_count.ensures
 
 -- a sort has fewer items than its columns, and they have room
 few : tie.Need-overflow_cast-pages invariant-loop decreases-loop
@@ -71,7 +71,7 @@ put_sorts_spec =
     omega (arith, c.requires.1.0.1, c.requires.1.1, c.loop-sort-test.true, c.well_formed))
     (λ c. search rules)
     (λ c.
-    omega (arith, c.requires.1.0.1, c.requires.1.1, c.loop-sort-test.true, c.put_items-item_count.auto.1.1.1.1.1.0, c.loop-sort.invariant.long))
+    omega (arith, c.requires.1.0.1, c.requires.1.1, c.loop-sort-test.true, c.put_items-item_count.auto.ends, c.loop-sort.invariant.long))
     (λ c. omega (arith, few c))
     add-next
     (λ c. omega (arith, c.loop-sort-test.true))
