@@ -17,7 +17,7 @@ write-day-requires c κs =
     let few = few-strokes _ _ _ _ c.write_strokes-k.ensures.1 in
     let spans = c.flatten-n.ensures.3 in (
       omega (arith, few, room, spans),
-      omega (arith, few, room, spans, c.write_strokes-k.auto.0),
+      omega (arith, few, room, spans, c.write_strokes-k.auto.strokes),
       omega (arith, few, room, spans),
       omega (arith, few, room, spans),
     )
@@ -30,9 +30,9 @@ sweep-classes-requires c κs =
     let size = c.write_day-m.ensures.1 in (
       (
         omega (arith, few, room, spans, size),
-        omega (arith, few, room, spans, size, c.write_strokes-k.auto.0),
-        omega (arith, few, room, spans, size, c.write_day-m.auto.0),
-        omega (arith, few, room, spans, size, c.write_day-m.auto.1.0),
+        omega (arith, few, room, spans, size, c.write_strokes-k.auto.strokes),
+        omega (arith, few, room, spans, size, c.write_day-m.auto.starts),
+        omega (arith, few, room, spans, size, c.write_day-m.auto.states),
       ),
       cuts-bounded _ _ _ _ c.write_day-m.ensures.0,
     )
@@ -59,15 +59,15 @@ returns : tie.Need-returns-then-k-n
 returns c =
     let room = c.requires.1 in
     painted-laid _ _ _ _ _ _ _ _ _ _ _ _ _ _ _ _ _ _ _ c.flatten-n.ensures c.write_strokes-k.ensures c.write_day-m.ensures
-    (c.sweep_classes-at.ensures.0, c.sweep_classes-at.ensures.1) (room.1, room.2, room.3, omega (arith, room.5, c.write_day-m.auto.1.0)) (omega arith)
+    (c.sweep_classes-at.ensures.0, c.sweep_classes-at.ensures.1) (room.1, room.2, room.3, omega (arith, room.5, c.write_day-m.auto.states)) (omega arith)
 
 groups-requires : tie.Need-groups-requires
 groups-requires c κs =
     let room = c.requires.1 in
     let spans = c.flatten-n.ensures.3 in (
-      omega (arith, room, spans, c.flatten-n.auto.0),
-      omega (arith, room, spans, c.flatten-n.auto.1.0),
-      omega (arith, room, spans, c.write_strokes-k.auto.0, c.sweep_classes-at.auto.1.0),
+      omega (arith, room, spans, c.flatten-n.auto.span_states),
+      omega (arith, room, spans, c.flatten-n.auto.span_codes),
+      omega (arith, room, spans, c.write_strokes-k.auto.strokes, c.sweep_classes-at.auto.buf),
       omega (arith, room, spans, c.sweep_classes-at.ensures.2),
     )
 
@@ -76,11 +76,11 @@ same-length-7 c = search rules
 
 same-length-8 : tie.Need-shape_of-span_states
 same-length-8 c =
-    c.flatten-n.auto.0
+    c.flatten-n.auto.span_states
 
 same-length-9 : tie.Need-shape_of-span_codes
 same-length-9 c =
-    c.flatten-n.auto.1.0
+    c.flatten-n.auto.span_codes
 
 same-length-10 : tie.Need-shape_of-strokes
 same-length-10 c = search rules
@@ -95,7 +95,7 @@ returns-2 : tie.Need-returns
 returns-2 c =
     let room = c.requires.1 in
     grouped-laid _ _ _ _ _ _ _ _ _ _ _ _ _ _ _ _ _ _ _ c.flatten-n.ensures c.write_strokes-k.ensures c.write_day-m.ensures
-    (c.sweep_classes-at.ensures.0, c.sweep_classes-at.ensures.1) (room.1, room.2, room.3, omega (arith, room.5, c.write_day-m.auto.1.0)) _ _ c.groups.ensures
+    (c.sweep_classes-at.ensures.0, c.sweep_classes-at.ensures.1) (room.1, room.2, room.3, omega (arith, room.5, c.write_day-m.auto.states)) _ _ c.groups.ensures
 
 pub normalize_time_rules_spec : {M : Type 1} → statement M
 normalize_time_rules_spec =

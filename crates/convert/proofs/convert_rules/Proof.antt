@@ -26,37 +26,34 @@ use Rattle.convert.proofs.Answer.{converts-not, all-commented, encoded-length, c
 use Rattle.convert.proofs.convert_rules.Statement.{statement}
 use Rattle.convert.proofs.convert_rules.Tie as tie
 
-abbrev start : tie.After-first_long_comment-long → tie.Start
-start c = c
-
-bytes : (c : tie.After-first_long_comment-long) → Bytes (start c).args.sheet.now
-bytes c = known_bytes (start c).args.sheet.now (λ j. omega (arith, c.shared_slice_known-1.given j))
+bytes : (c : tie.After-first_long_comment-long) → Bytes c.args.sheet.now
+bytes c = known_bytes c.args.sheet.now (λ j. omega (arith, c.shared_slice_known-1.given j))
 
 -- some rules that the sheet has
 abbrev Given : tie.After-first_long_comment-long → List Rule → Type 0
-Given c rs = let a = (start c).args in SheetRead (as_form a.form) a.sheet.now a.begins.now rs a.end × (a.count ≡ length rs)
+Given c rs = let a = c.args in SheetRead (as_form a.form) a.sheet.now a.begins.now rs a.end × (a.count ≡ length rs)
 
 -- what the definition answers in the form that the sheet is moved to, it answers in the other form
-answered : (c : tie.After-first_long_comment-long) (rs : List Rule) {w : Written} → let a = (start c).args in
+answered : (c : tie.After-first_long_comment-long) (rs : List Rule) {w : Written} → let a = c.args in
     convert_rules (as_form c.other_form-to.result) sheet_limits (length a.out.now) rs ≡ w → convert_rules (other (as_form a.form)) sheet_limits (length a.out.now) rs ≡ w
-answered c rs e = sym (ap (λ to. convert_rules to sheet_limits (length (start c).args.out.now) rs) c.other_form-to.ensures) ∙ e
+answered c rs e = sym (ap (λ to. convert_rules to sheet_limits (length c.args.out.now) rs) c.other_form-to.ensures) ∙ e
 
 first-long-comment-requires : tie.Need-first_long_comment-long-requires
 first-long-comment-requires c κs =
     let a = c.args in
     let whole = known_bytes a.sheet.now (λ j. omega (arith, c.shared_slice_known-1.given j)) in
-    let read = c.pre.1 in
+    let read = c.requires.1 in
     (rules-begun _ (as_form a.form) a.sheet.now a.begins.now whole _ _ a.count read.0 read.1, omega (arith, (begins-long _ a.sheet.now a.begins.now whole _ _ read.0).1, read.1))
 
 -- ## A comment without room
 returns : tie.Need-returns-then-long-count
 returns c =
-    let a = (start c.before).args in
+    let a = c.args in
     let k = c.first_long_comment-long.result in
     λ rs read many.
     let told = long-told _ (as_form c.other_form-to.result) a.sheet.now a.begins.now (bytes c.before) rs a.end a.count read many k
     c.first_long_comment-long.ensures.0 in
-    let first : first_long_comment (as_form c.other_form-to.result) rs ≡ some k = sym told ∙ ap (λ b. only_if b k) (lt-ltb k a.count c.if-long-count.taken) in
+    let first : first_long_comment (as_form c.other_form-to.result) rs ≡ some k = sym told ∙ ap (λ b. only_if b k) (lt-ltb k a.count c.if-long-count.true) in
     let answer = answered c.before rs (converts-not _ (length a.out.now) rs k first) in
     (sym (ap written_numbers answer), sym (ap (λ w. buffer w.result a.out.now) answer))
 
@@ -68,16 +65,15 @@ module _ (c : tie.Else1) where
   -- no comment is without room
   none-long : (rs : List Rule) → Given long rs → first_long_comment (as_form long.before.other_form.result) rs ≡ none
   none-long rs given =
-      let a = (start long).args in
+      let a = long.before.before.before.before.before.args in
       let k = long.first_long_comment.result in
       sym (long-told _ _ a.sheet.now a.begins.now (bytes long) rs a.end a.count given.0 given.1 k long.first_long_comment.ensures.0)
       ∙ ap (λ b. only_if b k) (le-ltb k a.count c.if1.left)
 
 moved-bits-requires : tie.Need-moved_bits-requires
 moved-bits-requires c κs =
-    let entry = start c.before in
-    let a = entry.args in
-    let read = entry.pre.1 in
+    let a = c.args in
+    let read = c.requires.1 in
     let whole = bytes c.before in (
       omega (arith, (begins-long _ a.sheet.now a.begins.now whole _ _ read.0).0, read.1),
       heads-inside _ (as_form a.form) a.sheet.now a.begins.now whole _ _ a.count read.0 read.1,
@@ -88,7 +84,7 @@ moved-bits-requires c κs =
 sized : (c : tie.After-moved_bits) (rs : List Rule) → Given c rs
     → length ((rules (as_form c.other_form-to.result) sheet_limits).write rs) ≡ c.moved_bits.result
 sized c rs given =
-    let a = (start c.before.before).args in
+    let a = c.args in
     moved_length _ _ a.sheet.now a.begins.now (bytes c.before.before) rs a.end a.count given.0 given.1 _ c.moved_bits.ensures.0
 
 -- and so many bytes
@@ -99,8 +95,8 @@ encoded c rs given = encoded-length _ 0 rs (none-long c rs given) ∙ ap bytes_f
 -- ## A buffer without room
 returns-2 : tie.Need-returns-then-lacks_room
 returns-2 c =
-    let a = (start c.before.before.before.before).args in
-    let lacking = ltb-true _ _ (sym c.lacks_room.ensures ∙ c.if-lacks_room.taken) in
+    let a = c.args in
+    let lacking = ltb-true _ _ (sym c.lacks_room.ensures ∙ c.if-lacks_room.true) in
     λ rs read many.
     let none = none-long c rs (read, many) in
     let answer = answered c.before.before.before.before rs (converts-short _ (length a.out.now) rs none _ (encoded c.before.before rs (read, many)) lacking) in
@@ -108,30 +104,28 @@ returns-2 c =
 
 -- ## Behind that test
 -- the result has room
-enough : (c : tie.Else-lacks_room) → (c.moved_bits.result + 7) / 8 ≤ length (start c).args.out.now
-enough c = ltb-false _ _ (sym c.lacks_room.ensures ∙ c.if-lacks_room.left)
+enough : (c : tie.Else-lacks_room) → (c.moved_bits.result + 7) / 8 ≤ length c.args.out.now
+enough c = ltb-false _ _ (sym c.lacks_room.ensures ∙ c.if-lacks_room.false)
 
 room : (c : tie.Else-lacks_room) (rs : List Rule) → Given c rs → let first = c in
-    let to = as_form first.before.other_form.result in let a = (start first).args in
+    let to = as_form first.before.other_form.result in let a = first.before.before.before.before.before.args in
     RoomFor (length a.out.now) 0 ((opening to sheet_limits).write a.count ++ flat_map (rule to sheet_limits).write rs)
 room c rs given =
-    let a = (start c.before.before.before.before).args in
+    let a = c.args in
     room-for-all _ _ a.sheet.now a.begins.now (bytes c.before.before.before.before) rs a.end a.count given.0 given.1 _ _ (sized c.before.before rs given) (enough c)
     c.moved_bits.ensures.1
 
 put-opening-requires : tie.Need-put_opening-first-requires
 put-opening-requires c κs =
-    let entry = start c.before.before.before.before.before in
-    let a = entry.args in
-    let read = entry.pre.1 in
+    let a = c.args in
+    let read = c.requires.1 in
     let few = (begins-long _ a.sheet.now a.begins.now (bytes c.before.before.before.before.before) _ _ read.0).0 in
     (rules-fit c.other_form-to.result a.count (omega (arith, few, read.1)), room-first _ _ (room c.before _ read))
 
 move-rules-requires : tie.Need-move_rules-behind-requires
 move-rules-requires c κs =
-    let entry = start c.before.before.before.before.before.before.before.before.before in
-    let read = entry.pre.1 in (
-      entry.pre.0,
+    let read = c.requires.1 in (
+      c.requires.0,
       read.0,
       read.1,
       all-commented _ 0 _ (none-long c _ read),
@@ -140,16 +134,15 @@ move-rules-requires c κs =
 
 put-padding-requires : tie.Need-put_padding-requires
 put-padding-requires c κs =
-    let entry = start c.before.before.before.before.before.before.before.before.before.before.before.before.before in
-    let read = entry.pre.1 in
+    let read = c.requires.1 in
     let all = wrote_then c.put_opening-first.ensures (c.move_rules-behind.ensures _ read.0 read.1) in
-    let a = entry.args in
+    let a = c.args in
     let long = ap length (laid _ (as_form c.other_form-to.result) a.sheet.now a.begins.now (bytes c.before.before.before.before.before.before.before.before.before.before.before.before.before) _ a.end a.count read.0 read.1) in
     (omega (arith, all.behind, (room c.before.before.before.before.before.before.before.before.before _ read).inside, same_size all), omega (arith, all.behind, long, sized c.before.before.before.before.before.before.before.before.before.before.before _ read, c.moved_bits.ensures.1))
 
 returns-3 : tie.Need-returns
 returns-3 c =
-    let a = (start c.before.before.before.before.before.before.before.before.before.before.before.before.before.before.before.before).args in
+    let a = c.args in
     λ rs read many.
     let given : Given c.before.before.before.before.before.before.before.before.before.before.before.before.before.before.before.before rs = (read, many) in
     let none = none-long c rs given in

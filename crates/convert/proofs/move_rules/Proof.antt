@@ -31,56 +31,49 @@ invariant-loop form to sheet begins count end out₀ place next₀ rule₀ out n
 abbrev decreases-loop : tie.decreases-loop-rule
 decreases-loop form to sheet begins count end out₀ place next₀ rule₀ out next passed = count - passed
 
--- where the function begins; and its sheet is bytes
-abbrev start : tie.In-loop-rule invariant-loop decreases-loop → tie.Start invariant-loop decreases-loop
-start c = c.before.before.before.before.before
-
-bytes : (c : tie.In-loop-rule invariant-loop decreases-loop) → Bytes (start c).args.sheet.now
-bytes c = known_bytes (start c).args.sheet.now (λ j. omega (arith, c.before.before.before.before.shared-slice-known.given j))
+bytes : (c : tie.In-loop-rule invariant-loop decreases-loop) → Bytes c.args.sheet.now
+bytes c = known_bytes c.args.sheet.now (λ j. omega (arith, c.shared_slice_known-1.given j))
 
 -- there are few rules, and each has a noted beginning
-few : (c : tie.In-loop-rule invariant-loop decreases-loop) → let a = (start c).args in (a.count ≤ sheet_limits.rules) × (a.count ≤ length a.begins.now)
+few : (c : tie.In-loop-rule invariant-loop decreases-loop) → let a = c.args in (a.count ≤ sheet_limits.rules) × (a.count ≤ length a.begins.now)
 few c =
-    let entry = start c in
-    let a = entry.args in
-    let long = begins-long _ a.sheet.now a.begins.now (bytes c) _ _ entry.pre.1 in
-    (omega (arith, long.0, entry.pre.2), omega (arith, long.1, entry.pre.2))
+    let a = c.args in
+    let long = begins-long _ a.sheet.now a.begins.now (bytes c) _ _ c.requires.1 in
+    (omega (arith, long.0, c.requires.2), omega (arith, long.1, c.requires.2))
 
 -- the turn's rule, where it stands
-turn : (c : tie.In-loop-rule invariant-loop decreases-loop) → let a = (start c).args in (rs : List Rule) (read : SheetRead (as_form a.form) a.sheet.now a.begins.now rs a.end)
-    → a.count ≡ length rs → There (as_form a.form) a.sheet.now a.begins.now (bytes c) rs a.end read c.before.loop.rule
-turn c rs read many = there _ _ _ (bytes c) rs _ read _ (omega (arith, c.loop-test.true, many))
+turn : (c : tie.In-loop-rule invariant-loop decreases-loop) → let a = c.args in (rs : List Rule) (read : SheetRead (as_form a.form) a.sheet.now a.begins.now rs a.end)
+    → a.count ≡ length rs → There (as_form a.form) a.sheet.now a.begins.now (bytes c) rs a.end read c.loop-rule.rule
+turn c rs read many = there _ _ _ (bytes c) rs _ read _ (omega (arith, c.loop-rule-test.true, many))
 
 move-rule-requires : tie.Need-move_rule-next-requires invariant-loop decreases-loop
 move-rule-requires c κs =
-    let entry = start c in
-    let a = entry.args in
-    let rs = entry.pre.0 in
-    let many = entry.pre.2 in
+    let a = c.args in
+    let rs = c.requires.0 in
+    let many = c.requires.2 in
     let i = c.loop-rule.rule in
     let l : i < length rs = omega (arith, c.loop-rule-test.true, many) in
-    let here = turn c rs entry.pre.1 many in
-    let room = rule-room _ rs (c.loop-rule.invariant.2 rs entry.pre.1 entry.pre.4) l in (
+    let here = turn c.before.before.before rs c.requires.1 many in
+    let room = rule-room _ rs (c.loop-rule.invariant.2 rs c.requires.1 c.requires.4) l in (
       (
         (here.readable, c.rule_end-behind.ensures ∙ ap (λ n. cond (ltb (i + 1) n) (get_or a.begins.now (i + 1) 0) a.end) many ∙ here.ends),
         here.low,
       ),
       (
-        rw here.same (All-at (λ r. Commented (as_form a.to) r.state) rs no_rule entry.pre.3 i l),
+        rw here.same (All-at (λ r. Commented (as_form a.to) r.state) rs no_rule c.requires.3 i l),
         room_as (ap (rule (as_form a.to) sheet_limits).write (sym here.same)) room,
       ),
     )
 
 loop-again : tie.Need-loop-rule-preserved invariant-loop decreases-loop
 loop-again c =
-    let entry = start c in
-    let a = entry.args in
+    let a = c.args in
     let loop = c.loop-rule in (
       omega (arith, c.loop-rule-test.true),
-      c.move_rule-next.auto.1.1.1.1.1.0 ∙ loop.invariant.1,
+      c.move_rule-next.auto.out ∙ loop.invariant.1,
       λ rs read room.
-          let many = entry.pre.2 ∙ ap length (rules-once entry.pre.0 rs entry.pre.1 read) in
-          let here = turn c rs read many in
+          let many = c.requires.2 ∙ ap length (rules-once c.requires.0 rs c.requires.1 read) in
+          let here = turn c.before.before.before.before.before.before rs read many in
           moving-more _ rs (loop.invariant.2 rs read room) (omega (arith, c.loop-rule-test.true, many))
           (wrote_as (ap (rule (as_form a.to) sheet_limits).write (sym here.same)) c.move_rule-next.ensures),
     )
@@ -97,6 +90,6 @@ pub move_rules_spec : {M : Type 1} → statement M
 move_rules_spec =
     tie.close
     (tie.spec invariant-loop decreases-loop (λ c. (omega arith, refl, λ rs reading room. moving-none _ rs _ _ room)) (λ c κs. (c.loop-rule-test.true, (few c).1))
-    (λ c. omega (arith, c.loop-rule-test.true, (few c).0)) (λ c. omega (arith, c.loop-rule-test.true, (few c).1))
-    move-rule-requires (λ c. omega (arith, c.loop-rule-test.true, (few c).0))
+    (λ c. omega (arith, c.loop-rule-test.true, (few c.before).0)) (λ c. omega (arith, c.loop-rule-test.true, (few c.before.before).1))
+    move-rule-requires (λ c. omega (arith, c.loop-rule-test.true, (few c.before.before.before.before.before.before).0))
     (λ c. omega (arith, c.loop-rule-test.true)) loop-again (λ c. c.loop-rule.invariant.1) returns)

@@ -13,9 +13,9 @@ cut-rules-requires c κs =
       pre.0,
       (
         record {
-          four-rows = start.auto.1.1.0 ∙ pre.1.0;
-          four-sizes = start.auto.1.0 ∙ pre.1.1;
-          all-cuts = omega (arith, start.auto.0, pre.1.2);
+          four-rows = start.auto.row_starts ∙ pre.1.0;
+          four-sizes = start.auto.sizes ∙ pre.1.1;
+          all-cuts = omega (arith, start.auto.cuts, pre.1.2);
           placed = start.ensures.0;
         },
         start.ensures.1,
@@ -29,9 +29,9 @@ returns c =
     let cut = c.cut_rules in
     λ rs days. cut-there _ _ _ _ days _ _ _
     (record {
-      four-rows = start.auto.1.1.0 ∙ pre.1.0;
-      four-sizes = cut.auto.1.0 ∙ start.auto.1.0 ∙ pre.1.1;
-      all-cuts = omega (arith, cut.auto.0, start.auto.0, pre.1.2);
+      four-rows = start.auto.row_starts ∙ pre.1.0;
+      four-sizes = cut.auto.sizes ∙ start.auto.sizes ∙ pre.1.1;
+      all-cuts = omega (arith, cut.auto.cuts, start.auto.cuts, pre.1.2);
       placed = start.ensures.0;
     }) _ c.box_count.ensures.0 (cut.ensures rs days)
 
@@ -48,10 +48,10 @@ cut_all_spec =
     let pre = c.requires in ((pre.1.0, pre.1.1), (omega arith, omega (arith, c.requires.0.1.few-rules), pre.1.2)))
     cut-rules-requires
     (λ c κs.
-    (omega (arith, c.cut_rules.auto.1.0, c.start_rows.auto.1.0, c.requires.1.1), omega arith))
+    (omega (arith, c.cut_rules.auto.sizes, c.start_rows.auto.sizes, c.requires.1.1), omega arith))
     (λ c.
-    c.cut_rules.auto.0 ∙ c.start_rows.auto.0)
+    c.cut_rules.auto.cuts ∙ c.start_rows.auto.cuts)
     (λ c.
-    c.cut_rules.auto.1.0 ∙ c.start_rows.auto.1.0)
+    c.cut_rules.auto.sizes ∙ c.start_rows.auto.sizes)
     (λ c.
-    c.start_rows.auto.1.1.0) returns)
+    c.start_rows.auto.row_starts) returns)

@@ -9,14 +9,14 @@ start-row-requires : tie.Need-start_row-requires
 start-row-requires c κs =
     let pre = c.requires in
     let placed = c.place_rows.ensures 3 (omega arith) in
-    (omega (arith, c.place_rows.auto.0, pre.0), omega (arith, pre.0), omega (arith, placed, pre.1))
+    (omega (arith, c.place_rows.auto.row_starts, pre.0), omega (arith, pre.0), omega (arith, placed, pre.1))
 
 start-row-requires-2 : tie.Need-start_row-requires-2
 start-row-requires-2 c κs =
     let pre = c.requires in
     let placed = c.place_rows.ensures 2 (omega arith) in
     let first = c.start_row.auto in
-    (omega (arith, c.place_rows.auto.0, pre.0), omega (arith, first.1.0, pre.0), omega (arith, first.0, placed, pre.1))
+    (omega (arith, c.place_rows.auto.row_starts, pre.0), omega (arith, first.1.0, pre.0), omega (arith, first.0, placed, pre.1))
 
 start-row-requires-3 : tie.Need-start_row-requires-3
 start-row-requires-3 c κs =
@@ -24,7 +24,7 @@ start-row-requires-3 c κs =
     let placed = c.place_rows.ensures 1 (omega arith) in
     let first = c.start_row.auto in
     let second = c.start_row-2.auto in (
-      omega (arith, c.place_rows.auto.0, pre.0),
+      omega (arith, c.place_rows.auto.row_starts, pre.0),
       omega (arith, first.1.0, second.1.0, pre.0),
       omega (arith, first.0, second.0, placed, pre.1),
     )
@@ -36,14 +36,14 @@ start-row-requires-4 c κs =
     let first = c.start_row.auto in
     let second = c.start_row-2.auto in
     let third = c.start_row-3.auto in (
-      omega (arith, c.place_rows.auto.0, pre.0),
+      omega (arith, c.place_rows.auto.row_starts, pre.0),
       omega (arith, first.1.0, second.1.0, third.1.0, pre.0),
       omega (arith, first.0, second.0, third.0, placed, pre.1),
     )
 
 rows-same-length : tie.Need-shape_of-row_starts
 rows-same-length c =
-    c.place_rows.auto.0
+    c.place_rows.auto.row_starts
 
 returns : tie.Need-returns
 returns c =

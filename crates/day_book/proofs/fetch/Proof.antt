@@ -35,7 +35,7 @@ module _ (c : tie.After-fold-box) where
   fits = omega (arith, c.fold_box.ensures.1, c.before.before.before.before.before.before.before.before.before.requires.0.2.wordy, c.before.before.before.before.before.before.before.before.before.requires.1.roomy)
 
   long : c.fold_box.result ≤ length c.fold_box.new.0
-  long = omega (arith, c.fold_box.ensures.1, c.before.before.before.before.before.before.before.before.before.requires.0.2.wordy, c.before.before.before.before.before.before.before.before.before.requires.1.roomy, c.fold_box.auto.0)
+  long = omega (arith, c.fold_box.ensures.1, c.before.before.before.before.before.before.before.before.before.requires.0.2.wordy, c.before.before.before.before.before.before.before.before.before.requires.1.roomy, c.fold_box.auto.words)
 
   abbrev after : List ℕ
   after = take filled book ++ (c.fold_box.new.0 ++ rest)
@@ -49,7 +49,7 @@ module _ (c : tie.After-fold-box) where
         length-take-le filled book (omega (arith, c.before.before.before.before.before.before.before.before.before.requires.1.roomy)),
         length-drop (length book - filled) (drop filled book),
         length-drop filled book,
-        c.fold_box.auto.0,
+        c.fold_box.auto.words,
       )
 
   there : part after filled c.fold_box.result ≡ days c.before.before.before.before.before.before.before.before.before.args.number
@@ -77,10 +77,10 @@ returns-2 c =
       inside = omega (arith, same_size c, fits c);
       words = there c;
       opened = record {
-        held = one-more-held (book c) (filled c) (omega (arith, c.pre.1.roomy)) c.fold_box-count.new.0 (rest c) (days c) _ c.pre.1.held
+        held = one-more-held (book c) (filled c) (omega (arith, c.requires.1.roomy)) c.fold_box-count.new.0 (rest c) (days c) _ c.requires.1.held
             c.args.number c.fold_box-count.result c.if-noted-notes-2.true (there c);
         roomy = omega (arith, same_size c, c.if-next-room.true);
-        few = omega (arith, same_size c, c.pre.1.few);
+        few = omega (arith, same_size c, c.requires.1.few);
       };
     }
 
@@ -90,9 +90,9 @@ returns-3 c =
       inside = omega (arith, same_size c, fits c);
       words = there c;
       opened = record {
-        held = still-held (book c) (filled c) (omega (arith, c.pre.1.roomy)) c.fold_box-count.new.0 (rest c) (days c) _ c.pre.1.held;
-        roomy = omega (arith, same_size c, c.pre.1.roomy);
-        few = omega (arith, same_size c, c.pre.1.few);
+        held = still-held (book c) (filled c) (omega (arith, c.requires.1.roomy)) c.fold_box-count.new.0 (rest c) (days c) _ c.requires.1.held;
+        roomy = omega (arith, same_size c, c.requires.1.roomy);
+        few = omega (arith, same_size c, c.requires.1.few);
       };
     }
 
@@ -102,9 +102,9 @@ returns-4 c =
       inside = omega (arith, same_size c, fits c);
       words = there c;
       opened = record {
-        held = still-held (book c) (filled c) (omega (arith, c.pre.1.roomy)) c.fold_box-count.new.0 (rest c) (days c) _ c.pre.1.held;
-        roomy = omega (arith, same_size c, c.pre.1.roomy);
-        few = omega (arith, same_size c, c.pre.1.few);
+        held = still-held (book c) (filled c) (omega (arith, c.requires.1.roomy)) c.fold_box-count.new.0 (rest c) (days c) _ c.requires.1.held;
+        roomy = omega (arith, same_size c, c.requires.1.roomy);
+        few = omega (arith, same_size c, c.requires.1.few);
       };
     }
 

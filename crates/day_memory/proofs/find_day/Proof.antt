@@ -38,10 +38,10 @@ abbrev loop : Compared → Loop
 loop c = (test c).before
 
 abbrev equal : tie.Then-same_day invariant-loop decreases-loop → Compared
-equal c = c.before.before.before
+equal c = c
 
 abbrev different : tie.Else-same_day invariant-loop decreases-loop → Compared
-different c = c.before.before.before
+different c = c
 
 -- the words of each place's day
 abbrev days : Start → ℕ → List ℕ
@@ -83,7 +83,7 @@ returns-2 c =
 
 loop-again : tie.Need-loop-before-preserved invariant-loop decreases-loop
 loop-again c =
-    let other = different c in
+    let other = different c.before in
     let entry = start (loop other) in
     let a = entry.args in
     let known = entry.pre.1.1 in
@@ -101,11 +101,11 @@ find_day_spec =
     invariant-loop decreases-loop returns
     (λ c κs. search rules) loop-holds same-day-requires
     (λ c. omega (arith, (test (equal c)).loop-test.taken, (start (loop (equal c))).ranges.place))
-    (λ c. (equal c).same_day.auto.1.0 ∙ (loop (equal c)).loop.inv.1)
+    (λ c. (equal c).same_day.auto.other ∙ (loop (equal c)).loop.inv.1)
     returns-2
     (λ c. omega (arith, (test (different c)).loop-test.taken, (start (loop (different c))).ranges.place))
     (λ c κs. (omega (arith, (test (different c)).loop-test.taken), omega (arith, (start (loop (different c))).requires.1.0.1)))
-    (λ c. omega (arith, c.next_place-before-in-loop-before.ensures.0, (test (different c)).loop-test.taken))
+    (λ c. omega (arith, c.next_place-before-in-loop-before.ensures.0, (test (different c.before)).loop-test.taken))
     loop-again
     (λ c. omega (arith, (start c).requires.1.0.1))
     (λ c. c.loop-before.invariant.1)

@@ -57,7 +57,7 @@ next-of-requires c κs =
     let run = c.clear_run-end.ensures in
     let inv = c.loop-i.invariant in
     let up = run_on _ _ _ _ _ _ _ _ _ _ _ inv.3 c.loop-i-test.true _ _ run in (
-      (omega (arith, run.1, up), omega (arith, c.clear_run-end.auto.0, inv.1, pre.0.4), pre.0.2),
+      (omega (arith, run.1, up), omega (arith, c.clear_run-end.auto.interval_states, inv.1, pre.0.4), pre.0.2),
       (
         pre.1.1.1,
         cleared-on _ _ _ _ _ _ (omega (arith, run.0, run.1, inv.1, pre.0.4)) _ run.2 inv.2 pre.1.1.1 _ (λ l. run.3 _ (omega arith) (omega arith)),
@@ -73,8 +73,8 @@ loop-again : tie.Need-loop-i-preserved invariant-loop decreases-loop
 loop-again c =
     let run = c.clear_run-end.ensures in
     let inv = c.loop-i.invariant in (
-      c.put_run-place.auto.0 ∙ inv.0,
-      c.clear_run-end.auto.0 ∙ inv.1,
+      c.put_run-place.auto.out ∙ inv.0,
+      c.clear_run-end.auto.interval_states ∙ inv.1,
       chained-clear _ _ _ _ _ _ (omega (arith, run.0, run.1, inv.1, c.requires.0.4)) _ run.2 inv.2,
       taking-on _ _ _ _ _ _ _ _ _ _ _ inv.3 c.loop-i-test.true _ _ run _ _ c.put_run-place.ensures _ c.next_of-i.ensures,
     )

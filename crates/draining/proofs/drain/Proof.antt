@@ -20,22 +20,12 @@ invariant-loop form sheet begins count st₀ co₀ sp₀ re₀ cn₀ ra₀ i₀ 
 abbrev decreases-loop : tie.decreases-loop-i
 decreases-loop form sheet begins count st₀ co₀ sp₀ re₀ cn₀ ra₀ i₀ st co sp re cn ra i = count - i
 
--- from where the tables are told back to where the rule was drained, to the loop's turn, and to where the function begins
-abbrev draining-rule : tie.After-slice_known-in-loop-i-6-1 invariant-loop decreases-loop → tie.After-drain_rule invariant-loop decreases-loop
-draining-rule c = c.before.before.before.before.before.before.before.before.before.before.before.before
-
-abbrev turn : tie.After-drain_rule invariant-loop decreases-loop → tie.In-loop-i invariant-loop decreases-loop
-turn c = c.before.before.before.before.before.before.before.before
-
-abbrev start : tie.In-loop-i invariant-loop decreases-loop → tie.Start invariant-loop decreases-loop
-start c = c.before.before.before.before.before.before.before.before.before.before
-
 -- the rows of the tables that the turn's rule has
-all-counts : (c : tie.In-loop-i invariant-loop decreases-loop) → let loop = c.before.loop in loop.i * 4 + 4 ≤ length loop.range_counts
-all-counts c = omega (arith, c.loop-test.true, (start c).requires.1.1.0, c.before.loop.invariant.5)
+all-counts : (c : tie.In-loop-i invariant-loop decreases-loop) → let loop = c.loop-i in loop.i * 4 + 4 ≤ length loop.range_counts
+all-counts c = omega (arith, c.loop-i-test.true, c.requires.1.1.0, c.loop-i.invariant.5)
 
-all-ranges : (c : tie.In-loop-i invariant-loop decreases-loop) → let loop = c.before.loop in loop.i * 256 + 256 ≤ length loop.ranges
-all-ranges c = omega (arith, c.loop-test.true, (start c).requires.1.1.1, c.before.loop.invariant.6)
+all-ranges : (c : tie.In-loop-i invariant-loop decreases-loop) → let loop = c.loop-i in loop.i * 256 + 256 ≤ length loop.ranges
+all-ranges c = omega (arith, c.loop-i-test.true, c.requires.1.1.1, c.loop-i.invariant.6)
 
 drain-rule-requires : tie.Need-drain_rule-requires invariant-loop decreases-loop
 drain-rule-requires c κs =
@@ -48,31 +38,29 @@ drain-rule-requires c κs =
       (
         (begin.1, omega (arith, more, room, inv.3), omega (arith, more, room, inv.1), omega (arith, more, room, inv.2), omega (arith, more, room, inv.4)),
         (
-          omega (arith, part_length loop.ranges (loop.i * 256) (loop.i * 256 + 256) (omega arith) (all-ranges c)),
-          omega (arith, part_length loop.range_counts (loop.i * 4) (loop.i * 4 + 4) (omega arith) (all-counts c)),
+          omega (arith, part_length loop.ranges (loop.i * 256) (loop.i * 256 + 256) (omega arith) (all-ranges c.before.before.before.before.before.before.before)),
+          omega (arith, part_length loop.range_counts (loop.i * 4) (loop.i * 4 + 4) (omega arith) (all-counts c.before.before.before.before.before.before.before)),
         ),
       ),
     )
 
 reason-at-requires : tie.Need-reason_at-requires invariant-loop decreases-loop
-reason-at-requires c κs = let loop-test = turn (draining-rule c) in (start loop-test).pre.0 loop-test.before.loop.i loop-test.loop-test.taken
+reason-at-requires c κs = (start c).pre.0 c.loop-i.i c.loop-i-test.true
 
 returns : tie.Need-returns-then-drain_rule invariant-loop decreases-loop
 returns c =
-    let drain-rule = draining-rule c in
-    let loop-test = turn drain-rule in
+    let loop-test = turn c in
     let entry = start loop-test in
     let sheet = entry.args.sheet.now in
     let known = loop-test.before.before.before.before.before.before.before.before.before in
     let bytes = known_bytes sheet (λ j. omega (arith, known.shared-slice-known.given j)) in
-    let drain = drain-rule.drain_rule.ensures in
+    let drain = c.drain_rule.ensures in
     drain-halts _ sheet bytes _ _ _ _ _ _ _ _ _ loop-test.loop-test.taken loop-test.before.loop.inv.0 _ _ _ _ drain.1 _ drain.0 (all-counts loop-test)
     (all-ranges loop-test) _ _ drain.2 drain.3 c.if-drain_rule.true _ c.reason_at.ensures
 
 loop-again : tie.Need-loop-i-preserved invariant-loop decreases-loop
 loop-again c =
-    let drain-rule = draining-rule c in
-    let loop-test = turn drain-rule in
+    let loop-test = turn c in
     let loop = loop-test.before.loop in
     let entry = start loop-test in
     let sheet = entry.args.sheet.now in
@@ -83,8 +71,8 @@ loop-again c =
     let room = entry.pre.1.0 in
     let i = loop.i in
     let begin = entry.pre.0 i more in
-    let drain = drain-rule.drain_rule.ensures in
-    let kept = drain-rule.drain_rule.kept.1.1.1.1 in
+    let drain = c.drain_rule.ensures in
+    let kept = c.drain_rule.auto.1.1.1.1 in
     let four = part_length loop.range_counts (i * 4) (i * 4 + 4) (omega arith) (all-counts loop-test) in
     let whole = part_length loop.ranges (i * 256) (i * 256 + 256) (omega arith) (all-ranges loop-test) in (
       drain-next _ sheet bytes _ _ _ _ _ _ _ _ _ more inv.0 _ _ _ _ drain.1 _ drain.0 (all-counts loop-test) (all-ranges loop-test) _ _ drain.2 drain.3
@@ -94,9 +82,9 @@ loop-again c =
       kept.1.0 ∙ inv.2,
       kept.1.1.0 ∙ inv.3,
       kept.1.1.1.0 ∙ inv.4,
-      table-length loop.range_counts drain-rule.drain_rule.last.1.1.1.1.1.1.1.1.0 (i * 4) (i * 4 + 4 - i * 4) (omega (arith, all-counts loop-test))
+      table-length loop.range_counts c.drain_rule.last.1.1.1.1.1.1.1.1.0 (i * 4) (i * 4 + 4 - i * 4) (omega (arith, all-counts loop-test))
           kept.1.1.1.1.0 ∙ inv.5,
-      table-length loop.ranges drain-rule.drain_rule.last.1.1.1.1.1.1.1.1.1.0 (i * 256) (i * 256 + 256 - i * 256) (omega (arith, all-ranges loop-test))
+      table-length loop.ranges c.drain_rule.last.1.1.1.1.1.1.1.1.1.0 (i * 256) (i * 256 + 256 - i * 256) (omega (arith, all-ranges loop-test))
           kept.1.1.1.1.1.0 ∙ inv.6,
     )
 
@@ -105,11 +93,11 @@ drain_spec =
     tie.close
     (tie.spec invariant-loop decreases-loop (λ c. (drain-first _ _ _ _ _ _ _ _ _ _, refl, refl, refl, refl, refl, refl))
     (λ c. search rules)
-    (λ c. omega (arith, c.loop-i-test.true, (start c).pre.1.0.0))
-    (λ c. search (rules, c.loop-i-test.true, (start c).pre.1.1))
-    (λ c. search (rules, c.loop-i-test.true, (start c).pre.1.1))
-    (λ c. search (rules, c.loop-i-test.true, (start c).pre.1.1))
-    (λ c. search (rules, c.loop-i-test.true, (start c).pre.1.1))
+    (λ c. omega (arith, c.loop-i-test.true, c.requires.1.0.0))
+    (λ c. search (rules, c.loop-i-test.true, c.requires.1.1))
+    (λ c. search (rules, c.loop-i-test.true, c.requires.1.1))
+    (λ c. search (rules, c.loop-i-test.true, c.requires.1.1))
+    (λ c. search (rules, c.loop-i-test.true, c.requires.1.1))
     (λ c. search rules) (λ c. search rules) (λ c. search rules)
     (λ c.
     search (rules, c.loop-i-test.true, (start c).requires.1.1.0, c.loop-i.invariant.5))
@@ -117,20 +105,18 @@ drain_spec =
     (λ c.
     search (rules, c.loop-i-test.true, (start c).requires.1.1.1, c.loop-i.invariant.6))
     drain-rule-requires reason-at-requires
-    (λ c. let drained = draining-rule c in drained.drain_rule.kept.1.1.1.1.0 ∙ (turn drained).before.loop.inv.1)
-    (λ c. let drained = draining-rule c in drained.drain_rule.kept.1.1.1.1.1.0 ∙ (turn drained).before.loop.inv.2)
-    (λ c. let drained = draining-rule c in drained.drain_rule.kept.1.1.1.1.1.1.0 ∙ (turn drained).before.loop.inv.3)
-    (λ c. let drained = draining-rule c in drained.drain_rule.kept.1.1.1.1.1.1.1.0 ∙ (turn drained).before.loop.inv.4)
+    (λ c. c.drain_rule.auto.states ∙ c.loop-i.invariant.1)
+    (λ c. c.drain_rule.auto.span_counts ∙ c.loop-i.invariant.2)
+    (λ c. c.drain_rule.auto.spans ∙ c.loop-i.invariant.3)
+    (λ c. c.drain_rule.auto.replacing ∙ c.loop-i.invariant.4)
     (λ c.
-    let drained = draining-rule c in
-    let loop = (turn drained).before.loop in
-    table-length loop.range_counts drained.drain_rule.last.1.1.1.1.1.1.1.1.0 (loop.i * 4) (loop.i * 4 + 4 - loop.i * 4)
-    (omega (arith, all-counts (turn drained))) drained.drain_rule.kept.1.1.1.1.1.1.1.1.0 ∙ loop.inv.5)
+    let loop = c.loop-i in
+    table-length loop.range_counts c.drain_rule.last.1.1.1.1.1.1.1.1.0 (loop.i * 4) (loop.i * 4 + 4 - loop.i * 4)
+    (omega (arith, all-counts c.before.before.before.before.before.before.before.before.before.before.before.before.before.before.before.before.before.before.before.before.before.before)) c.drain_rule.auto.range_counts ∙ loop.inv.5)
     (λ c.
-    let drained = draining-rule c in
-    let loop = (turn drained).before.loop in
-    table-length loop.ranges drained.drain_rule.last.1.1.1.1.1.1.1.1.1.0 (loop.i * 256) (loop.i * 256 + 256 - loop.i * 256)
-    (omega (arith, all-ranges (turn drained))) drained.drain_rule.kept.1.1.1.1.1.1.1.1.1.0 ∙ loop.inv.6)
-    returns (λ c. omega (arith, (turn (draining-rule c)).loop-test.taken)) (λ c. omega (arith, (turn (draining-rule c)).loop-test.taken)) loop-again
+    let loop = c.loop-i in
+    table-length loop.ranges c.drain_rule.last.1.1.1.1.1.1.1.1.1.0 (loop.i * 256) (loop.i * 256 + 256 - loop.i * 256)
+    (omega (arith, all-ranges c.before.before.before.before.before.before.before.before.before.before.before.before.before.before.before.before.before.before.before.before.before.before)) c.drain_rule.auto.ranges ∙ loop.inv.6)
+    returns (λ c. omega (arith, c.loop-i-test.true)) (λ c. omega (arith, c.loop-i-test.true)) loop-again
     (λ c. c.loop-i.invariant.1) (λ c. c.loop-i.invariant.2) (λ c. c.loop-i.invariant.3) (λ c. c.loop-i.invariant.4) (λ c. c.loop-i.invariant.5) (λ c. c.loop-i.invariant.6)
     (λ c. drain-ends _ _ _ _ _ _ _ _ _ _ _ (omega arith) c.loop-i.invariant.0))

@@ -15,9 +15,9 @@ draw_rule_spec =
     (λ c κs. search rules) (λ c. search rules) (λ c κs. search rules) (λ c. search rules)
     (λ c κs.
     let pre = c.requires in
-    let planned = runs-planned pre.1.0 pre.1.1.dims (omega (arith, c.find_runs.auto.0, c.no_runs-runs.ensures)) c.find_runs.ensures in
+    let planned = runs-planned pre.1.0 pre.1.1.dims (omega (arith, c.find_runs.auto.runs, c.no_runs-runs.ensures)) c.find_runs.ensures in
     (making-start pre.0, (planned, (nodes-all pre.1.1, omega arith))))
     (λ c. search rules) (λ c. search rules) (λ c. search rules)
     (λ c.
     let pre = c.requires in
-    rule-drawn _ _ _ _ _ _ c.find_runs.ensures pre.1.1 pre.0 c.draw_weekdays.auto.0 c.draw_weekdays.auto.1.0 c.draw_weekdays.ensures))
+    rule-drawn _ _ _ _ _ _ c.find_runs.ensures pre.1.1 pre.0 c.draw_weekdays.auto.cells c.draw_weekdays.auto.lists c.draw_weekdays.ensures))

@@ -7,7 +7,7 @@ use Rattle.draw_rules.proofs.draw_row.Tie as tie
 draw-rule-requires : tie.Need-draw_rule-requires
 draw-rule-requires c κs =
     let a = c.args in
-    let pre = c.pre in
+    let pre = c.requires in
     (pre.1.1.0, (lent-lawful _ _ _ _ _ a.rule pre.1.0, pre.1.1.1))
 
 returns : tie.Need-returns

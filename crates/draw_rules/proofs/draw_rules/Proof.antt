@@ -20,26 +20,9 @@ invariant-loop cells₀ lists₀ memo₀ rows sizes cuts replacing counts ranges
 abbrev decreases-loop : tie.decreases-loop-rule
 decreases-loop cells₀ lists₀ memo₀ rows sizes cuts replacing counts ranges rules most used₀ rule₀ cells lists memo used rule = rules - rule
 
--- from where the rule's lists are judged back to where they were settled, to where the rule was drawn, to the loop's turn, and to where the function
--- begins
-abbrev start : tie.At-loop-rule invariant-loop decreases-loop → tie.Start invariant-loop decreases-loop
-start c = c.before.before.before.before.before.before.before.before.before.before
-
-abbrev turn : tie.After-draw_row-drawn invariant-loop decreases-loop → tie.In-loop-rule invariant-loop decreases-loop
-turn c = c.before.before.before.before.before
-
-abbrev drawing : tie.After-slice_known-in-loop-rule-3-1 invariant-loop decreases-loop → tie.After-draw_row-drawn invariant-loop decreases-loop
-drawing c = c.before.before.before.before.before.before
-
-abbrev drawn : tie.After-settle-used invariant-loop decreases-loop → tie.After-draw_row-drawn invariant-loop decreases-loop
-drawn c = drawing c.before.before.before.before.before
-
-abbrev settling : tie.After-lists_over invariant-loop decreases-loop → tie.After-settle-used invariant-loop decreases-loop
-settling c = c.before.before.before.before.before.before.before
-
 draw-row-requires : tie.Need-draw_row-drawn-requires invariant-loop decreases-loop
 draw-row-requires c κs =
-    let pre = (start c).requires in
+    let pre = c.requires in
     let inv = c.loop-rule.invariant in
     let t = pre.0.1 in
     let here = c.loop-rule-test.true in
@@ -54,67 +37,53 @@ draw-row-requires c κs =
 -- 6
 returns : tie.Need-returns-then-drawn invariant-loop decreases-loop
 returns c =
-    let draws = drawing c in
-    let loop-test = turn draws in
-    let loop = loop-test.before in
-    let pre = (start loop).pre in
-    let inv = loop.loop.inv in
+    let pre = c.requires in
+    let inv = c.loop-rule.invariant in
     let places = places-kept _ _ inv.1 inv.2 inv.3 pre.1.places in
-    λ rs t. going-long _ _ _ _ _ _ _ _ _ loop.loop.memo _ _ _ places inv.4 inv.5 inv.6 loop-test.loop-test.taken
-    _ _ _ _ _ draws.draw_row.ensures c.if-drawn.true _ _ rs t
+    λ rs t. going-long _ _ _ _ _ _ _ _ _ c.loop-rule.memo _ _ _ places inv.4 inv.5 inv.6 c.loop-rule-test.true
+    _ _ _ _ _ c.draw_row-drawn.ensures c.if-drawn.true _ _ rs t
 
 settle-requires : tie.Need-settle-used-requires invariant-loop decreases-loop
 settle-requires c κs =
-    let draws = drawing c in
-    let loop-test = turn draws in
-    let loop = loop-test.before in
-    let pre = (start loop).pre in
-    let inv = loop.loop.inv in
+    let pre = c.requires in
+    let inv = c.loop-rule.invariant in
     let places = places-kept _ _ inv.1 inv.2 inv.3 pre.1.places in
-    let after = places-kept _ _ draws.draw_row.kept.0 draws.draw_row.kept.1.0 draws.draw_row.kept.1.1.0 places in (
-      going-settles _ _ _ _ _ _ _ _ _ loop.loop.memo _ _ _ places inv.4 inv.5 inv.6 loop-test.loop-test.taken
-          _ _ _ _ _ draws.draw_row.ensures draws.draw_row.kept.1.1.0,
+    let after = places-kept _ _ c.draw_row-drawn.auto.cells c.draw_row-drawn.auto.lists c.draw_row-drawn.auto.memo places in (
+      going-settles _ _ _ _ _ _ _ _ _ c.loop-rule.memo _ _ _ places inv.4 inv.5 inv.6 c.loop-rule-test.true
+          _ _ _ _ _ c.draw_row-drawn.ensures c.draw_row-drawn.auto.memo,
       (places.few, after.enough),
     )
 
 -- 14
 returns-2 : tie.Need-returns-then-lists_over invariant-loop decreases-loop
 returns-2 c =
-    let settles = settling c in
-    let draws = drawn settles in
-    let loop-test = turn draws in
-    let loop = loop-test.before in
-    let pre = (start loop).pre in
-    let inv = loop.loop.inv in
+    let pre = c.requires in
+    let inv = c.loop-rule.invariant in
     let places = places-kept _ _ inv.1 inv.2 inv.3 pre.1.places in
-    λ rs t. going-many _ _ _ _ _ _ _ _ _ loop.loop.memo _ _ _ places inv.4 inv.5 inv.6 loop-test.loop-test.taken
-    _ _ _ _ _ draws.draw_row.ensures draws.draw_row.kept.0
-    settles.before.before.before.before.if1.left _ _ _ _ settles.settle.ensures (sym c.lists_over.ensures ∙ c.if-lists_over.true) rs t
+    λ rs t. going-many _ _ _ _ _ _ _ _ _ c.loop-rule.memo _ _ _ places inv.4 inv.5 inv.6 c.loop-rule-test.true
+    _ _ _ _ _ c.draw_row-drawn.ensures c.draw_row-drawn.auto.cells
+    c.if-drawn.false _ _ _ _ c.settle-used.ensures (sym c.lists_over.ensures ∙ c.if-lists_over.true) rs t
 
 loop-again : tie.Need-loop-rule-preserved invariant-loop decreases-loop
 loop-again c =
-    let settles = settling c in
-    let draws = drawn settles in
-    let loop-test = turn draws in
-    let loop = loop-test.before in
-    let pre = (start loop).pre in
-    let inv = loop.loop.inv in
+    let pre = c.requires in
+    let inv = c.loop-rule.invariant in
     let places = places-kept _ _ inv.1 inv.2 inv.3 pre.1.places in
     let few = sym c.lists_over.ensures ∙ c.if-lists_over.false in (
-      omega (arith, loop-test.loop-test.taken),
-      settles.settle.kept.0 ∙ draws.draw_row.kept.0 ∙ inv.1,
-      settles.settle.kept.1.0 ∙ draws.draw_row.kept.1.0 ∙ inv.2,
-      settles.settle.kept.1.1.0 ∙ draws.draw_row.kept.1.1.0 ∙ inv.3,
-      settles.settle.ensures.few (ltb-false _ _ few),
-      settles.settle.ensures.memoed,
-      going_next _ _ _ _ _ _ _ _ _ loop.loop.memo _ _ _ places inv.4 inv.5 inv.6 loop-test.loop-test.taken
-          _ _ _ _ _ draws.draw_row.ensures draws.draw_row.kept.0
-          settles.before.before.before.before.if1.left _ _ _ _ settles.settle.ensures few,
+      omega (arith, c.loop-rule-test.true),
+      c.settle-used.auto.cells ∙ c.draw_row-drawn.auto.cells ∙ inv.1,
+      c.settle-used.auto.lists ∙ c.draw_row-drawn.auto.lists ∙ inv.2,
+      c.settle-used.auto.memo ∙ c.draw_row-drawn.auto.memo ∙ inv.3,
+      c.settle-used.ensures.few (ltb-false _ _ few),
+      c.settle-used.ensures.memoed,
+      going_next _ _ _ _ _ _ _ _ _ c.loop-rule.memo _ _ _ places inv.4 inv.5 inv.6 c.loop-rule-test.true
+          _ _ _ _ _ c.draw_row-drawn.ensures c.draw_row-drawn.auto.cells
+          c.if-drawn.false _ _ _ _ c.settle-used.ensures few,
     )
 
 reclaim-requires : tie.Need-reclaim-requires invariant-loop decreases-loop
 reclaim-requires c κs =
-    let pre = (start c).requires in
+    let pre = c.requires in
     let inv = c.loop-rule.invariant in
     let places = places-kept _ _ inv.1 inv.2 inv.3 pre.1.places in
     let ready = going-ready _ _ _ _ _ _ _ _ _ c.loop-rule.memo _ _ _ places inv.4 inv.5 inv.6 _ pre.0.1 in
@@ -122,11 +91,11 @@ reclaim-requires c κs =
 
 returns-3 : tie.Need-returns invariant-loop decreases-loop
 returns-3 c =
-    let pre = (start c).requires in
+    let pre = c.requires in
     let inv = c.loop-rule.invariant in
     let places = places-kept _ _ inv.1 inv.2 inv.3 pre.1.places in
     λ rs t. going_end _ _ _ _ _ _ _ _ _ c.loop-rule.memo _ _ _ places inv.6 c.loop-rule-test.false inv.0
-    _ _ _ _ c.reclaim.auto.0 c.reclaim.ensures rs t
+    _ _ _ _ c.reclaim.auto.cells c.reclaim.ensures rs t
 
 pub draw_rules_spec : {M : Type 1} → statement M
 draw_rules_spec =
@@ -141,18 +110,18 @@ draw_rules_spec =
     let t = (start c).pre.0.1 in
     omega (arith, c.loop-rule-test.true, t.0.0.many, t.0.1.all-replacing))
     draw-row-requires
-    (λ c. let draws = drawing c in draws.draw_row.kept.0 ∙ (turn draws).before.loop.inv.1)
-    (λ c. let draws = drawing c in draws.draw_row.kept.1.0 ∙ (turn draws).before.loop.inv.2)
-    (λ c. let draws = drawing c in draws.draw_row.kept.1.1.0 ∙ (turn draws).before.loop.inv.3)
+    (λ c. c.draw_row-drawn.auto.cells ∙ c.loop-rule.invariant.1)
+    (λ c. c.draw_row-drawn.auto.lists ∙ c.loop-rule.invariant.2)
+    (λ c. c.draw_row-drawn.auto.memo ∙ c.loop-rule.invariant.3)
     returns settle-requires (λ c κs. search rules)
-    (λ c. let settles = settling c in settles.settle.kept.0 ∙ (drawn settles).draw_row.kept.0 ∙ (turn (drawn settles)).before.loop.inv.1)
-    (λ c. let settles = settling c in settles.settle.kept.1.0 ∙ (drawn settles).draw_row.kept.1.0 ∙ (turn (drawn settles)).before.loop.inv.2)
-    (λ c. let settles = settling c in settles.settle.kept.1.1.0 ∙ (drawn settles).draw_row.kept.1.1.0 ∙ (turn (drawn settles)).before.loop.inv.3)
+    (λ c. c.settle-used.auto.cells ∙ c.draw_row-drawn.auto.cells ∙ c.loop-rule.invariant.1)
+    (λ c. c.settle-used.auto.lists ∙ c.draw_row-drawn.auto.lists ∙ c.loop-rule.invariant.2)
+    (λ c. c.settle-used.auto.memo ∙ c.draw_row-drawn.auto.memo ∙ c.loop-rule.invariant.3)
     returns-2
-    (λ c. let loop-test = turn (drawn (settling c)) in omega (arith, loop-test.loop-test.taken, (start loop-test.before).pre.0.1.0.0.few-rules))
-    (λ c. omega (arith, (turn (drawn (settling c))).loop-test.taken))
+    (λ c. omega (arith, c.loop-rule-test.true, (start c).pre.0.1.0.0.few-rules))
+    (λ c. omega (arith, c.loop-rule-test.true))
     loop-again reclaim-requires
-    (λ c. c.reclaim.auto.0 ∙ c.loop-rule.invariant.1)
-    (λ c. c.reclaim.auto.1.0 ∙ c.loop-rule.invariant.2)
-    (λ c. c.reclaim.auto.1.1.0 ∙ c.loop-rule.invariant.3)
+    (λ c. c.reclaim.auto.cells ∙ c.loop-rule.invariant.1)
+    (λ c. c.reclaim.auto.lists ∙ c.loop-rule.invariant.2)
+    (λ c. c.reclaim.auto.memo ∙ c.loop-rule.invariant.3)
     returns-3)

@@ -35,26 +35,26 @@ returns-2 c =
     λ rs paged leaving. let m = c.measure_pages-measured.ensures in
     let lacking = ltb-true _ _ (sym c.lacks_room.ensures ∙ c.if-lacks_room.true) in
     let full = no_room_lem c.args.form paged leaving m.0 m.1 c.opening_width.ensures.0 m.2 c.most_rules.ensures
-    c.if-rules-most_rules.left c.args.out.now lacking in
+    c.if-rules-most_rules.false c.args.out.now lacking in
     (c.fold_refused-then-lacks_room.ensures ∙ full.0, full.1)
 
 write-sheet-requires : tie.Need-write_sheet-requires
 write-sheet-requires c κs =
-    let paged = c.pre.0.1 in
-    let leaving = c.pre.0.2 in
+    let paged = c.requires.0.1 in
+    let leaving = c.requires.0.2 in
     let m = c.measure_pages-measured.ensures in
     let opened = c.opening_width.ensures in
     let form = c.args.form in
     let long = row-bits form paged leaving m.0 m.1 opened.0 in (
-      c.pre.1.0,
+      c.requires.1.0,
       (
         m.5,
         (
           (leaving.ordered, leaving.inside, omega (arith, leaving.low)),
           (
-            count_fits form paged leaving m.0 m.2 c.most_rules.ensures c.if-rules-most_rules.left,
+            count_fits form paged leaving m.0 m.2 c.most_rules.ensures c.if-rules-most_rules.false,
             (
-              countable form paged leaving m.0 m.2 c.most_rules.ensures c.if-rules-most_rules.left,
+              countable form paged leaving m.0 m.2 c.most_rules.ensures c.if-rules-most_rules.false,
               (omega (arith, long, enough c.before.before.before), omega (arith, long, m.4, paged.few, leaving.low, opened.1)),
             ),
           ),
@@ -66,7 +66,7 @@ returns-3 : tie.Need-returns
 returns-3 c =
     λ rs paged leaving. let m = c.measure_pages-measured.ensures in
     with-room c.args.form paged leaving m.0 m.1 c.opening_width.ensures.0 m.2 c.most_rules.ensures
-    c.if-rules-most_rules.left c.args.out.now _ (enough c.before.before.before.before.before.before.before.before.before.before) c.write_sheet.ensures
+    c.if-rules-most_rules.false c.args.out.now _ (enough c.before.before.before.before.before.before.before.before.before.before) c.write_sheet.ensures
 
 -- what the result takes fits a machine word
 short : (c : tie.After-opening_width)
@@ -74,7 +74,7 @@ short : (c : tie.After-opening_width)
     (c.opening_width.result + measured.measure_pages.result.bits < 2 ^ 50) × (measured.before.before.before.before.before.before.before.before.before.before.before.before.args.left.start ≤ measured.before.before.before.before.before.before.before.before.before.before.before.before.args.left.end)
     × (measured.before.before.before.before.before.before.before.before.before.before.before.before.args.left.end < 2 ^ 32)
 short c =
-    let pre = c.pre.0 in
+    let pre = c.requires.0 in
     (omega (arith, c.opening_width.ensures.1, c.measure_pages-measured.ensures.4, pre.1.few), pre.2.ordered, omega (arith, pre.2.low))
 
 pub emit_in_spec : {M : Type 1} → statement M

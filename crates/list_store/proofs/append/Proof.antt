@@ -29,9 +29,9 @@ append_spec =
     (λ c. omega (arith, few c.before.before.before.before))
     (λ c. search rules) (λ c. search rules) (λ c. search rules) (λ c. search rules) (λ c. search rules)
     (λ c.
-    simp length-set (omega (arith, few c.before.before.before.before, c.requires.1, c.u16_to_usize-entries.ensures.0, c.copy_words.auto.0)))
+    simp length-set (omega (arith, few c.before.before.before.before, c.requires.1, c.u16_to_usize-entries.ensures.0, c.copy_words.auto.words)))
     (λ c. search rules)
     (λ c.
     let count = c.u16_to_usize-entries.ensures.0 in
     let copy = c.copy_words in
-    appended-more _ _ _ _ c.requires.1 _ _ _ _ (omega (arith, count)) copy.auto.0 c.if-number-eq0.false (few c.before.before.before.before) refl copy.ensures (omega (arith, count))))
+    appended-more _ _ _ _ c.requires.1 _ _ _ _ (omega (arith, count)) copy.auto.words c.if-number-eq0.false (few c.before.before.before.before) refl copy.ensures (omega (arith, count))))

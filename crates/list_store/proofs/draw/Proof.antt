@@ -26,7 +26,7 @@ key_in : (c : tie.After-key_of-key) → c.key_of-key.result < length c.args.memo
 key_in c = omega (arith, key-few c, c.requires.0.made.many)
 
 -- the rule has made no list of it yet
-old : (c : tie.After-has_room) → let key = c in get_or key.before.before.before.before.before.before.before.args.memo.now key.key_of.result 0 ≤ key.before.before.before.before.before.before.before.args.before
+old : (c : tie.After-has_room) → let key = c in get_or key.before.before.before.before.before.before.before.args.memo.now key.key_of-key.result 0 ≤ key.before.before.before.before.before.before.before.args.before
 old c = omega (arith, c.if-u16_to_usize-before.false, c.u16_to_usize.ensures.0)
 
 -- its number fits, and its list too
@@ -68,7 +68,7 @@ draw_spec =
     (λ c.
     let append = c.append in
     let pre = c.requires in
-    walked-new pre.0 _ pre.1 _ (low c.before.before.before.before.before.before.before.before.before) _ (keyed c.before.before.before.before.before.before.before.before.before) _ append.auto.0 (old c.before.before.before.before.before)
+    walked-new pre.0 _ pre.1 _ (low c.before.before.before.before.before.before.before.before.before) _ (keyed c.before.before.before.before.before.before.before.before.before) _ append.auto.lists (old c.before.before.before.before.before)
     (ltb-true _ _ (sym c.has_room.ensures ∙ c.if-has_room.true)) append.ensures)
     (λ c. search rules)
     (λ c.

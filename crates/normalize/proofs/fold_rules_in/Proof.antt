@@ -21,12 +21,12 @@ prepare-requires c κs =
 -- there are no more drained rules than were read
 within : (c : tie.In-Fine) → c.in-Fine.rules ≤ c.args.count
 within c =
-    let read = c.pre.0.1 in
+    let read = c.requires.0.1 in
     drained-within _ _ _ _ _ _ _ _ _ _ _ (judged-fine _ _ _ _ _ _ _ _ _ _ _ (c.prepare-judged.ensures _ _ read.0 read.1) _ _ c.in-Fine.is).0 _ read.1
 
 mul-places : tie.Need-overflow_mul-places
 mul-places c =
-    let read = c.pre.0.1 in
+    let read = c.requires.0.1 in
     let told = judged-fine _ _ _ _ _ _ _ _ _ _ _ (c.prepare-judged.ensures _ _ read.0 read.1) _ _ c.in-Fine.is in
     search (rules, told.0.drawable.0.few-rules)
 
@@ -35,63 +35,59 @@ rules-left-requires c κs =
     let sheet = c.args.sheet.now in
     let known = c.shared_slice_known-1 in
     let bytes = known_bytes sheet (λ j. omega (arith, known.given j)) in
-    let read = c.pre.0.1 in
+    let read = c.requires.0.1 in
     (begins-there _ sheet bytes _ _ _ _ read.0 read.1, within c)
 
 slice-reshare-prefix-fold-boxes : tie.Need-slice_bounds-fold_boxes-end
 slice-reshare-prefix-fold-boxes c =
-    omega (arith, within c.before.before, c.pre.1.0.0, c.prepare-judged.kept.1.1.1.1.0)
+    omega (arith, within c.before.before, c.requires.1.0.0, c.prepare-judged.auto.1.1.1.1.0)
 
 slice-aggregate-fold-boxes : tie.Need-slice_bounds-fold_boxes-end-in-Fine
 slice-aggregate-fold-boxes c =
-    sym (length-take-le c.in-Fine.rules _ (omega (arith, within c.before.before, c.pre.1.0.0, c.prepare-judged.kept.1.1.1.1.0)))
+    sym (length-take-le c.in-Fine.rules _ (omega (arith, within c.before.before, c.requires.1.0.0, c.prepare-judged.auto.1.1.1.1.0)))
 
 slice-reshare-prefix-fold-boxes-2 : tie.Need-slice_bounds-fold_boxes-end-in-Fine-2
 slice-reshare-prefix-fold-boxes-2 c =
-    omega (arith, within c.before.before, c.pre.1.0.1, c.prepare-judged.kept.1.1.1.1.1.0)
+    omega (arith, within c.before.before, c.requires.1.0.1, c.prepare-judged.auto.1.1.1.1.1.0)
 
 slice-aggregate-fold-boxes-2 : tie.Need-slice_bounds-fold_boxes-end-in-Fine-3
 slice-aggregate-fold-boxes-2 c =
-    sym (length-take-le c.in-Fine.rules _ (omega (arith, within c.before.before, c.pre.1.0.1, c.prepare-judged.kept.1.1.1.1.1.0)))
+    sym (length-take-le c.in-Fine.rules _ (omega (arith, within c.before.before, c.requires.1.0.1, c.prepare-judged.auto.1.1.1.1.1.0)))
 
 slice-reshare-prefix-fold-boxes-3 : tie.Need-slice_bounds-fold_boxes-end-in-Fine-4
 slice-reshare-prefix-fold-boxes-3 c =
-    omega (arith, within c.before.before, c.pre.1.0.2, c.prepare-judged.kept.1.1.1.1.1.1.0)
+    omega (arith, within c.before.before, c.requires.1.0.2, c.prepare-judged.auto.1.1.1.1.1.1.0)
 
 slice-aggregate-fold-boxes-3 : tie.Need-slice_bounds-fold_boxes-end-in-Fine-5
 slice-aggregate-fold-boxes-3 c =
-    sym (length-take-le (c.in-Fine.rules * 16) _ (omega (arith, within c.before.before, c.pre.1.0.2, c.prepare-judged.kept.1.1.1.1.1.1.0)))
+    sym (length-take-le (c.in-Fine.rules * 16) _ (omega (arith, within c.before.before, c.requires.1.0.2, c.prepare-judged.auto.1.1.1.1.1.1.0)))
 
 fold-boxes-requires : tie.Need-fold_boxes-requires
 fold-boxes-requires c κs =
     let sheet = c.args.sheet.now in
     let known = c.shared_slice_known-1 in
     let bytes = known_bytes sheet (λ j. omega (arith, known.given j)) in
-    let read = c.pre.0.1 in
+    let read = c.requires.0.1 in
     let fine = judged-fine _ _ _ _ _ _ _ _ _ _ _ (c.prepare-judged.ensures _ _ read.0 read.1) _ _ c.in-Fine.is in
     let left = c.rules_left-left.ensures in (
       (
-        c.pre.0.0,
+        c.requires.0.0,
         record {
           end = c.args.end;
           read = read.0.read;
           commented = rules-commented _ sheet bytes _ _ _ read.0;
           c = rules-leaving _ sheet bytes _ _ _ read.0 _ _ fine.0.rules-many read.1 _ _ _ _ _ left.0 left.1 left.2
-              (length-take-le _ _ (omega (arith, within c.before.before.before.before, c.pre.1.0.0, c.prepare-judged.kept.1.1.1.1.0))) (left.3 ∙ fine.1);
-          to-draw = prepared-to-draw _ _ _ _ _ _ _ _ _ _ _ fine.0 (omega (arith, within c.before.before.before.before, c.pre.1.0.0, c.prepare-judged.kept.1.1.1.1.0));
+              (length-take-le _ _ (omega (arith, within c.before.before.before.before, c.requires.1.0.0, c.prepare-judged.auto.1.1.1.1.0))) (left.3 ∙ fine.1);
+          to-draw = prepared-to-draw _ _ _ _ _ _ _ _ _ _ _ fine.0 (omega (arith, within c.before.before.before.before, c.requires.1.0.0, c.prepare-judged.auto.1.1.1.1.0));
         },
       ),
       omega arith,
     )
 
--- where the rules are prepared, at the end of either branch
-abbrev finished : tie.After-slice_known-in-Fine-1 → tie.After-prepare-judged
-finished c = c
-
 returns-2 : tie.Need-returns-in-Refused
 returns-2 c =
     let args = c.args in
-    let read = c.pre.0.1 in
+    let read = c.requires.0.1 in
     rules-refused _ args.sheet.now args.out.now _ _ _ read.0.read _ _
     (judged-refused _ _ _ _ _ _ _ _ _ _ _ (c.prepare-judged.ensures _ _ read.0 read.1) _ _ c.in-Refused.is) c.fold_refused.ensures
 
@@ -103,12 +99,12 @@ fold_rules_in_spec =
     slice-aggregate-fold-boxes slice-reshare-prefix-fold-boxes-2 slice-aggregate-fold-boxes-2 slice-reshare-prefix-fold-boxes-3
     slice-aggregate-fold-boxes-3 (λ c. search rules) (λ c. search rules) fold-boxes-requires (λ c. search rules) (λ c κs. search rules)
     (λ c. search rules)
-    (λ c. (finished c).prepare.auto.1.1.1.1.0)
-    (λ c. (finished c).prepare.auto.1.1.1.1.1.0)
-    (λ c. (finished c).prepare.auto.1.1.1.1.1.1.0)
-    (λ c. (finished c).prepare.auto.1.1.1.1.1.1.1.0)
-    (λ c. (finished c).prepare.auto.1.1.1.1.1.1.1.1.0)
-    (λ c. (finished c).prepare.auto.1.1.1.1.1.1.1.1.1.0)
-    (λ c. (finished c).prepare.auto.1.1.1.1.1.1.1.1.1.1.1.1.0) (λ c. search rules)
+    (λ c. c.prepare-judged.auto.1.1.1.1.0)
+    (λ c. c.prepare-judged.auto.1.1.1.1.1.0)
+    (λ c. c.prepare-judged.auto.1.1.1.1.1.1.0)
+    (λ c. c.prepare-judged.auto.1.1.1.1.1.1.1.0)
+    (λ c. c.prepare-judged.auto.1.1.1.1.1.1.1.1.0)
+    (λ c. c.prepare-judged.auto.1.1.1.1.1.1.1.1.1.0)
+    (λ c. c.prepare-judged.auto.1.1.1.1.1.1.1.1.1.1.1.1.0) (λ c. search rules)
     (λ c. search rules) (λ c. search rules) (λ c. search rules) (λ c. search rules) (λ c. search rules) (λ c. search rules) (λ c. search rules)
     returns-2)

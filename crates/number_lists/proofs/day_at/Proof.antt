@@ -20,7 +20,7 @@ own entry = let a = entry.args in box_words a.states.now a.span_counts.now a.spa
 -- what was folded has room
 words-fit : (c : tie.After-fold_box-word_count) → c.fold_box-word_count.result ≤ length c.fold_box-word_count.new.0
 words-fit c =
-    omega (arith, (c.pre.0.0 c.args.place (omega arith)).wordy, c.fold_box-word_count.ensures.1, c.fold_box-word_count.auto.0)
+    omega (arith, (c.requires.0.0 c.args.place (omega arith)).wordy, c.fold_box-word_count.ensures.1, c.fold_box-word_count.auto.0)
 
 -- the is.before.before.before that of the day
 hashed : (c : tie.After-u64_to_u16-hash) → c.u64_to_u16-hash.result ≡ hash_of (own c)
@@ -30,7 +30,7 @@ hashed c = c.u64_to_u16-hash.ensures ∙ ap (λ n. n % 65536) c.fingerprint.ensu
 find-day-requires : tie.Need-find_day-number-requires
 find-day-requires c κs =
     let a = c.args in
-    let pre = c.pre in (
+    let pre = c.requires in (
       λ i l. ready-kept a.states.now a.span_counts.now a.spans.now a.lists.now _ _ _ pre.0.1 pre.0.0 i (omega (arith, l)),
       ((words-fit c.before.before.before.before.before, pre.1.0), (c.fold_box-word_count.ensures.0, hashed c.before, pre.1.1)),
     )

@@ -24,7 +24,7 @@ fetch-requires c κs =
 
 part-measure-day-end-2 : tie.Need-slice_bounds-measure_day-end-2
 part-measure-day-end-2 c =
-    omega (arith, c.pre.0.inside, size_low c.args.page.now 0)
+    omega (arith, c.requires.0.inside, size_low c.args.page.now 0)
 
 measure-day-requires : tie.Need-measure_day-measure-requires
 measure-day-requires c κs =
@@ -38,7 +38,7 @@ measure-day-requires c κs =
 returns : tie.Need-returns
 returns c =
     let form = as_form c.args.form in
-    let page = c.pre.0 in
+    let page = c.requires.0 in
     let number = c.u16_to_usize.ensures.0 in
     let day = c.fetch-day.ensures in
     let ends = page_ends c.args.page.now 0 in

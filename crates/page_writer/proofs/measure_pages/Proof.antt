@@ -20,64 +20,47 @@ invariant-loop form book₀ notes₀ room states counts spans lists pages count 
 abbrev decreases-loop : tie.decreases-loop-pages_left
 decreases-loop form book₀ notes₀ room states counts spans lists pages count here₀ left₀ rules₀ bits₀ past₀ filled₀ book notes here left rules bits past filled = left
 
--- ## Places of the code
-abbrev start : tie.At-loop-pages_left invariant-loop decreases-loop → tie.Start invariant-loop decreases-loop
-start c = c.before.before.before.before.before.before.before.before
-
-abbrev test : tie.After-page_size-size invariant-loop decreases-loop → tie.In-loop-pages_left invariant-loop decreases-loop
-test c = c.before
-
-abbrev loop : tie.After-page_size-size invariant-loop decreases-loop → tie.At-loop-pages_left invariant-loop decreases-loop
-loop c = (test c).before
-
-abbrev size : tie.After-measure_page-page invariant-loop decreases-loop → tie.After-page_size-size invariant-loop decreases-loop
-size c = c.before.before.before.before
-
 -- ## What is needed there
 page-size-requires : tie.Need-page_size-size-requires invariant-loop decreases-loop
 page-size-requires c κs =
-    omega (arith, (measured-page c.loop-pages_left.invariant.0 c.loop-pages_left-test.true).inside, size_low (start c).args.pages.now c.loop-pages_left.here)
+    omega (arith, (measured-page c.loop-pages_left.invariant.0 c.loop-pages_left-test.true).inside, size_low c.args.pages.now c.loop-pages_left.here)
 
 add-measure-page : tie.Need-overflow_add-here invariant-loop decreases-loop
 add-measure-page c =
-    omega (arith, (measured-page (loop c).loop.invariant.0 (test c).loop-test.true).inside, c.page_size-size.ensures, (start (loop c)).good)
+    omega (arith, (measured-page c.loop-pages_left.invariant.0 c.loop-pages_left-test.true).inside, c.page_size-size.ensures, c.good)
 
 mul-measure-page : tie.Need-offset_bounds-pages-here invariant-loop decreases-loop
 mul-measure-page c =
-    omega (arith, (measured-page (loop c).loop.invariant.0 (test c).loop-test.true).inside, c.page_size-size.ensures, (start (loop c)).good)
+    omega (arith, (measured-page c.loop-pages_left.invariant.0 c.loop-pages_left-test.true).inside, c.page_size-size.ensures, c.good)
 
 part-measure-page-end : tie.Need-slice_bounds-measure_page-end invariant-loop decreases-loop
 part-measure-page-end c =
-    omega (arith, (measured-page (loop c).loop.invariant.0 (test c).loop-test.true).inside, c.page_size-size.ensures)
+    omega (arith, (measured-page c.loop-pages_left.invariant.0 c.loop-pages_left-test.true).inside, c.page_size-size.ensures)
 
 measure-page-requires : tie.Need-measure_page-page-requires invariant-loop decreases-loop
 measure-page-requires c κs =
-    let inv = (loop c).loop.invariant in
-    let ready = measured-page inv.0 (test c).loop-test.true in
+    let inv = c.loop-pages_left.invariant in
+    let ready = measured-page inv.0 c.loop-pages_left-test.true in
     let long = c.page_size-size.ensures in
     (cut-ready _ _ _ long (omega (arith, ready.inside, long)) ready refl, inv.1)
 
 add-rules : tie.Need-overflow_add-rules invariant-loop decreases-loop
 add-rules c =
-    let sized = size c in
-    omega (arith, (loop sized).loop.inv.0.few, (test sized).loop-test.taken, c.measure_page-page.ensures.3, (start (loop sized)).pre.1.0)
+    omega (arith, c.loop-pages_left.invariant.0.few, c.loop-pages_left-test.true, c.measure_page-page.ensures.3, c.requires.1.0)
 
 add-bits : tie.Need-overflow_add-bits invariant-loop decreases-loop
 add-bits c =
-    let sized = size c in
-    omega (arith, (loop sized).loop.inv.0.short, (test sized).loop-test.taken, c.measure_page-page.ensures.4, (start (loop sized)).pre.1.0)
+    omega (arith, c.loop-pages_left.invariant.0.short, c.loop-pages_left-test.true, c.measure_page-page.ensures.4, c.requires.1.0)
 
 add-here : tie.Need-overflow_add-here invariant-loop decreases-loop
 add-here c =
-    let sized = size c in
-    omega (arith, (measured-page (loop sized).loop.inv.0 (test sized).loop-test.taken).inside, sized.page_size.ensures, (start (loop sized)).good)
+    omega (arith, (measured-page c.loop-pages_left.invariant.0 c.loop-pages_left-test.true).inside, c.page_size-size.ensures, c.good)
 
 loop-again : tie.Need-loop-pages_left-preserved invariant-loop decreases-loop
 loop-again c =
-    let sized = size c in
-    let inv = (loop sized).loop.inv in
+    let inv = c.loop-pages_left.invariant in
     let page = c.measure_page-page.ensures in (
-      measured-more inv.0 (test sized).loop-test.taken sized.page_size.ensures page.0 page.1 page.2 page.3 page.4,
+      measured-more inv.0 c.loop-pages_left-test.true c.page_size-size.ensures page.0 page.1 page.2 page.3 page.4,
       page.5,
       c.measure_page-page.auto.1.0 ∙ inv.2,
       c.measure_page-page.auto.1.1.0 ∙ inv.3,
@@ -95,6 +78,6 @@ measure_pages_spec =
     (tie.spec invariant-loop decreases-loop
     (λ c. let pre = c.requires in (measured-none _ _ _ _ _ _ _ _ pre.0, pre.1.1, refl, refl))
     page-size-requires add-measure-page mul-measure-page (λ c. omega arith) (λ c. omega arith) part-measure-page-end measure-page-requires add-rules add-bits add-here
-    (λ c. omega (arith, (test (size c)).loop-test.taken))
-    (λ c. omega (arith, (test (size c)).loop-test.taken))
+    (λ c. omega (arith, c.loop-pages_left-test.true))
+    (λ c. omega (arith, c.loop-pages_left-test.true))
     loop-again (λ c. c.loop-pages_left.invariant.2) (λ c. c.loop-pages_left.invariant.3) returns)

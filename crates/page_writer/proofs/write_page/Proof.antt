@@ -23,34 +23,34 @@ fetch-requires c κs =
 
 sub-write-day-2 : tie.Need-slice_bounds-write_day-count-2
 sub-write-day-2 c =
-    omega (arith, c.pre.0.0.inside, size_low c.args.page.now 0)
+    omega (arith, c.requires.0.0.inside, size_low c.args.page.now 0)
 
 part-write-day-start-2 : tie.Need-slice_bounds-write_day-start-2
 part-write-day-start-2 c =
-    omega (arith, c.pre.0.0.inside, size_low c.args.page.now 0)
+    omega (arith, c.requires.0.0.inside, size_low c.args.page.now 0)
 
 part-write-day-end-3 : tie.Need-slice_bounds-write_day-end-3
 part-write-day-end-3 c =
-    omega (arith, c.pre.0.0.inside, size_low c.args.page.now 0)
+    omega (arith, c.requires.0.0.inside, size_low c.args.page.now 0)
 
 write-day-requires : tie.Need-write_day-next-requires
 write-day-requires c κs =
     let form = as_form c.args.form in
-    let page = c.pre.0.0 in
-    let all = c.pre.0.1 in
+    let page = c.requires.0.0 in
+    let all = c.requires.0.1 in
     let number = c.u16_to_usize.ensures.0 in
     let day = c.fetch-day.ensures in
     let same = book-rules page _ number _ _ _ day.inside day.words _ (ends-whole page all) in (
       book-whole page _ number _ _ _ day.inside day.words,
-      (rows_whole page all, (ap (any_of (many_items form)) same ∙ c.pre.1.1.0, room_as (ap (rules_bits form) (sym same)) c.pre.1.1.1)),
+      (rows_whole page all, (ap (any_of (many_items form)) same ∙ c.requires.1.1.0, room_as (ap (rules_bits form) (sym same)) c.requires.1.1.1)),
     )
 
 returns : tie.Need-returns
 returns c =
-    let page = c.pre.0.0 in
+    let page = c.requires.0.0 in
     let number = c.u16_to_usize.ensures.0 in
     let day = c.fetch-day.ensures in
-    let same = book-rules page _ number _ _ _ day.inside day.words _ (ends-whole page c.pre.0.1) in
+    let same = book-rules page _ number _ _ _ day.inside day.words _ (ends-whole page c.requires.0.1) in
     (wrote_as (ap (rules_bits (as_form c.args.form)) (sym same)) c.write_day-next.ensures, day.opened)
 
 pub write_page_spec : {M : Type 1} → statement M

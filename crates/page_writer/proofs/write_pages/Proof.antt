@@ -21,40 +21,27 @@ invariant-loop form out₀ place book₀ notes₀ filled room states counts span
 abbrev decreases-loop : tie.decreases-loop-pages_left
 decreases-loop form out₀ place book₀ notes₀ filled room states counts spans lists pages count here₀ left₀ next₀ full₀ out book notes here left next full = left
 
--- ## Places of the code
-abbrev start : tie.At-loop-pages_left invariant-loop decreases-loop → tie.Start invariant-loop decreases-loop
-start c = c.before.before.before.before.before.before.before.before.before
-
-abbrev test : tie.After-page_size-size invariant-loop decreases-loop → tie.In-loop-pages_left invariant-loop decreases-loop
-test c = c.before
-
-abbrev loop : tie.After-page_size-size invariant-loop decreases-loop → tie.At-loop-pages_left invariant-loop decreases-loop
-loop c = (test c).before
-
-abbrev size : tie.After-write_page-written invariant-loop decreases-loop → tie.After-page_size-size invariant-loop decreases-loop
-size c = c.before.before.before.before.before
-
 -- ## What is needed there
 page-size-requires : tie.Need-page_size-size-requires invariant-loop decreases-loop
 page-size-requires c κs =
-    omega (arith, (writing-page c.loop-pages_left.invariant.0 c.loop-pages_left-test.true).inside, size_low (start c).args.pages.now c.loop-pages_left.here)
+    omega (arith, (writing-page c.loop-pages_left.invariant.0 c.loop-pages_left-test.true).inside, size_low c.args.pages.now c.loop-pages_left.here)
 
 add-write-page : tie.Need-overflow_add-here invariant-loop decreases-loop
 add-write-page c =
-    omega (arith, (writing-page (loop c).loop.invariant.0 (test c).loop-test.true).inside, c.page_size-size.ensures, (start (loop c)).good)
+    omega (arith, (writing-page c.loop-pages_left.invariant.0 c.loop-pages_left-test.true).inside, c.page_size-size.ensures, c.good)
 
 mul-write-page : tie.Need-offset_bounds-pages-here invariant-loop decreases-loop
 mul-write-page c =
-    omega (arith, (writing-page (loop c).loop.invariant.0 (test c).loop-test.true).inside, c.page_size-size.ensures, (start (loop c)).good)
+    omega (arith, (writing-page c.loop-pages_left.invariant.0 c.loop-pages_left-test.true).inside, c.page_size-size.ensures, c.good)
 
 part-write-page-end : tie.Need-slice_bounds-write_page-end invariant-loop decreases-loop
 part-write-page-end c =
-    omega (arith, (writing-page (loop c).loop.invariant.0 (test c).loop-test.true).inside, c.page_size-size.ensures)
+    omega (arith, (writing-page c.loop-pages_left.invariant.0 c.loop-pages_left-test.true).inside, c.page_size-size.ensures)
 
 write-page-requires : tie.Need-write_page-written-requires invariant-loop decreases-loop
 write-page-requires c κs =
-    let inv = (loop c).loop.invariant in
-    let some = (test c).loop-test.true in
+    let inv = c.loop-pages_left.invariant in
+    let some = c.loop-pages_left-test.true in
     let ready = writing-page inv.0 some in
     let long = c.page_size-size.ensures in (
       (cut-ready _ _ _ long (omega (arith, ready.inside, long)) ready refl, cut-whole _ _ _ long (omega (arith, ready.inside, long))),
@@ -63,16 +50,14 @@ write-page-requires c κs =
 
 add-here : tie.Need-overflow_add-here invariant-loop decreases-loop
 add-here c =
-    let sized = size c in
-    omega (arith, (writing-page (loop sized).loop.inv.0 (test sized).loop-test.taken).inside, sized.page_size.ensures, (start (loop sized)).good)
+    omega (arith, (writing-page c.loop-pages_left.invariant.0 c.loop-pages_left-test.true).inside, c.page_size-size.ensures, c.good)
 
 loop-again : tie.Need-loop-pages_left-preserved invariant-loop decreases-loop
 loop-again c =
-    let sized = size c in
-    let inv = (loop sized).loop.inv in
+    let inv = c.loop-pages_left.invariant in
     let written = c.write_page-written.ensures in
     let kept = c.write_page-written.auto.1 in (
-      writing_more inv.0 (test sized).loop-test.taken sized.page_size.ensures written.0,
+      writing_more inv.0 c.loop-pages_left-test.true c.page_size-size.ensures written.0,
       written.1,
       kept.0 ∙ inv.2,
       kept.1.1.0 ∙ inv.3,
@@ -85,7 +70,7 @@ write_pages_spec =
     (tie.spec invariant-loop decreases-loop
     (λ c. let pre = c.requires in (writing-none _ _ _ _ _ _ _ _ pre.0 pre.1.1.0 _ _ pre.1.1.1, pre.1.0, refl, refl, refl))
     page-size-requires add-write-page mul-write-page (λ c. omega arith) (λ c. omega arith) part-write-page-end write-page-requires add-here
-    (λ c. omega (arith, (test (size c)).loop-test.taken))
-    (λ c. omega (arith, (test (size c)).loop-test.taken))
+    (λ c. omega (arith, c.loop-pages_left-test.true))
+    (λ c. omega (arith, c.loop-pages_left-test.true))
     loop-again (λ c. c.loop-pages_left.invariant.2) (λ c. c.loop-pages_left.invariant.3) (λ c. c.loop-pages_left.invariant.4)
     (λ c. writing-all c.loop-pages_left.invariant.0 (omega (arith, c.loop-pages_left-test.false))))

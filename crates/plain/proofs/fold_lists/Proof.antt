@@ -32,27 +32,27 @@ size-of-requires c κs =
 number-lists-requires : tie.Need-number_lists-requires
 number-lists-requires c κs =
     let a = c.args in
-    let given = c.pre.0 in
+    let given = c.requires.0 in
     own-numbered a.states.now a.span_counts.now a.spans.now a.row_starts.now a.sizes.now a.cuts.now a.lists.now given.0 given.1 given.2 _ _ _ _
-    c.size_of-boxes.ensures c.pre.1.1 c.pre.1.0 c.box_classes-classes.ensures
+    c.size_of-boxes.ensures c.requires.1.1 c.requires.1.0 c.box_classes-classes.ensures
 
 pop-pages-requires : tie.Need-pop_pages-stop-requires
 pop-pages-requires c κs =
     let a = c.args in
-    let given = c.pre.0 in
+    let given = c.requires.0 in
     own-popped a.states.now a.span_counts.now a.spans.now a.row_starts.now a.sizes.now a.cuts.now a.lists.now given.0 given.1 given.2
     (numbers c.before.before.before.before.before.before.before.before.before) (classes c.before.before.before.before.before.before.before.before.before) _ _ c.size_of-boxes.ensures (whole c.before.before.before.before.before.before.before.before.before.before.before.before.before.before.before)
-    (omega (arith, c.pre.1.0, c.number_lists.auto.1.1.1.1.1.1.0)) c.number_lists.ensures _ _
-    (omega (arith, given.2.few-boxes, c.marks-marks.ensures)) (omega (arith, c.pre.1.1, c.number_lists.auto.1.1.1.1.1.0))
+    (omega (arith, c.requires.1.0, c.number_lists.auto.1.1.1.1.1.1.0)) c.number_lists.ensures _ _
+    (omega (arith, given.2.few-boxes, c.marks-marks.ensures)) (omega (arith, c.requires.1.1, c.number_lists.auto.1.1.1.1.1.0))
 
 count-pages-requires : tie.Need-count_pages-requires
 count-pages-requires c κs =
     let a = c.args in
-    let given = c.pre.0 in
+    let given = c.requires.0 in
     let ended = own-ended a.states.now a.span_counts.now a.spans.now a.row_starts.now a.sizes.now a.cuts.now a.lists.now given.0 given.1 given.2
     (numbers c.before.before.before.before.before.before.before.before.before.before.before.before.before.before.before) (classes c.before.before.before.before.before.before.before.before.before.before.before.before.before.before.before) _ _ c.size_of-boxes.ensures (whole c.before.before.before.before.before.before.before.before.before.before.before.before.before.before.before.before.before.before.before.before.before)
-    (omega (arith, c.pre.1.0, c.number_lists.kept.1.1.1.1.1.1.0)) c.number_lists.ensures (pages c.before.before.before.before.before.before.before.before.before.before.before.before.before.before.before) _
-    (omega (arith, c.pre.1.1, c.number_lists.kept.1.1.1.1.1.0)) c.pop_pages-stop.ensures.1 _ c.pop_pages-stop.ensures.0 in
+    (omega (arith, c.requires.1.0, c.number_lists.auto.1.1.1.1.1.1.0)) c.number_lists.ensures (pages c.before.before.before.before.before.before.before.before.before.before.before.before.before.before.before) _
+    (omega (arith, c.requires.1.1, c.number_lists.auto.1.1.1.1.1.0)) c.pop_pages-stop.ensures.1 _ c.pop_pages-stop.ensures.0 in
     (ended.0, omega (arith, ended.1, c.pop_pages-stop.auto.1.1.1.1.1.1.0))
 
 returns : tie.Need-returns
@@ -60,8 +60,8 @@ returns c =
     let a = c.args in
     λ rs form times given commented. own-folded a.states.now a.span_counts.now a.spans.now a.row_starts.now a.sizes.now a.cuts.now a.lists.now rs times given
     (numbers c.before.before.before.before.before.before.before.before.before.before.before.before.before.before.before.before) (classes c.before.before.before.before.before.before.before.before.before.before.before.before.before.before.before.before) _ _ c.size_of-boxes.ensures (whole c.before.before.before.before.before.before.before.before.before.before.before.before.before.before.before.before.before.before.before.before.before.before)
-    (omega (arith, c.pre.1.0, c.number_lists.kept.1.1.1.1.1.1.0)) c.number_lists.ensures (pages c.before.before.before.before.before.before.before.before.before.before.before.before.before.before.before.before) _
-    (omega (arith, c.pre.1.1, c.number_lists.kept.1.1.1.1.1.0)) c.pop_pages-stop.ensures.1 _ c.pop_pages-stop.ensures.0 form commented _
+    (omega (arith, c.requires.1.0, c.number_lists.auto.1.1.1.1.1.1.0)) c.number_lists.ensures (pages c.before.before.before.before.before.before.before.before.before.before.before.before.before.before.before.before) _
+    (omega (arith, c.requires.1.1, c.number_lists.auto.1.1.1.1.1.0)) c.pop_pages-stop.ensures.1 _ c.pop_pages-stop.ensures.0 form commented _
     c.count_pages.ensures
 
 pub fold_lists_spec : {M : Type 1} → statement M

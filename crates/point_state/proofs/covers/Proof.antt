@@ -15,21 +15,21 @@ years c = one_more _ _ _ _ _ _ _ true _ (none_left _ _ _) refl refl c.holds_in.e
 
 months : (c : tie.After-holds_in-2) → let a = c.args in
     c.holds_in-2.result ≡ covers_point a.range_counts.now a.ranges.now a.rule 2 (a.moment.month ∷ a.moment.year ∷ [])
-months c = one_more _ _ _ _ _ _ _ _ _ (years c.before.before.before) (not-false _ c.if-not-holds_in.left) c.u8_to_u16.ensures.0 c.holds_in-2.ensures
+months c = one_more _ _ _ _ _ _ _ _ _ (years c.before.before.before) (not-false _ c.if-not-holds_in.false-raw) c.u8_to_u16.ensures.0 c.holds_in-2.ensures
 
 weeks : (c : tie.After-holds_in-3) → let a = c.args in
     c.holds_in-3.result ≡ covers_point a.range_counts.now a.ranges.now a.rule 3 (a.moment.week ∷ a.moment.month ∷ a.moment.year ∷ [])
-weeks c = one_more _ _ _ _ _ _ _ _ _ (months c.before.before.before) (not-false _ c.if-not-holds_in-2.left) c.u8_to_u16-2.ensures.0 c.holds_in-3.ensures
+weeks c = one_more _ _ _ _ _ _ _ _ _ (months c.before.before.before) (not-false _ c.if-not-holds_in-2.false-raw) c.u8_to_u16-2.ensures.0 c.holds_in-3.ensures
 
 pub covers_spec : {M : Type 1} → statement M
 covers_spec =
     tie.close
     (tie.spec
     (λ c κs. search rules)
-    (λ c. not_covered _ _ _ _ _ _ (not_covered _ _ _ _ _ _ (not_covered _ _ _ _ _ _ (sym (not-true _ c.if-not-holds_in.taken) ∙ years c.before))))
+    (λ c. not_covered _ _ _ _ _ _ (not_covered _ _ _ _ _ _ (not_covered _ _ _ _ _ _ (sym (not-true _ c.if-not-holds_in.true-raw) ∙ years c.before))))
     (λ c κs. search rules) (λ c κs. search rules)
-    (λ c. not_covered _ _ _ _ _ _ (not_covered _ _ _ _ _ _ (sym (not-true _ c.if-not-holds_in-2.taken) ∙ months c.before)))
+    (λ c. not_covered _ _ _ _ _ _ (not_covered _ _ _ _ _ _ (sym (not-true _ c.if-not-holds_in-2.true-raw) ∙ months c.before)))
     (λ c κs. search rules) (λ c κs. search rules)
-    (λ c. not_covered _ _ _ _ _ _ (sym (not-true _ c.if-not-holds_in-3.taken) ∙ weeks c.before))
+    (λ c. not_covered _ _ _ _ _ _ (sym (not-true _ c.if-not-holds_in-3.true-raw) ∙ weeks c.before))
     (λ c κs. search rules) (λ c κs. search rules)
-    (λ c. one_more _ _ _ _ _ _ _ _ _ (weeks c.before.before.before) (not-false _ c.if-not-holds_in-3.left) c.u8_to_u16-3.ensures.0 c.holds_in-4.ensures))
+    (λ c. one_more _ _ _ _ _ _ _ _ _ (weeks c.before.before.before) (not-false _ c.if-not-holds_in-3.false-raw) c.u8_to_u16-3.ensures.0 c.holds_in-4.ensures))

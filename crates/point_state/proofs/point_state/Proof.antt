@@ -18,18 +18,14 @@ invariant-loop states span_counts spans replacing range-counts ranges moment fou
 abbrev decreases-loop : tie.decreases-loop-rule
 decreases-loop states span_counts spans replacing range-counts ranges moment found₀ rule₀ found rule = length states - rule
 
--- from the loop's turn back to where the function begins
-abbrev start : tie.In-loop-rule invariant-loop decreases-loop → tie.Start invariant-loop decreases-loop
-start c = c.before.before.before.before.before.before.before.before
-
 pub point_state_spec : {M : Type 1} → statement M
 point_state_spec =
     tie.close
     (tie.spec
     invariant-loop decreases-loop
     (λ c. (omega arith, λ rs given. state-start _ _ _ _ _ _ rs given _ _))
-    (λ c κs. let given = (start c).requires in each-there _ _ _ _ _ _ given.0 given.1 (moment_point (start c).args.moment) _ c.loop-rule-test.true)
-    (λ c. omega (arith, c.loop-rule-test.true, (start c).well_formed))
+    (λ c κs. let given = c.requires in each-there _ _ _ _ _ _ given.0 given.1 (moment_point c.args.moment) _ c.loop-rule-test.true)
+    (λ c. omega (arith, c.loop-rule-test.true, c.well_formed))
     (λ c. omega (arith, c.loop-rule-test.true))
     (λ c.
     (

@@ -15,7 +15,7 @@ returns-2 : tie.Need-returns-then-boxes_over
 unfolding JudgesDays
 returns-2 c =
     λ ds days.
-    boxes-refused ds _ _ (c.first_overlap-twice.ensures ds days) c.if-twice-rules.left _ (c.Cut-all.ensures ds days).0
+    boxes-refused ds _ _ (c.first_overlap-twice.ensures ds days) c.if-twice-rules.false _ (c.Cut-all.ensures ds days).0
     (ltb-true _ _ (sym c.boxes_over.ensures ∙ c.if-boxes_over.true))
 
 returns-3 : tie.Need-returns
@@ -26,7 +26,7 @@ returns-3 c =
       refl,
       refl,
       there.1,
-      rules-passed ds _ _ (c.first_overlap-twice.ensures ds days) c.if-twice-rules.left _ there.0 _ _ _ there.1
+      rules-passed ds _ _ (c.first_overlap-twice.ensures ds days) c.if-twice-rules.false _ there.0 _ _ _ there.1
           (ltb-false _ _ (sym c.boxes_over.ensures ∙ c.if-boxes_over.false)),
     )
 

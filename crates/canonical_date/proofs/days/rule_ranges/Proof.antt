@@ -19,15 +19,15 @@ returns c =
     let loads = c.rows.ensures
     ∙ ap₂ (λ title head. load_rows (as_form a.form) 4 (sheet_bits a.sheet.now) (a.at + title) 0 (a.at + head) a.ranges.now a.range_counts.now)
     c.title_width.ensures.0 c.head_width.ensures.0 in
-    (loads, found _ a.sheet.now bytes a.at c.pre.0 c.pre.1.0 _ _ c.pre.1.1 c.pre.1.2 (narrow a.form) _ _ c.rows.result loads)
+    (loads, found _ a.sheet.now bytes a.at c.requires.0 c.requires.1.0 _ _ c.requires.1.1 c.requires.1.2 (narrow a.form) _ _ c.rows.result loads)
 
 pub rule_ranges_spec : {M : Type 1} → statement M
 rule_ranges_spec =
     tie.close
-    (tie.spec (λ c κs. search rules) (λ c. omega (arith, c.pre.1.0, c.title_width.ensures.1)) (λ c κs. search rules)
-    (λ c. omega (arith, c.pre.1.0, c.head_width.ensures.1))
+    (tie.spec (λ c κs. search rules) (λ c. omega (arith, c.requires.1.0, c.title_width.ensures.1)) (λ c κs. search rules)
+    (λ c. omega (arith, c.requires.1.0, c.head_width.ensures.1))
     (λ c κs.
-    let low = c.pre.1 in (
+    let low = c.requires.1 in (
       omega (arith, low.0, c.title_width.ensures.1),
       omega (arith, low.0, c.head_width.ensures.1),
       low.1,

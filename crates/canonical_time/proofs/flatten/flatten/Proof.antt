@@ -71,7 +71,7 @@ loop-again : tie.Need-loop-next-preserved invariant-loop decreases-loop
 loop-again c =
     let few = c.requires.0.few c.u16_to_usize-r.result in
     flat_on _ _ _ _ _ _ _ _ _ _ _ c.loop-next.invariant c.loop-next-test.true _ _ c.u16_to_usize-r.ensures.0 c.u8_to_usize-c.ensures.0
-    (omega (arith, few, c.u8_to_usize-c.ensures.0)) _ _ _ c.push_spans-place.ensures (c.push_spans-place.auto.0, c.push_spans-place.auto.1.0)
+    (omega (arith, few, c.u8_to_usize-c.ensures.0)) _ _ _ c.push_spans-place.ensures (c.push_spans-place.auto.span_states, c.push_spans-place.auto.span_codes)
 
 same_length : tie.Need-shape_of-span_states invariant-loop decreases-loop
 same_length c = c.loop-next.invariant.lengths.0

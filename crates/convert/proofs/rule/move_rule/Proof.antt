@@ -23,34 +23,27 @@ bytes c = known_bytes c.args.sheet.now (λ j. omega (arith, c.shared_slice_known
 
 move-title-requires : tie.Need-move_title-counts_place-requires
 move-title-requires c κs =
-    let pre = c.pre in
+    let pre = c.requires in
     ((pre.0.0.0, pre.0.1), (pre.1.0, room-first _ _ (room_as (rule-split (as_form c.args.to) _) pre.1.1)))
 
 move-counts-requires : tie.Need-move_counts-body_place-requires
 move-counts-requires c κs =
     let a = c.args in
-    let pre = c.pre in
+    let pre = c.requires in
     let rest = room-rest c.move_title-counts_place.ensures _ (room_as (rule-split (as_form a.to) _) pre.1.1) in (
       (_, _, counts-there _ a.sheet.now (bytes c.before.before.before.before.before.before.before) a.at pre.0.0.0 _ (ap (a.at +◌) c.title_width.ensures.0), room-first _ _ rest),
       omega (arith, pre.0.1, c.title_width.ensures.1),
     )
 
-abbrev titled : tie.After-head_width → tie.After-move_title-counts_place
-titled c = c
-
-abbrev shared : tie.After-head_width → tie.After-shared_slice_known-1
-shared c = (titled c).before.before.before
-
 -- the items stand from the head's end up to the rule's
-body-low : (c : tie.After-head_width) → let a = (start (shared c)).args in
+body-low : (c : tie.After-head_width) → let a = c.args in
     (a.at + c.head_width.result ≤ a.end) × (a.end ≤ 8 * length a.sheet.now) × (a.end < 2 ^ 26)
     × (a.end - (a.at + c.head_width.result) ≡ length (body_bits (rule_read_at (as_form a.form) (sheet_bits a.sheet.now) a.at)))
 body-low c =
-    let entry = start (shared c) in
-    let a = entry.args in
-    let given = entry.pre.0 in
-    let reach = reaches _ a.sheet.now (bytes (shared c)) a.at given.0.0 (narrow a.form) given.1 in
-    let size = body-size _ a.sheet.now (bytes (shared c)) a.at given.0.0 in
+    let a = c.args in
+    let given = c.requires.0 in
+    let reach = reaches _ a.sheet.now (bytes c.before.before.before.before.before.before.before.before.before.before.before) a.at given.0.0 (narrow a.form) given.1 in
+    let size = body-size _ a.sheet.now (bytes c.before.before.before.before.before.before.before.before.before.before.before) a.at given.0.0 in
     let width = c.head_width.ensures.0 in (
       omega (arith, reach.0, width, given.0.1),
       omega (arith, reach.1, given.0.1),
@@ -60,33 +53,30 @@ body-low c =
 
 copy-bits-requires : tie.Need-copy_bits-requires
 copy-bits-requires c κs =
-    let entry = start (shared c.before) in
-    let a = entry.args in
+    let a = c.args in
     let low = body-low c.before in
     let counts = c.move_counts-body_place.ensures _ _
-    (counts-there _ a.sheet.now (bytes (shared c.before)) a.at entry.pre.0.0.0 _ (ap (a.at +◌) c.title_width.ensures.0)) in
-    let rest = room-rest counts _ (room-rest (titled c.before).move_title.ensures _ (room_as (rule-split (as_form a.to) _) entry.pre.1.1)) in
+    (counts-there _ a.sheet.now (bytes c.before.before.before.before.before.before.before.before.before.before.before.before) a.at c.requires.0.0.0 _ (ap (a.at +◌) c.title_width.ensures.0)) in
+    let rest = room-rest counts _ (room-rest c.move_title-counts_place.ensures _ (room_as (rule-split (as_form a.to) _) c.requires.1.1)) in
     (omega (arith, low.0, low.1), omega (arith, rest.inside, low.3), omega (arith, low.0, low.2), omega (arith, rest.low, low.3))
 
 add-result : tie.Need-overflow_add-result
 add-result c =
-    let entry = start (shared c.before.before.before.before) in
-    let a = entry.args in
+    let a = c.args in
     let counts = c.move_counts-body_place.ensures _ _
-    (counts-there _ a.sheet.now (bytes (shared c.before.before.before.before)) a.at entry.pre.0.0.0 _ (ap (a.at +◌) c.title_width.ensures.0)) in
-    let rest = room-rest counts _ (room-rest (titled c.before.before.before.before).move_title.ensures _ (room_as (rule-split (as_form a.to) _) entry.pre.1.1)) in
+    (counts-there _ a.sheet.now (bytes c.before.before.before.before.before.before.before.before.before.before.before.before.before.before.before) a.at c.requires.0.0.0 _ (ap (a.at +◌) c.title_width.ensures.0)) in
+    let rest = room-rest counts _ (room-rest c.move_title-counts_place.ensures _ (room_as (rule-split (as_form a.to) _) c.requires.1.1)) in
     omega (arith, rest.low, (body-low c.before.before.before.before).3)
 
 returns : tie.Need-returns
 returns c =
-    let entry = start (shared c.before.before.before.before) in
-    let a = entry.args in
+    let a = c.args in
     let low = body-low c.before.before.before.before in
     let counts = c.move_counts-body_place.ensures _ _
-    (counts-there _ a.sheet.now (bytes (shared c.before.before.before.before)) a.at entry.pre.0.0.0 _ (ap (a.at +◌) c.title_width.ensures.0)) in
-    let body = body-there _ a.sheet.now (bytes (shared c.before.before.before.before)) a.at entry.pre.0.0.0 _ _ _ (ap (a.at +◌) c.head_width.ensures.0) entry.pre.0.0.1 refl in
+    (counts-there _ a.sheet.now (bytes c.before.before.before.before.before.before.before.before.before.before.before.before.before.before.before) a.at c.requires.0.0.0 _ (ap (a.at +◌) c.title_width.ensures.0)) in
+    let body = body-there _ a.sheet.now (bytes c.before.before.before.before.before.before.before.before.before.before.before.before.before.before.before) a.at c.requires.0.0.0 _ _ _ (ap (a.at +◌) c.head_width.ensures.0) c.requires.0.0.1 refl in
     wrote_as (rule-split (as_form a.to) _)
-    (wrote_then (titled c.before.before.before.before).move_title.ensures
+    (wrote_then c.move_title-counts_place.ensures
     (wrote_then counts (record { behind = omega (arith, low.3); stored = c.copy_bits.ensures ∙ ap (sets _ _) body })))
 
 pub move_rule_spec : {M : Type 1} → statement M

@@ -28,7 +28,7 @@ copied c mid e =
     let bytes = known_bytes a.sheet.now (λ j. omega (arith, c.shared_slice_known-1.given j)) in
     record {
       behind = omega (arith, kinds-length r);
-      stored = e ∙ ap (sets (sheet_bits a.out.now) a.place) (kinds-there _ a.sheet.now bytes a.at c.pre.0.0);
+      stored = e ∙ ap (sets (sheet_bits a.out.now) a.place) (kinds-there _ a.sheet.now bytes a.at c.requires.0.0);
     }
 
 copy-bits-requires : tie.Need-copy_bits-requires
@@ -44,9 +44,9 @@ field-at-requires : tie.Need-field_at-requires
 field-at-requires c κs =
     let a = c.args in
     let bytes = known_bytes a.sheet.now (λ j. omega (arith, c.shared_slice_known-1.given j)) in
-    let reach = reaches _ a.sheet.now bytes a.at c.pre.0.0 (narrow a.form) c.pre.0.1 in
+    let reach = reaches _ a.sheet.now bytes a.at c.requires.0.0 (narrow a.form) c.requires.0.1 in
     let width = c.comment_width-2.ensures in
-    (omega (arith, width.1), omega (arith, c.pre.0.1), omega (arith, reach.0, reach.1, width.0))
+    (omega (arith, width.1), omega (arith, c.requires.0.1), omega (arith, reach.0, reach.1, width.0))
 
 -- the field that is read is the comment
 comment : (c : tie.After-field_at) → let a = c.args in
@@ -55,7 +55,7 @@ comment c =
     let a = c.args in
     let bytes = known_bytes a.sheet.now (λ j. omega (arith, c.shared_slice_known-1.given j)) in
     c.field_at.ensures ∙ ap (field_at (sheet_bits a.sheet.now) (a.at + 4)) c.comment_width-2.ensures.0
-    ∙ comment-there _ a.sheet.now bytes a.at c.pre.0.0
+    ∙ comment-there _ a.sheet.now bytes a.at c.requires.0.0
 
 -- and so it is written in the other width
 rewritten : (c : tie.After-field_at) → let a = c.args in
@@ -68,8 +68,8 @@ put-requires c κs =
     let a = c.args in
     let r = rule_read_at (as_form a.form) (sheet_bits a.sheet.now) a.at in
     let width = c.comment_width.ensures in
-    let whole = room_as (title-split (as_form a.to) r) c.pre.1.1 in
-    let low : c.field_at.result < 2 ^ c.comment_width.result = rw (comment c, width.0) c.pre.1.0 in
+    let whole = room_as (title-split (as_form a.to) r) c.requires.1.1 in
+    let low : c.field_at.result < 2 ^ c.comment_width.result = rw (comment c, width.0) c.requires.1.0 in
     ((omega (arith, width.1), low), room_as (rewritten c) (room-rest (copied c.before.before.before.before.before.before _ c.copy_bits.ensures) _ whole))
 
 returns : tie.Need-returns

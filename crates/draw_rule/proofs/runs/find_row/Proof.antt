@@ -14,35 +14,28 @@ use Rattle.draw_rule.proofs.runs.find_row.Statement.{statement}
 use Rattle.draw_rule.proofs.runs.find_row.Tie as tie
 
 abbrev invariant-loop : tie.invariant-loop-range
-invariant-loop runs₀ sizes counts rows cuts ranges dimension count first end range₀ runs range =
+invariant-loop runs₀ sizes counts rows cuts ranges dimension count end.before.before range₀ runs range =
     (range ≤ count) × (length runs ≡ length runs₀) × RunsUpTo sizes counts rows cuts ranges runs dimension × RowRuns sizes rows cuts ranges runs dimension range
 
 abbrev decreases-loop : tie.decreases-loop-range
-decreases-loop runs₀ sizes counts rows cuts ranges dimension count first end range₀ runs range = count - range
+decreases-loop runs₀ sizes counts rows cuts ranges dimension count end.before.before range₀ runs range = count - range
 
-abbrev start : tie.After-u16_to_usize invariant-loop decreases-loop → tie.Start invariant-loop decreases-loop
-start size = size.before.before.before.before.before.before.before.before.before.before.before.before
-
--- the dimension's row of cuts
-abbrev first : tie.After-u16_to_usize invariant-loop decreases-loop → tie.After-u16_to_usize-first invariant-loop decreases-loop
-first size = size.before.before
-
-row_in : (size : tie.After-u16_to_usize invariant-loop decreases-loop) → (first size).u16-to-usize2.result + size.u16-to-usize3.result < length (start size).args.cuts.now
+row_in : (size : tie.After-u16_to_usize invariant-loop decreases-loop) → size.u16_to_usize-first.result + size.u16_to_usize.result < length size.args.cuts.now
 row_in size =
-    let pre = (start size).requires in
-    omega (arith, pre.0.row _ pre.1.0.0, (first size).u16-to-usize2.ensures.0, size.u16-to-usize3.ensures.0)
+    let pre = size.requires in
+    omega (arith, pre.0.row _ pre.1.0.0, size.u16_to_usize-first.ensures.0, size.u16_to_usize.ensures.0)
 
 rise : (size : tie.After-u16_to_usize invariant-loop decreases-loop)
-    → Rising (start size).args.cuts.now (first size).u16-to-usize2.result ((first size).u16-to-usize2.result + size.u16-to-usize3.result)
+    → Rising size.args.cuts.now size.u16_to_usize-first.result (size.u16_to_usize-first.result + size.u16_to_usize.result)
 rise size k low high =
-    let pre = (start size).requires in
-    let a = (start size).args in
-    row-rising-at a.row_starts.now a.sizes.now a.cuts.now _ pre.0.rising a.dimension pre.1.0.0 _ _ (first size).u16-to-usize2.ensures.0 size.u16-to-usize3.ensures.0 k low (omega arith)
+    let pre = size.requires in
+    let a = size.args in
+    row-rising-at a.row_starts.now a.sizes.now a.cuts.now _ pre.0.rising a.dimension pre.1.0.0 _ _ size.u16_to_usize-first.ensures.0 size.u16_to_usize.ensures.0 k low (omega arith)
 
-few-ranges : (size : tie.After-u16_to_usize invariant-loop decreases-loop) → (first size).before.before.u16_to_usize.result * 2 ≤ range_places
+few-ranges : (size : tie.After-u16_to_usize invariant-loop decreases-loop) → size.u16_to_usize-count.result * 2 ≤ range_places
 few-ranges size =
-    let pre = (start size).requires in
-    omega (arith, pre.0.count (start size).args.dimension pre.1.0.0, (first size).before.before.u16_to_usize.ensures.0)
+    let pre = size.requires in
+    omega (arith, pre.0.count size.args.dimension pre.1.0.0, size.u16_to_usize-count.ensures.0)
 
 pub find_row_spec : {M : Type 1} → statement M
 find_row_spec =
@@ -56,34 +49,34 @@ find_row_spec =
     (λ c. let pre = c.requires in omega (arith, pre.0.all-rows, pre.1.0.0))
     (λ c κs. search rules) (λ c. search rules) (λ c. search rules) (λ c κs. search rules)
     (λ c. search rules)
-    (λ c. (omega arith, refl, (start c).requires.1.1, λ r l. absurd (omega arith)))
-    (λ c. let entry = start c in omega (arith, entry.pre.1.0.1, entry.good))
-    (λ c. omega (arith, c.loop-range-test.true, (first c).before.before.u16_to_usize.ensures.1))
-    (λ c. omega (arith, c.loop-range-test.true, (first c).before.before.u16_to_usize.ensures.1, (start c).requires.1.0.1, (start c).well_formed))
+    (λ c. (omega arith, refl, c.requires.1.1, λ r l. absurd (omega arith)))
+    (λ c. omega (arith, c.requires.1.0.1, c.good))
+    (λ c. omega (arith, c.loop-range-test.true, c.u16_to_usize-count.ensures.1))
+    (λ c. omega (arith, c.loop-range-test.true, c.u16_to_usize-count.ensures.1, c.requires.1.0.1, c.well_formed))
     (λ c κs.
-    let pre = (start c).requires in
-    let few = few-ranges c in (
+    let pre = c.requires in
+    let few = few-ranges c.before.before.before in (
       (omega (arith, c.loop-range-test.true, few, pre.1.0.1, c.loop-range.invariant.1), omega (arith, c.loop-range-test.true, few, pre.0.all-ranges, pre.1.0.0)),
-      ((omega arith, omega (arith, row_in c), omega (arith, c.u16_to_usize.ensures.1)), rise c),
+      ((omega arith, omega (arith, row_in c.before.before.before), omega (arith, c.u16_to_usize.ensures.1)), rise c.before.before.before),
     ))
     (λ c.
-    omega (arith, c.loop-range-test.true, (first c).before.before.u16_to_usize.ensures.1))
+    omega (arith, c.loop-range-test.true, c.u16_to_usize-count.ensures.1))
     (λ c. search rules)
     (λ c.
     let inv = c.loop-range.invariant in
-    let pre = (start c).requires in
-    let a = (start c).args in
+    let pre = c.requires in
+    let a = c.args in
     let width = c.u16_to_usize.ensures.0 in
     let more =
     run_more a.sizes.now a.row_starts.now a.cuts.now a.ranges.now _ _ a.dimension c.loop-range.range
-    (first c).u16-to-usize2.result ((first c).u16-to-usize2.result + c.u16_to_usize.result) _
-    (first c).u16-to-usize2.ensures.0 (omega (arith, width)) refl (rise c) c.find_run.ensures a.range_counts.now
+    c.u16_to_usize-first.result (c.u16_to_usize-first.result + c.u16_to_usize.result) _
+    c.u16_to_usize-first.ensures.0 (omega (arith, width)) refl (rise c.before.before.before.before.before.before) c.find_run.ensures a.range_counts.now
     (λ j l. pre.0.count j (omega (arith, pre.1.0.0))) inv.2 inv.3 in
-    (omega (arith, c.loop-range-test.true), c.find_run.auto.0 ∙ inv.1, more.0, more.1))
+    (omega (arith, c.loop-range-test.true), c.find_run.auto.runs ∙ inv.1, more.0, more.1))
     (λ c. c.loop-range.invariant.1)
     (λ c.
     let inv = c.loop-range.invariant in
-    let a = (start c).args in
-    let all : c.loop-range.range ≡ get_or a.range_counts.now a.dimension 0 = omega (arith, c.loop-range-test.false, inv.0, (first c).before.before.u16_to_usize.ensures.0) in
+    let a = c.args in
+    let all : c.loop-range.range ≡ get_or a.range_counts.now a.dimension 0 = omega (arith, c.loop-range-test.false, inv.0, c.u16_to_usize-count.ensures.0) in
     below_more (λ i. RowRuns a.sizes.now a.row_starts.now a.cuts.now a.ranges.now c.loop-range.runs i (get_or a.range_counts.now i 0)) a.dimension
     inv.2 (rw (← all) inv.3)))

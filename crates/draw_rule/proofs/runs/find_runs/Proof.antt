@@ -28,6 +28,6 @@ find_runs_spec =
     (λ c.
     let found = c.find_row in
     let inv = c.loop-dimension.invariant in
-    (omega (arith, c.loop-dimension-test.true), found.auto.0 ∙ inv.1, found.ensures))
+    (omega (arith, c.loop-dimension-test.true), found.auto.runs ∙ inv.1, found.ensures))
     (λ c. c.loop-dimension.invariant.1)
     (λ c. let inv = c.loop-dimension.invariant in let e : c.loop-dimension.dimension ≡ 4 = omega (arith, c.loop-dimension-test.false, inv.0) in rw e at inv.2))

@@ -13,9 +13,6 @@ invariant-loop cells₀ lists₀ memo₀ sizes counts runs rule replaces before 
 abbrev decreases-loop : tie.decreases-loop-node
 decreases-loop cells₀ lists₀ memo₀ sizes counts runs rule replaces before first end count drawn₀ node₀ range₀ cells lists memo drawn node range = (end - node) * 65536 + (count - range)
 
-abbrev start : tie.After-u16_to_usize-count invariant-loop decreases-loop → tie.Start invariant-loop decreases-loop
-start count = count.before.before.before.before.before.before.before.before
-
 pub draw_weekdays_spec : {M : Type 1} → statement M
 draw_weekdays_spec =
     tie.close
@@ -23,15 +20,15 @@ draw_weekdays_spec =
     invariant-loop decreases-loop
     (λ c. let pre = c.requires in omega (arith, pre.1.0.all-counts))
     (λ c κs. search rules)
-    (λ c. let pre = (start c).requires in level-start pre.0 pre.1.1.1)
+    (λ c. let pre = c.requires in level-start pre.0 pre.1.1.1)
     (λ c κs.
     let level = c.loop-node.invariant in
-    let pre = (start c).requires in
+    let pre = c.requires in
     let there = run-there level c.loop-node-test.true c.if-range-count.true pre.1.0 (omega arith) c.u16_to_usize-count.ensures.0 pre.1.1.0 in
-    ((there.0, there.1), omega (arith, there.2, (start c).well_formed)))
+    ((there.0, there.1), omega (arith, there.2, c.well_formed)))
     (λ c κs.
     let level = c.loop-node.invariant in
-    let pre = (start c).requires in
+    let pre = c.requires in
     let nodes = run-nodes level c.loop-node-test.true c.if-range-count.true pre.1.0 (omega arith) c.u16_to_usize-count.ensures.0 pre.1.1.0 c.run_below-run.ensures.0 c.run_below-run.ensures.1 in
     (level.walked.making, (pre.1.0, nodes)))
     (λ c.
@@ -39,9 +36,9 @@ draw_weekdays_spec =
     (λ c. omega (arith, c.if-range-count.true))
     (λ c.
     let kept = c.draw_weeks-drawn.auto in
-    level-run c.loop-node.invariant c.loop-node-test.true c.if-range-count.true (start c).pre.0 kept.0 kept.1.0 kept.1.1.0 c.run_below-run.ensures.0
+    level-run c.loop-node.invariant c.loop-node-test.true c.if-range-count.true c.requires.0 kept.0 kept.1.0 kept.1.1.0 c.run_below-run.ensures.0
     c.run_below-run.ensures.1 c.draw_weeks-drawn.ensures)
-    (λ c. omega (arith, c.loop-node-test.true, (start c).good))
+    (λ c. omega (arith, c.loop-node-test.true, c.good))
     (λ c. omega (arith, c.loop-node-test.true, c.u16_to_usize-count.ensures.1))
     (λ c. level-node c.loop-node.invariant c.loop-node-test.true c.if-range-count.false c.u16_to_usize-count.ensures.0)
     (λ c. c.loop-node.invariant.cells-kept) (λ c. c.loop-node.invariant.lists-kept) (λ c. c.loop-node.invariant.memo-kept)

@@ -7,7 +7,7 @@ use Rattle.normalize.proofs.written.write_paved.Tie as tie
 
 returns : tie.Need-returns-in-Refused
 returns c =
-    let given = c.pre.1 in
+    let given = c.requires.1 in
     list-refused _ c.args.sheet.now c.args.out.now _ _ _ given.read given.apart given.few-boxes _ _
     (paved-refused _ _ _ _ _ _ _ given.paves _ _ c.in-Refused.is) c.fold_refused.ensures
 
@@ -18,7 +18,7 @@ emit-requires c κs =
 
 returns-2 : tie.Need-returns-in-Pages
 returns-2 c =
-    let given = c.pre.1 in
+    let given = c.requires.1 in
     let pages = paved-pages _ _ _ _ _ _ _ given.paves _ c.in-Pages.is in
     rules-folded _ c.args.sheet.now c.args.out.now _ _ _ given.read given.apart given.few-boxes _ pages.0
     (c.emit.ensures _ (pages.1 _ given.commented) given.leaving)

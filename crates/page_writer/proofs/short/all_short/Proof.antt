@@ -27,16 +27,16 @@ module _ (c : tie.In-loop invariant-loop decreases-loop) where
       PageReady given.0 given.1 given.2 given.3 entry.args.lists.now entry.args.pages.now day_room c.before.loop.here
   here-ready = let given = entry.pre in next-ready c.before.loop.invariant c.loop-test.true given.4
 
-named : (c : tie.After-u16_to_usize-place invariant-loop decreases-loop) → c.u16_to_usize.result - 1 ≡ get_or (entry c.before.before).args.pages.now c.before.before.before.loop.here 0 - 1
-named c = ap (◌- 1) c.u16_to_usize.ensures.0
+named : (c : tie.After-u16_to_usize-place invariant-loop decreases-loop) → c.u16_to_usize-place.result - 1 ≡ get_or (entry c).args.pages.now c.loop-pages_left.here 0 - 1
+named c = ap (◌- 1) c.u16_to_usize-place.ensures.0
 
-inside : (c : tie.After-u16_to_usize-place invariant-loop decreases-loop) → (c.u16_to_usize.result - 1) * list_places + list_places ≤ length (entry c.before.before).args.lists.now
-inside c = omega (arith, named c, (here-ready c.before.before).ready.there)
+inside : (c : tie.After-u16_to_usize-place invariant-loop decreases-loop) → (c.u16_to_usize-place.result - 1) * list_places + list_places ≤ length (entry c).args.lists.now
+inside c = omega (arith, named c, (here-ready c).ready.there)
 
 loop-again : tie.Need-loop-pages_left-preserved invariant-loop decreases-loop
 loop-again c =
     one-passed c.loop-pages_left.invariant c.loop-pages_left-test.true
-    (rw (sym (named c)) (omega (arith, c.if-lists-place-gt4.false))) _ c.page_size-here.ensures
+    (rw (sym (named c.before.before.before)) (omega (arith, c.if-lists-place-gt4.false))) _ c.page_size-here.ensures
 
 pub all_short_spec : {M : Type 1} → statement M
 all_short_spec =
@@ -48,7 +48,7 @@ all_short_spec =
     (λ c. omega (arith, (here-ready c).numbered, c.u16_to_usize-place.ensures.0))
     (λ c. omega (arith, inside c, (entry c).good))
     (λ c. omega (arith, inside c, (entry c).good))
-    (λ c. omega (arith, inside c))
+    (λ c. omega (arith, inside c.before))
     (λ c e. absurd (true≢false (sym e)))
     (λ c κs.
     omega (arith, (here-ready c).inside, size_low (entry c).args.pages.now c.loop-pages_left.here))

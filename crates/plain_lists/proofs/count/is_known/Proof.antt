@@ -28,7 +28,7 @@ abbrev start : tie.In-loop-kind invariant-loop decreases-loop → tie.Start inva
 start c = c.before.before.before.before
 
 compared : (c : tie.After-same_list invariant-loop decreases-loop) → let a = (start (turn c)).args in
-    c.same_list.result ≡ same_list eqb (list_of a.lists.now (get_or a.kinds.now (turn c).before.loop.kind 0)) (list_of a.lists.now a.box_index)
+    c.same_list.result ≡ same_list eqb (list_of a.lists.now (get_or a.kinds.now (turn c).before.loop-kind.kind 0)) (list_of a.lists.now a.box_index)
 compared c =
     let a = (start (turn c)).args in
     c.same_list.ensures ∙ ap (λ n. same_list eqb (list_of a.lists.now n) (list_of a.lists.now a.box_index)) c.before.u16_to_usize.ensures.0

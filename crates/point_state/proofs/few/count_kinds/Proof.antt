@@ -18,31 +18,15 @@ invariant-loop marks₀ row-starts cuts range-counts ranges rules dimension size
 abbrev decreases-loop : tie.decreases-loop-column
 decreases-loop marks₀ row-starts cuts range-counts ranges rules dimension size first kinds₀ column₀ marks kinds column = size - column
 
--- from the loop's turn back to where the row's first place is known, and to where the function begins
-abbrev placed : tie.In-loop-column invariant-loop decreases-loop → tie.After-u16_to_usize-first invariant-loop decreases-loop
-placed c = c.before.before
-
-abbrev start : tie.After-u16_to_usize-first invariant-loop decreases-loop → tie.Start invariant-loop decreases-loop
-start c = c.before.before.before.before.before.before.before
-
--- and to the turn from where a column's marks, and whether they were seen, are known
-abbrev marked : tie.After-marks_of invariant-loop decreases-loop → tie.In-loop-column invariant-loop decreases-loop
-marked c = c.before.before
-
-abbrev seen : tie.After-seen_before invariant-loop decreases-loop → tie.After-marks_of invariant-loop decreases-loop
-seen c = c.before.before
-
 -- the column's marks are put into the buffer
 abbrev after : tie.After-marks_of invariant-loop decreases-loop → List ℕ
-after c = set (marked c).before.loop.marks (marked c).before.loop.column c.marks_of.result
+after c = set c.loop-column.marks c.loop-column.column c.marks_of.result
 
-marks-put : (c : tie.After-marks_of invariant-loop decreases-loop) → let turn = marked c in let a = (start (placed turn)).args in
+marks-put : (c : tie.After-marks_of invariant-loop decreases-loop) → let turn = c in let a = turn.before.before.before.before.before.before.before.before.before.args in
     Marked a.range_counts.now a.ranges.now a.rules a.row_starts.now a.cuts.now a.dimension (after c) (turn.before.loop.column + 1)
 marks-put c =
-    let turn = marked c in
-    let row = placed turn in
-    let inv = turn.before.loop.inv in
-    marked_more _ _ _ _ _ _ turn.before.loop.marks turn.before.loop.column _ _ row.u16_to_usize.ensures.0 c.marks_of.ensures (omega (arith, turn.loop-test.taken, inv.2, (start row).pre.1.2)) inv.3
+    let inv = c.loop-column.invariant in
+    marked_more _ _ _ _ _ _ c.loop-column.marks c.loop-column.column _ _ c.u16_to_usize-first.ensures.0 c.marks_of.ensures (omega (arith, c.loop-column-test.true, inv.2, c.requires.1.2)) inv.3
 
 pub count_kinds_spec : {M : Type 1} → statement M
 count_kinds_spec =
@@ -51,29 +35,26 @@ count_kinds_spec =
     invariant-loop decreases-loop
     (λ c. search rules) (λ c. search rules) (λ c κs. search rules)
     (λ c. (omega arith, omega arith, omega arith, (λ x l. absurd (omega arith)), kinds-none _ _ _ _ _ _))
-    (λ c. let row = placed c in omega (arith, c.loop-column-test.true, row.u16_to_usize.ensures, (start row).pre.1.1, (start row).good))
-    (λ c. let row = placed c in omega (arith, c.loop-column-test.true, row.u16_to_usize.ensures, (start row).pre.1.1, (start row).good))
-    (λ c. let row = placed c in omega (arith, c.loop-column-test.true, row.u16_to_usize.ensures, (start row).pre.1.1))
-    (λ c κs. (start (placed c)).pre.0)
-    (λ c. let turn = marked c in let entry = start (placed turn) in omega (arith, turn.loop-test.taken, turn.before.loop.inv.2, entry.pre.1.2, entry.good))
-    (λ c. let turn = marked c in let entry = start (placed turn) in omega (arith, turn.loop-test.taken, turn.before.loop.inv.2, entry.pre.1.2))
-    (λ c κs. let turn = marked c in simp length-set (omega (arith, turn.loop-test.taken, turn.before.loop.inv.2, (start (placed turn)).pre.1.2)))
+    (λ c. omega (arith, c.loop-column-test.true, c.u16_to_usize-first.ensures, c.requires.1.1, c.good))
+    (λ c. omega (arith, c.loop-column-test.true, c.u16_to_usize-first.ensures, c.requires.1.1, c.good))
+    (λ c. omega (arith, c.loop-column-test.true, c.u16_to_usize-first.ensures, c.requires.1.1))
+    (λ c κs. c.requires.0)
+    (λ c. omega (arith, c.loop-column-test.true, c.loop-column.invariant.2, c.requires.1.2, c.good))
+    (λ c. omega (arith, c.loop-column-test.true, c.loop-column.invariant.2, c.requires.1.2))
+    (λ c κs. simp length-set (omega (arith, c.loop-column-test.true, c.loop-column.invariant.2, c.requires.1.2)))
     (λ c. search rules) (λ c. search rules)
     (λ c.
-    let put = seen c in
-    let turn = marked put in
-    let inv = turn.before.loop.inv in
+    let inv = c.loop-column.invariant in
     let like = c.seen_before.ensures c.if-seen_before.true in (
-      omega (arith, turn.loop-test.taken),
+      omega (arith, c.loop-column-test.true),
       omega (arith, inv.1),
       simp length-set inv.2,
-      marks-put put,
-      kinds-like _ _ _ _ _ _ _ _ inv.4 (after put) (marks-put put) like.0 like.1 like.2,
+      marks-put c.before.before,
+      kinds-like _ _ _ _ _ _ _ _ inv.4 (after c.before.before) (marks-put c.before.before) like.0 like.1 like.2,
     ))
     (λ c. search rules) (λ c. search rules) (λ c. search rules)
     (λ c.
-    let turn = marked (seen c) in
-    let inv = turn.before.loop.inv in
-    (omega (arith, turn.loop-test.taken), omega (arith, inv.1), simp length-set inv.2, marks-put (seen c), kinds-new _ _ _ _ _ _ _ _ inv.4))
+    let inv = c.loop-column.invariant in
+    (omega (arith, c.loop-column-test.true), omega (arith, inv.1), simp length-set inv.2, marks-put c.before.before, kinds-new _ _ _ _ _ _ _ _ inv.4))
     (λ c. search rules)
     (λ c. let inv = c.loop-column.invariant in (omega (arith, inv.0, inv.1), kinds-passed _ _ _ _ _ _ _ _ _ (omega (arith, c.loop-column-test.false)) inv.4)))

@@ -14,18 +14,14 @@ invariant-loop range-counts ranges rules dimension value marks₀ rule₀ marks 
 abbrev decreases-loop : tie.decreases-loop-rule
 decreases-loop range-counts ranges rules dimension value marks₀ rule₀ marks rule = rules - rule
 
--- from the loop's turn back to where the function begins
-abbrev start : tie.In-loop-rule invariant-loop decreases-loop → tie.Start invariant-loop decreases-loop
-start c = c.before.before.before.before
-
 -- the marks have room for one more
-fits : (c : tie.In-loop-rule invariant-loop decreases-loop) → c.before.loop.marks < 2 ^ 32
+fits : (c : tie.In-loop-rule invariant-loop decreases-loop) → c.loop-rule.marks < 2 ^ 32
 fits c =
-    let a = (start c).args in
+    let a = c.args in
     omega (
       arith,
-      c.before.loop.invariant.1,
-      marks-fit a.range_counts.now a.ranges.now a.dimension c.before.loop.rule a.value (omega (arith, c.loop-test.true, (start c).requires.2)),
+      c.loop-rule.invariant.1,
+      marks-fit a.range_counts.now a.ranges.now a.dimension c.loop-rule.rule a.value (omega (arith, c.loop-rule-test.true, c.requires.2)),
     )
 
 pub marks_of_spec : {M : Type 1} → statement M
@@ -35,9 +31,9 @@ marks_of_spec =
     invariant-loop decreases-loop
     (λ c. (omega arith, marks-start _ _ _ _))
     (λ c. search (rules, fits c))
-    (λ c κs. let pre = (start c).requires in (pre.0 _ c.loop-rule-test.true, pre.1))
+    (λ c κs. let pre = c.requires in (pre.0 _ c.loop-rule-test.true, pre.1))
     (λ c κs. search rules)
-    (λ c. search (rules, fits c, c.bit.ensures.1))
+    (λ c. search (rules, fits c.before.before, c.bit.ensures.1))
     (λ c. search rules) (λ c. search rules)
     (λ c.
     (

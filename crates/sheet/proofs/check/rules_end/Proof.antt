@@ -41,12 +41,10 @@ loop-holds c =
     )
 
 -- there is a place for this one
-placed : (c : tie.In-loop-i invariant-loop decreases-loop) → let old = c.before.loop in old.i < length old.begins
+placed : (c : tie.In-loop-i invariant-loop decreases-loop) → let old = c.loop-i in old.i < length old.begins
 placed c =
-    let loop = c.before in
-    let old = loop.loop in
-    let entry = loop.before.before.before in
-    omega (arith, entry.requires.3 old.i (omega (arith, entry.requires.2)) (omega (arith, old.invariant.4, old.invariant.5)), old.invariant.6)
+    let old = c.loop-i in
+    omega (arith, c.requires.3 old.i (omega (arith, c.requires.2)) (omega (arith, old.invariant.4, old.invariant.5)), old.invariant.6)
 
 returns : tie.Need-returns-in-Refused invariant-loop decreases-loop
 returns c =
