@@ -54,7 +54,7 @@ loop-again c =
     let swept = c.sweep_class-place.ensures in
     let kept = c.sweep_class-place.auto in (
       classes-on _ _ _ _ _ _ _ _ c.loop-class.invariant.0 c.loop-class-test.true (omega (arith, few)) _ _ _ (swept.0, swept.1, swept.2) swept.3
-          (kept.0, kept.1.1.1.1.0),
+          (kept.out, kept.interval_states),
       swept.4,
     )
 

@@ -73,7 +73,7 @@ loop-again-2 c =
     let taken = c.take_state-place.ensures in
     let kept = c.take_state-place.auto in (
       (omega (arith, more), omega (arith, more, inv.0, taken.3, pre.0)),
-      (kept.0 ∙ inv.1.0, kept.1.1.1.1.0 ∙ inv.1.1),
+      (kept.out ∙ inv.1.0, kept.interval_states ∙ inv.1.1),
       sweeping-takes _ _ _ _ _ _ _ _ _ _ inv.2 more _ c.state_class.ensures c.if-state_class-class.false _ _ (taken.0, taken.1) _ taken.2,
       chained-clear _ _ _ _ _ _ (omega (arith, more, inv.1, pre.1.0)) _ taken.2 inv.3,
     )

@@ -16,7 +16,7 @@ link-requires c κs = search rules
 sweep-chained-requires : tie.Need-sweep_chained-requires
 sweep-chained-requires c κs =
     let pre = c.requires in
-    ((pre.0.0, omega (arith, c.link.auto.0, pre.0.1), pre.0.2, pre.0.3), (pre.1, c.link.ensures))
+    ((pre.0.0, omega (arith, c.link.auto.chain, pre.0.1), pre.0.2, pre.0.3), (pre.1, c.link.ensures))
 
 same_length : tie.Need-shape_of-out
 same_length c = search rules

@@ -30,7 +30,7 @@ same-length-2 c = search rules
 
 returns : tie.Need-returns
 returns c =
-    let taken = c.Take-runs.ensures in (
+    let taken = c.take_runs-next.ensures in (
       head-before _ _ _ _ _ _ _ taken.0 (omega (arith, taken.1)) c.write_head.ensures,
       taken.1,
       taken.2,
