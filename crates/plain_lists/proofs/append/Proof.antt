@@ -1,7 +1,6 @@
 -- `plain_lists::append` meets its contract.
 use mathlib.Core.Path.{◌≡◌, sym, ◌∙◌}
 use mathlib.Core.Bool.{true}
-use mathlib.Core.Logic.{⊎_elim}
 use Prim.Native.Nat.{◌<◌}
 use native.Mathlib.Omega.{arith}
 use lib.Dec.{ltb}
@@ -12,14 +11,17 @@ use Rattle.tables.specs.Lists.{list_of}
 use Rattle.tables.specs.Plain.{base}
 use Rattle.plain_lists.proofs.Appending.{based-none, based-all, appended-full, appended-more}
 use Rattle.plain_lists.proofs.append.Statement.{statement}
+use Rattle.plain_lists.proofs.append.Lts.{then-replaces, else-replaces}
 use Rattle.plain_lists.proofs.append.Tie as tie
 
 -- the list at whose end the rule is put is as long as the count says
 based : (c : tie.Joined-replaces) → let a = c.args in c.if-replaces.count ≡ length (base a.replaces (list_of a.lists.now a.box_index))
 based c =
     let a = c.args in
-    ⊎_elim (λ w. based-none a.lists.now a.box_index a.replaces c.if-replaces.count w.0.taken w.1)
-    (λ w. based-all a.lists.now a.box_index a.replaces c.if-replaces.count w.0.left w.2) c.if-replaces.branch
+    elim c.if-replaces.branch [
+      then-replaces w ↦ based-none a.lists.now a.box_index a.replaces c.if-replaces.count w.if-replaces.true w.count-is
+      | else-replaces w ↦ based-all a.lists.now a.box_index a.replaces c.if-replaces.count w.if-replaces.false w.count-is
+    ]
 
 -- and has fewer rules than it may have
 allowed : (c : tie.Else-not-entry_allowed) → ltb c.if-replaces.count 32 ≡ true

@@ -18,61 +18,42 @@ invariant-loop lists₀ rows sizes cuts replacing counts ranges rules boxes rule
 abbrev decreases-loop : tie.decreases-loop-rule
 decreases-loop lists₀ rows sizes cuts replacing counts ranges rules boxes rule₀ lists rule = rules - rule
 
--- from where the lists were counted back to where the rule was drawn, to the loop's turn, to where the boxes were counted, and to where the function begins
-abbrev drawn : tie.After-too_many invariant-loop decreases-loop → tie.After-draw_rule invariant-loop decreases-loop
-drawn c = c.before.before.before.before.before
-
-abbrev turn : tie.After-draw_rule invariant-loop decreases-loop → tie.In-loop-rule invariant-loop decreases-loop
-turn c = c.before.before.before
-
-abbrev sized : tie.At-loop-rule invariant-loop decreases-loop → tie.After-size_of-boxes invariant-loop decreases-loop
-sized c = c.before
-
-abbrev start : tie.After-size_of-boxes invariant-loop decreases-loop → tie.Start invariant-loop decreases-loop
-start c = c.before.before.before.before.before.before.before.before
-
 draw-rule-requires : tie.Need-draw_rule-requires invariant-loop decreases-loop
 draw-rule-requires c κs =
-    let t = (start (sized c)).pre.0.1 in
+    let t = c.requires.0.1 in
     let here = c.loop-rule-test.true in
     let there = rule-there _ _ _ _ _ _ _ _ t _ here in
-    ((c.loop-rule.invariant.2, there.0), going-coverable _ _ _ _ _ _ _ _ _ here _ (sized c).type_size.ensures c.loop-rule.invariant.2 _ t)
+    ((c.loop-rule.invariant.2, there.0), going-coverable _ _ _ _ _ _ _ _ _ here _ c.size_of-boxes.ensures c.loop-rule.invariant.2 _ t)
 
 -- 6
 returns : tie.Need-returns-then-not-draw_rule invariant-loop decreases-loop
 returns c =
-    let loop = (turn c).before in
-    let inv = loop.loop.inv in
-    going-long _ _ _ _ _ _ _ _ _ (turn c).loop-test.true _ (sized loop).type_size.ensures inv.2 inv.3 _ _ c.draw_rule.ensures (not-true _ c.if-not-draw_rule.true-raw)
+    let inv = c.loop-rule.invariant in
+    going-long _ _ _ _ _ _ _ _ _ c.loop-rule-test.true _ c.size_of-boxes.ensures inv.2 inv.3 _ _ c.draw_rule.ensures (not-true _ c.if-not-draw_rule.true-raw)
 
 too-many-requires : tie.Need-too_many-requires invariant-loop decreases-loop
 too-many-requires c κs =
-    let loop = (turn c).before in
-    let inv = loop.loop.inv in
-    have-next _ _ _ _ _ _ _ _ _ (turn c).loop-test.true _ (sized loop).type_size.ensures inv.2 inv.3 _ _ c.draw_rule.ensures (not-false _ c.if-not-draw_rule.false-raw)
-    c.draw_rule.auto.0
+    let inv = c.loop-rule.invariant in
+    have-next _ _ _ _ _ _ _ _ _ c.loop-rule-test.true _ c.size_of-boxes.ensures inv.2 inv.3 _ _ c.draw_rule.ensures (not-false _ c.if-not-draw_rule.false-raw)
+    c.draw_rule.auto.lists
 
 -- 14
 returns-2 : tie.Need-returns-then-too_many invariant-loop decreases-loop
 returns-2 c =
-    let draws = drawn c in
-    let loop = (turn draws).before in
-    let inv = loop.loop.inv in
-    going-many _ _ _ _ _ _ _ _ _ (turn draws).loop-test.taken _ (sized loop).type_size.ensures inv.2 inv.3 _ _ draws.draw_rule.ensures
+    let inv = c.loop-rule.invariant in
+    going-many _ _ _ _ _ _ _ _ _ c.loop-rule-test.true _ c.size_of-boxes.ensures inv.2 inv.3 _ _ c.draw_rule.ensures
     (not-false _ c.if-not-draw_rule.false-raw) _ c.too_many.ensures c.if-too_many.true
 
 loop-again : tie.Need-loop-rule-preserved invariant-loop decreases-loop
 loop-again c =
-    let draws = drawn c in
-    let loop = (turn draws).before in
-    let inv = loop.loop.inv in
-    let here = (turn draws).loop-test.taken in
-    let boxes = (sized loop).type_size.ensures in
+    let inv = c.loop-rule.invariant in
+    let here = c.loop-rule-test.true in
+    let boxes = c.size_of-boxes.ensures in
     let fits = not-false _ c.if-not-draw_rule.false-raw in (
       omega (arith, here),
-      draws.draw_rule.kept.0 ∙ inv.1,
-      have-next _ _ _ _ _ _ _ _ _ here _ boxes inv.2 inv.3 _ _ draws.draw_rule.ensures fits draws.draw_rule.kept.0,
-      going_next _ _ _ _ _ _ _ _ _ here _ boxes inv.2 inv.3 _ _ draws.draw_rule.ensures fits _ c.too_many.ensures c.if-too_many.false,
+      c.draw_rule.auto.lists ∙ inv.1,
+      have-next _ _ _ _ _ _ _ _ _ here _ boxes inv.2 inv.3 _ _ c.draw_rule.ensures fits c.draw_rule.auto.lists,
+      going_next _ _ _ _ _ _ _ _ _ here _ boxes inv.2 inv.3 _ _ c.draw_rule.ensures fits _ c.too_many.ensures c.if-too_many.false,
     )
 
 pub list_rules_spec : {M : Type 1} → statement M
@@ -85,22 +66,21 @@ list_rules_spec =
     let cut = pre.0.1.0.2 in
     (omega (arith, cut.four), cut.filled, omega (arith, pre.1.0)))
     (λ c.
-    let pre = (start c).requires in
+    let pre = c.requires in
     (omega arith, refl, have-none _ _ pre.1.2 _ c.size_of-boxes.ensures pre.1.0 pre.1.1, going_start _ _ pre.1.2 _ _ _ _ _ _))
     (λ c.
-    let t = (start (sized c)).pre.0.1 in
+    let t = c.requires.0.1 in
     omega (arith, c.loop-rule-test.true, t.0.0.many, t.0.1.all-replacing))
     draw-rule-requires
-    (λ c. c.draw_rule.auto.0 ∙ (turn c).before.loop.invariant.1)
+    (λ c. c.draw_rule.auto.lists ∙ c.loop-rule.invariant.1)
     returns too-many-requires
-    (λ c. let draws = drawn c in draws.draw_rule.kept.0 ∙ (turn draws).before.loop.inv.1)
+    (λ c. c.draw_rule.auto.lists ∙ c.loop-rule.invariant.1)
     returns-2
     (λ c.
-    let test = turn (drawn c) in
-    omega (arith, test.loop-test.taken, (start (sized test.before)).pre.0.1.0.0.few-rules))
-    (λ c. omega (arith, (turn (drawn c)).loop-test.taken))
+    omega (arith, c.loop-rule-test.true, c.requires.0.1.0.0.few-rules))
+    (λ c. omega (arith, c.loop-rule-test.true))
     loop-again
     (λ c. c.loop-rule.invariant.1)
     (λ c.
     let inv = c.loop-rule.invariant in
-    going_end _ _ _ _ _ _ _ _ _ _ (sized c).type_size.ensures inv.2 (omega (arith, inv.1, (start (sized c)).pre.1.1)) inv.3 c.loop-rule-test.false inv.0))
+    going_end _ _ _ _ _ _ _ _ _ _ c.size_of-boxes.ensures inv.2 (omega (arith, inv.1, c.requires.1.1)) inv.3 c.loop-rule-test.false inv.0))

@@ -16,16 +16,6 @@ invariant-loop lists kinds₀ boxes count₀ box₀ kinds count box = (box ≤ b
 abbrev decreases-loop : tie.decreases-loop-box_index
 decreases-loop lists kinds₀ boxes count₀ box₀ kinds count box = boxes - box
 
--- from where the kinds are counted back to where a box was noted, to the loop's turn, and to where the function begins
-abbrev noted : tie.After-lists_over invariant-loop decreases-loop → tie.After-note-count invariant-loop decreases-loop
-noted c = c.before.before.before
-
-abbrev turn : tie.After-note-count invariant-loop decreases-loop → tie.In-loop-box_index invariant-loop decreases-loop
-turn c = c.before.before
-
-abbrev start : tie.In-loop-box_index invariant-loop decreases-loop → tie.Start invariant-loop decreases-loop
-start c = c.before.before.before.before
-
 pub counts_over_spec : {M : Type 1} → statement M
 counts_over_spec =
     tie.close
@@ -34,20 +24,19 @@ counts_over_spec =
     (λ c. (omega arith, refl, omega arith, kinds-none _ _))
     (λ c κs.
     let inv = c.loop-box_index.invariant in
-    let pre = (start c).requires in
+    let pre = c.requires in
     (have-first _ _ _ (omega (arith, c.loop-box_index-test.true)) pre.0, omega (arith, inv.1, inv.2, pre.1), inv.3))
     (λ c κs. search rules)
-    (λ c. let notes = noted c in notes.note.kept.1.0 ∙ (turn notes).before.loop.inv.1)
+    (λ c. c.note-count.auto.kinds ∙ c.loop-box_index.invariant.1)
     (λ c.
-    let notes = noted c in
-    many-kinds _ _ _ _ _ notes.note.ensures.1 (omega (arith, (turn notes).loop-test.taken)) (sym c.lists_over.ensures ∙ c.if-lists_over.true))
+    many-kinds _ _ _ _ _ c.note-count.ensures.1 (omega (arith, c.loop-box_index-test.true)) (sym c.lists_over.ensures ∙ c.if-lists_over.true))
     (λ c. search rules) (λ c. search rules)
     (λ c.
-    let notes = noted c in (
-      omega (arith, (turn notes).loop-test.taken),
-      notes.note.kept.1.0 ∙ (turn notes).before.loop.inv.1,
-      ltb-false 512 notes.note.result (sym c.lists_over.ensures ∙ c.if-lists_over.false),
-      notes.note.ensures.1,
+    (
+      omega (arith, c.loop-box_index-test.true),
+      c.note-count.auto.kinds ∙ c.loop-box_index.invariant.1,
+      ltb-false 512 c.note-count.result (sym c.lists_over.ensures ∙ c.if-lists_over.false),
+      c.note-count.ensures.1,
     ))
     (λ c. c.loop-box_index.invariant.1)
     (λ c. let inv = c.loop-box_index.invariant in few-kinds _ _ _ _ _ inv.3 (omega (arith, inv.0, c.loop-box_index-test.false)) inv.2))

@@ -20,18 +20,11 @@ invariant-loop lists kinds count box kind₀ kind = (kind ≤ count) × ((k : �
 abbrev decreases-loop : tie.decreases-loop-kind
 decreases-loop lists kinds count box kind₀ kind = count - kind
 
--- from where a kind's list was compared back to the loop's turn
-abbrev turn : tie.After-same_list invariant-loop decreases-loop → tie.In-loop-kind invariant-loop decreases-loop
-turn c = c.before.before.before
-
-abbrev start : tie.In-loop-kind invariant-loop decreases-loop → tie.Start invariant-loop decreases-loop
-start c = c.before.before.before.before
-
-compared : (c : tie.After-same_list invariant-loop decreases-loop) → let a = (start (turn c)).args in
-    c.same_list.result ≡ same_list eqb (list_of a.lists.now (get_or a.kinds.now (turn c).before.loop-kind.kind 0)) (list_of a.lists.now a.box_index)
+compared : (c : tie.After-same_list invariant-loop decreases-loop) → let a = c.args in
+    c.same_list.result ≡ same_list eqb (list_of a.lists.now (get_or a.kinds.now c.loop-kind.kind 0)) (list_of a.lists.now a.box_index)
 compared c =
-    let a = (start (turn c)).args in
-    c.same_list.ensures ∙ ap (λ n. same_list eqb (list_of a.lists.now n) (list_of a.lists.now a.box_index)) c.before.u16_to_usize.ensures.0
+    let a = c.args in
+    c.same_list.ensures ∙ ap (λ n. same_list eqb (list_of a.lists.now n) (list_of a.lists.now a.box_index)) c.u16_to_usize.ensures.0
 
 pub is_known_spec : {M : Type 1} → statement M
 is_known_spec =
@@ -41,19 +34,19 @@ is_known_spec =
     (λ c. (omega arith, λ k l. absurd (omega arith)))
     (λ c. search rules) (λ c. search rules) (λ c κs. search rules)
     (λ c κs.
-    let pre = (start c).requires in
-    (subst (HasList (start c).args.lists.now) (sym c.u16_to_usize.ensures.0) (pre.2 _ c.loop-kind-test.true), pre.0))
+    let pre = c.requires in
+    (subst (HasList c.args.lists.now) (sym c.u16_to_usize.ensures.0) (pre.2 _ c.loop-kind-test.true), pre.0))
     (λ c.
-    let a = (start (turn c)).args in
-    sym (from-any (λ k. same_list eqb (list_of a.lists.now (get_or a.kinds.now k 0)) (list_of a.lists.now a.box_index)) 0 a.count (turn c).before.loop.kind
-    (omega arith) (omega (arith, (turn c).loop-test.taken)) (sym (compared c) ∙ c.if-same_list.true)))
+    let a = c.args in
+    sym (from-any (λ k. same_list eqb (list_of a.lists.now (get_or a.kinds.now k 0)) (list_of a.lists.now a.box_index)) 0 a.count c.loop-kind.kind
+    (omega arith) (omega (arith, c.loop-kind-test.true)) (sym (compared c.before) ∙ c.if-same_list.true)))
     (λ c. search rules) (λ c. search rules)
     (λ c.
-    let a = (start (turn c)).args in
-    let loop = (turn c).before in (
-      omega (arith, (turn c).loop-test.taken),
-      below_more (λ k. same_list eqb (list_of a.lists.now (get_or a.kinds.now k 0)) (list_of a.lists.now a.box_index) ≡ false) loop.loop.kind loop.loop.inv.1
-          (sym (compared c) ∙ c.if-same_list.false),
+    let a = c.args in
+    (
+      omega (arith, c.loop-kind-test.true),
+      below_more (λ k. same_list eqb (list_of a.lists.now (get_or a.kinds.now k 0)) (list_of a.lists.now a.box_index) ≡ false) c.loop-kind.kind c.loop-kind.invariant.1
+          (sym (compared c.before) ∙ c.if-same_list.false),
     ))
     (λ c.
     let a = c.args in

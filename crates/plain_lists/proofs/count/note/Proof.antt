@@ -17,8 +17,8 @@ note_spec =
     let pre = c.requires in
     (pre.0.each c.args.box_index (omega arith), omega (arith, pre.1), λ k l. pre.0.each _ (omega (arith, pre.2.names k l))))
     (λ c. search rules)
-    (λ c. (omega arith, kinds-known _ _ _ _ c.requires.2 _ c.is_Known.ensures c.if-is_known.true))
-    (λ c. omega (arith, c.pre.0.few-boxes))
+    (λ c. (omega arith, kinds-known _ _ _ _ c.requires.2 _ c.is_known.ensures c.if-is_known.true))
+    (λ c. omega (arith, c.requires.0.few-boxes))
     (λ c. search rules) (λ c. search rules) (λ c. search rules) (λ c. search rules)
     (λ c.
-    (omega arith, kinds-new _ _ _ _ c.pre.2 _ c.is_Known.ensures c.if-is_known.false c.if-lists-box_index-eq0.false c.pre.1)))
+    (omega arith, kinds-new _ _ _ _ c.requires.2 _ c.is_known.ensures c.if-is_known.false c.if-lists-box_index-eq0.false c.requires.1)))
