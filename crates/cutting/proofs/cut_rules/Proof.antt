@@ -35,8 +35,8 @@ loop-again c =
       omega (arith, c.loop-rule-test.true),
       λ rs days. next-cut _ _ _ _ days _ _ _ (rows-kept _ _ _ _ _ _ inv.3 inv.2 c.requires.1.0) _ c.loop-rule-test.true (inv.1 rs days) _
           cut.ensures,
-      cut.auto.0 ∙ inv.2,
-      cut.auto.1.0 ∙ inv.3,
+      cut.auto.cuts ∙ inv.2,
+      cut.auto.sizes ∙ inv.3,
     )
 
 pub cut_rules_spec : {M : Type 1} → statement M

@@ -16,7 +16,7 @@ start-row-requires-2 c κs =
     let pre = c.requires in
     let placed = c.place_rows.ensures 2 (omega arith) in
     let first = c.start_row.auto in
-    (omega (arith, c.place_rows.auto.row_starts, pre.0), omega (arith, first.1.0, pre.0), omega (arith, first.0, placed, pre.1))
+    (omega (arith, c.place_rows.auto.row_starts, pre.0), omega (arith, first.sizes, pre.0), omega (arith, first.cuts, placed, pre.1))
 
 start-row-requires-3 : tie.Need-start_row-requires-3
 start-row-requires-3 c κs =
@@ -25,8 +25,8 @@ start-row-requires-3 c κs =
     let first = c.start_row.auto in
     let second = c.start_row-2.auto in (
       omega (arith, c.place_rows.auto.row_starts, pre.0),
-      omega (arith, first.1.0, second.1.0, pre.0),
-      omega (arith, first.0, second.0, placed, pre.1),
+      omega (arith, first.sizes, second.sizes, pre.0),
+      omega (arith, first.cuts, second.cuts, placed, pre.1),
     )
 
 start-row-requires-4 : tie.Need-start_row-requires-4
@@ -37,8 +37,8 @@ start-row-requires-4 c κs =
     let second = c.start_row-2.auto in
     let third = c.start_row-3.auto in (
       omega (arith, c.place_rows.auto.row_starts, pre.0),
-      omega (arith, first.1.0, second.1.0, third.1.0, pre.0),
-      omega (arith, first.0, second.0, third.0, placed, pre.1),
+      omega (arith, first.sizes, second.sizes, third.sizes, pre.0),
+      omega (arith, first.cuts, second.cuts, third.cuts, placed, pre.1),
     )
 
 rows-same-length : tie.Need-shape_of-row_starts
