@@ -14,11 +14,11 @@ use Rattle.draw_rule.proofs.runs.find_row.Statement.{statement}
 use Rattle.draw_rule.proofs.runs.find_row.Tie as tie
 
 abbrev invariant-loop : tie.invariant-loop-range
-invariant-loop runs₀ sizes counts rows cuts ranges dimension count end.before.before range₀ runs range =
+invariant-loop runs₀ sizes counts rows cuts ranges dimension count first end range₀ runs range =
     (range ≤ count) × (length runs ≡ length runs₀) × RunsUpTo sizes counts rows cuts ranges runs dimension × RowRuns sizes rows cuts ranges runs dimension range
 
 abbrev decreases-loop : tie.decreases-loop-range
-decreases-loop runs₀ sizes counts rows cuts ranges dimension count end.before.before range₀ runs range = count - range
+decreases-loop runs₀ sizes counts rows cuts ranges dimension count first end range₀ runs range = count - range
 
 row_in : (size : tie.After-u16_to_usize invariant-loop decreases-loop) → size.u16_to_usize-first.result + size.u16_to_usize.result < length size.args.cuts.now
 row_in size =
@@ -50,7 +50,7 @@ find_row_spec =
     (λ c κs. search rules) (λ c. search rules) (λ c. search rules) (λ c κs. search rules)
     (λ c. search rules)
     (λ c. (omega arith, refl, c.requires.1.1, λ r l. absurd (omega arith)))
-    (λ c. omega (arith, c.requires.1.0.1, c.good))
+    (λ c. omega (arith, c.requires.1.0.1, c.well_formed))
     (λ c. omega (arith, c.loop-range-test.true, c.u16_to_usize-count.ensures.1))
     (λ c. omega (arith, c.loop-range-test.true, c.u16_to_usize-count.ensures.1, c.requires.1.0.1, c.well_formed))
     (λ c κs.

@@ -36,9 +36,9 @@ draw_each_spec =
     let kept = c.draw-drawn.auto in (
       omega (arith, inv.0),
       omega (arith, inside),
-      kept.0 ∙ inv.2,
-      kept.1.0 ∙ inv.3,
-      kept.1.1.0 ∙ inv.4,
+      kept.cells ∙ inv.2,
+      kept.lists ∙ inv.3,
+      kept.memo ∙ inv.4,
       walked_as (boxes-more _ _ inv.0) (walked-append c.requires.0 inv.5 c.draw-drawn.ensures),
     ))
     (λ c. c.loop-box_index.invariant.2) (λ c. c.loop-box_index.invariant.3) (λ c. c.loop-box_index.invariant.4)

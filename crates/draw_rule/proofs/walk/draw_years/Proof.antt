@@ -38,9 +38,9 @@ draw_years_spec =
     (λ c. omega (arith, c.if-range-count.true))
     (λ c.
     let kept = c.draw_boxes-drawn.auto in
-    level-run c.loop-node.invariant c.loop-node-test.true c.if-range-count.true c.requires.0 kept.0 kept.1.0 kept.1.1.0 c.run_below-run.ensures.0
+    level-run c.loop-node.invariant c.loop-node-test.true c.if-range-count.true c.requires.0 kept.cells kept.lists kept.memo c.run_below-run.ensures.0
     c.run_below-run.ensures.1 (walked_as (reached-boxes _ _ _ _ _) c.draw_boxes-drawn.ensures))
-    (λ c. omega (arith, c.loop-node-test.true, c.good))
+    (λ c. omega (arith, c.loop-node-test.true, c.well_formed))
     (λ c. omega (arith, c.loop-node-test.true, c.u16_to_usize-count.ensures.1))
     (λ c. level-node c.loop-node.invariant c.loop-node-test.true c.if-range-count.false c.u16_to_usize-count.ensures.0)
     (λ c. c.loop-node.invariant.cells-kept) (λ c. c.loop-node.invariant.lists-kept) (λ c. c.loop-node.invariant.memo-kept)
