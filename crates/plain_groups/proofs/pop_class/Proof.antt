@@ -41,7 +41,7 @@ mark-group-requires c κs =
 empty-group-requires : tie.Need-empty_group-requires invariant-loop decreases-loop
 empty-group-requires c κs =
     let i = c.loop-first.invariant in
-    room-len₂ _ _ _ _ _ _ _ (c.mark_group.auto.1.1.0 ∙ i.1) (room-len _ _ _ _ _ _ _ i.0 c.requires.0)
+    room-len₂ _ _ _ _ _ _ _ (c.mark_group.auto.marks ∙ i.1) (room-len _ _ _ _ _ _ _ i.0 c.requires.0)
 
 put-page-requires : tie.Need-put_page-next-requires invariant-loop decreases-loop
 put-page-requires c κs =
@@ -51,13 +51,13 @@ put-page-requires c κs =
     let page = put_page a.row_starts.now a.cuts.now a.sizes.now 4 in
     let round = loop-round _ _ _ _ _ c.requires.1.1.0 _ _ _ _ group.0 refl c.empty_group.ensures page _ _ _ _ i.3.0 i.3.1 refl in (
       c.requires.1.0,
-      (omega (arith, c.requires.0.marked, c.mark_group.auto.1.1.0, i.1), round_room _ _ _ _ _ _ _ _ _ _ _ round.0 i.2 c.requires.1.1.1),
+      (omega (arith, c.requires.0.marked, c.mark_group.auto.marks, i.1), round_room _ _ _ _ _ _ _ _ _ _ _ round.0 i.2 c.requires.1.1.1),
     )
 
 next-cell-requires-2 : tie.Need-next_cell-first-requires-in-loop-first invariant-loop decreases-loop
 next-cell-requires-2 c κs =
     let i = c.loop-first.invariant in
-    (i.6, omega (arith, room-size _ _ _ _ _ _ c.requires.0, c.size_of-boxes.ensures, c.empty_group.auto.0, i.0))
+    (i.6, omega (arith, room-size _ _ _ _ _ _ c.requires.0, c.size_of-boxes.ensures, c.empty_group.auto.cells, i.0))
 
 loop-less : tie.Need-loop-first-smaller invariant-loop decreases-loop
 loop-less c =
@@ -76,9 +76,9 @@ loop-again c =
     let cell = c.next_cell-first-in-loop-first.ensures in
     let page = put_page a.row_starts.now a.cuts.now a.sizes.now 4 in
     let marked = marks-round _ _ _ _ _ none _ _ _ _ group.0 refl cleared _ _ group.1 in (
-      c.empty_group.auto.0 ∙ i.0,
-      c.mark_group.auto.1.1.0 ∙ i.1,
-      put.auto.0 ∙ i.2,
+      c.empty_group.auto.cells ∙ i.0,
+      c.mark_group.auto.marks ∙ i.1,
+      put.auto.pages ∙ i.2,
       loop-round _ _ _ _ _ none _ _ _ _ group.0 refl cleared page _ _ _ _ i.3.0 i.3.1 put.ensures,
       (loop-round _ _ _ _ _ none _ _ _ _ group.0 refl cleared (mark_group _ _) _ _ _ _ i.4 i.3.1 marked).0,
       elsewhere-round _ _ _ _ _ none _ _ _ _ group.0 refl cleared _ i.5,

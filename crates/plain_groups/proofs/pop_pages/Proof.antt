@@ -47,10 +47,10 @@ loop-again c =
     let one = c.pop_class-next in
     let on = c.loop-class-test.true in (
       omega (arith, on),
-      one.auto.0 ∙ i.1,
-      one.auto.1.1.1.0 ∙ i.2,
-      one.auto.1.1.1.1.1.1.0 ∙ i.3,
-      rest-room _ _ _ _ _ _ _ _ _ _ on i.4 _ _ _ one.ensures.0 one.ensures.1.left one.auto.1.1.1.1.1.1.0,
+      one.auto.cells ∙ i.1,
+      one.auto.marks ∙ i.2,
+      one.auto.pages ∙ i.3,
+      rest-room _ _ _ _ _ _ _ _ _ _ on i.4 _ _ _ one.ensures.0 one.ensures.1.left one.auto.pages,
       groups-step _ _ _ _ _ _ (put_page _ _ _ _) _ _ _ _ on one.ensures.0 one.ensures.1.left refl ∙ i.5,
       λ cells₁ marks₁ taken. i.6 cells₁ marks₁ (taken_more _ _ _ _ _ _ _ _ _ _ _ on one.ensures.1 taken),
     )

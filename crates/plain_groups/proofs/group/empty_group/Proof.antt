@@ -1,5 +1,4 @@
 -- `plain_groups::group::empty_group` meets its contract. The loop's invariant: the marked boxes passed are empty, and all other boxes are as they were.
-use mathlib.Core.Logic.{⊎_elim}
 use mathlib.Core.Path.{◌≡◌, refl, ap, ◌∙◌}
 use Prim.Native.Nat.{◌-◌, ◌≤◌, ◌<◌}
 use native.Mathlib.Omega.{arith}
@@ -8,6 +7,7 @@ use borrow.Author.Rules.{rules}
 use Rattle.paving.proofs.Room.{room-size}
 use Rattle.plain_groups.proofs.Emptying.{EmptiedBefore, emptied-begin, emptied-in, emptied-out, emptied-end}
 use Rattle.plain_groups.proofs.group.empty_group.Statement.{statement}
+use Rattle.plain_groups.proofs.group.empty_group.Lts.{then-is_marked, else-is_marked}
 use Rattle.plain_groups.proofs.group.empty_group.Tie as tie
 
 abbrev invariant-loop : tie.invariant-loop-box_index
@@ -36,9 +36,10 @@ loop-again c =
     let on = c.loop-box_index-test.true in
     let marked = c.is_marked.ensures in
     let cell : c.loop-box_index.box_index < length c.loop-box_index.cells = omega (arith, room-size _ _ _ _ _ _ c.requires, c.size_of-boxes.ensures, inv.1, on) in
-    ⊎_elim
-    (λ w. (omega (arith, on), ap length w.1 ∙ simp length-set inv.1, emptied-in _ _ _ _ _ _ _ _ inv.2 marked w.0.taken cell w.1))
-    (λ w. (omega (arith, on), ap length w.1 ∙ inv.1, emptied-out _ _ _ _ _ _ _ _ inv.2 marked w.0.left w.1)) c.if-is_marked.branch
+    elim c.if-is_marked.branch [
+      then-is_marked w ↦ (omega (arith, on), ap length w.cells-is ∙ simp length-set inv.1, emptied-in _ _ _ _ _ _ _ _ inv.2 marked w.if-is_marked.true cell w.cells-is)
+      | else-is_marked w ↦ (omega (arith, on), ap length w.cells-is ∙ inv.1, emptied-out _ _ _ _ _ _ _ _ inv.2 marked w.if-is_marked.false w.cells-is)
+    ]
 
 returns : tie.Need-returns invariant-loop decreases-loop
 returns c =

@@ -75,7 +75,7 @@ add-is-good-2 c =
     omega (arith, room-marks _ _ _ _ _ _ _ inv.1 inv.2, inv.0, c.well_formed)
 
 add-marks : tie.Need-overflow_add-marks invariant-loop decreases-loop
-add-marks c = omega (arith, add-is-good-2 c, c.loop-interval-test.true)
+add-marks c = omega (arith, add-is-good-2 c.before.before, c.loop-interval-test.true)
 
 slice-write-marks : tie.Need-bounds-marks-base invariant-loop decreases-loop
 slice-write-marks c =

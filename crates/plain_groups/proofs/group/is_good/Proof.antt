@@ -1,6 +1,5 @@
 -- `plain_groups::group::is_good` meets its contract. The loop's invariant: each marked box passed has the value.
 use mathlib.Core.Bool.{false≢true}
-use mathlib.Core.Logic.{⊎_elim}
 use mathlib.Core.Path.{sym, ◌∙◌}
 use Prim.Native.Nat.{◌+◌, ◌-◌, ◌*◌, ◌≤◌}
 use native.Mathlib.Omega.{arith}
@@ -8,6 +7,7 @@ use lib.ListN.{length}
 use Rattle.paving.proofs.Room.{room-size}
 use Rattle.plain_groups.proofs.Good.{MarkedAre, are-begin, are-more, block-fits, good-end, good-no}
 use Rattle.plain_groups.proofs.group.is_good.Statement.{statement}
+use Rattle.plain_groups.proofs.group.is_good.Lts.{then-cells-box_index+else-is_marked, else-cells-box_index}
 use Rattle.plain_groups.proofs.group.is_good.Tie as tie
 
 abbrev invariant-loop : tie.invariant-loop-box_index
@@ -56,7 +56,10 @@ loop-again c =
       omega (arith, inv.0),
       omega (arith, on),
       are-more _ _ _ _ _ _ _ _ inv.2
-          (⊎_elim (λ w m. absurd (false≢true (sym w.2.left ∙ w.1.ensures ∙ m))) (λ w m. w.left) c.if-cells-box_index.branch),
+          (elim c.if-cells-box_index.branch [
+            then-cells-box_index+else-is_marked w ↦ λ m. absurd (false≢true (sym w.if-is_marked.false ∙ w.is_marked.ensures ∙ m))
+            | else-cells-box_index w ↦ λ m. w.if-cells-box_index.false
+          ]),
     )
 
 returns-2 : tie.Need-returns invariant-loop decreases-loop
@@ -67,5 +70,5 @@ pub is_good_spec : {M : Type 1} → statement M
 is_good_spec =
     tie.close
     (tie.spec invariant-loop decreases-loop size-of-requires (λ c. omega (arith, add-end c)) add-end (λ c. (omega arith, omega arith, are-begin _ _ _ _ _ _ _))
-    mul-if1 shared-slice-read-if1 is-marked-requires returns (λ c. omega (arith, add-end c, c.loop-box_index-test.true))
+    mul-if1 shared-slice-read-if1 is-marked-requires returns (λ c. omega (arith, add-end c.before.before.before.before, c.loop-box_index-test.true))
     (λ c. omega (arith, c.loop-box_index-test.true)) loop-again returns-2)

@@ -51,11 +51,11 @@ returns c =
     let some = c.requires.0.1 i (omega (arith, c.loop-dimension.invariant.0, on)) in
     marked-out _ _ _ i _ _ _ (omega (arith, on)) some c.digit.ensures c.if-marks-place-ne1.true ∙ c.loop-dimension.invariant.2
 
-add-place : tie.Need-overflow_add-place invariant-loop decreases-loop
+add-place : tie.Need-overflow_add-place-in-loop-dimension invariant-loop decreases-loop
 add-place c =
     let l = c.loop-dimension.dimension in
     let on = c.loop-dimension-test.true in
-    omega (arith, width-next c.args.sizes.now (l - 1) l (omega (arith, on)), c.u16_to_usize.ensures.0, c.loop-dimension.invariant.1, c.requires.1, c.well_formed)
+    omega (arith, width-next c.args.sizes.now (l - 1) l (omega (arith, on)), c.u16_to_usize-place.ensures.0, c.loop-dimension.invariant.1, c.requires.1, c.well_formed)
 
 loop-again : tie.Need-loop-dimension-preserved invariant-loop decreases-loop
 loop-again c =
