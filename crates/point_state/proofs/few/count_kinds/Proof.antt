@@ -22,8 +22,8 @@ decreases-loop marks₀ row-starts cuts range-counts ranges rules dimension size
 abbrev after : tie.After-marks_of invariant-loop decreases-loop → List ℕ
 after c = set c.loop-column.marks c.loop-column.column c.marks_of.result
 
-marks-put : (c : tie.After-marks_of invariant-loop decreases-loop) → let turn = c in let a = turn.before.before.before.before.before.before.before.before.before.args in
-    Marked a.range_counts.now a.ranges.now a.rules a.row_starts.now a.cuts.now a.dimension (after c) (turn.before.loop.column + 1)
+marks-put : (c : tie.After-marks_of invariant-loop decreases-loop) → let a = c.args in
+    Marked a.range_counts.now a.ranges.now a.rules a.row_starts.now a.cuts.now a.dimension (after c) (c.loop-column.column + 1)
 marks-put c =
     let inv = c.loop-column.invariant in
     marked_more _ _ _ _ _ _ c.loop-column.marks c.loop-column.column _ _ c.u16_to_usize-first.ensures.0 c.marks_of.ensures (omega (arith, c.loop-column-test.true, inv.2, c.requires.1.2)) inv.3
@@ -35,11 +35,11 @@ count_kinds_spec =
     invariant-loop decreases-loop
     (λ c. search rules) (λ c. search rules) (λ c κs. search rules)
     (λ c. (omega arith, omega arith, omega arith, (λ x l. absurd (omega arith)), kinds-none _ _ _ _ _ _))
-    (λ c. omega (arith, c.loop-column-test.true, c.u16_to_usize-first.ensures, c.requires.1.1, c.good))
-    (λ c. omega (arith, c.loop-column-test.true, c.u16_to_usize-first.ensures, c.requires.1.1, c.good))
+    (λ c. omega (arith, c.loop-column-test.true, c.u16_to_usize-first.ensures, c.requires.1.1, c.well_formed))
+    (λ c. omega (arith, c.loop-column-test.true, c.u16_to_usize-first.ensures, c.requires.1.1, c.well_formed))
     (λ c. omega (arith, c.loop-column-test.true, c.u16_to_usize-first.ensures, c.requires.1.1))
     (λ c κs. c.requires.0)
-    (λ c. omega (arith, c.loop-column-test.true, c.loop-column.invariant.2, c.requires.1.2, c.good))
+    (λ c. omega (arith, c.loop-column-test.true, c.loop-column.invariant.2, c.requires.1.2, c.well_formed))
     (λ c. omega (arith, c.loop-column-test.true, c.loop-column.invariant.2, c.requires.1.2))
     (λ c κs. simp length-set (omega (arith, c.loop-column-test.true, c.loop-column.invariant.2, c.requires.1.2)))
     (λ c. search rules) (λ c. search rules)
