@@ -107,7 +107,7 @@ draw_rules_spec =
     let pre = c.requires in
     (omega arith, refl, refl, refl, omega arith, λ k. omega (arith, pre.1.unmade k), going_start _ _ _ _ _ _ _ _ _ pre.1.unnamed))
     (λ c.
-    let t = (start c).pre.0.1 in
+    let t = c.requires.0.1 in
     omega (arith, c.loop-rule-test.true, t.0.0.many, t.0.1.all-replacing))
     draw-row-requires
     (λ c. c.draw_row-drawn.auto.cells ∙ c.loop-rule.invariant.1)
@@ -118,7 +118,7 @@ draw_rules_spec =
     (λ c. c.settle-used.auto.lists ∙ c.draw_row-drawn.auto.lists ∙ c.loop-rule.invariant.2)
     (λ c. c.settle-used.auto.memo ∙ c.draw_row-drawn.auto.memo ∙ c.loop-rule.invariant.3)
     returns-2
-    (λ c. omega (arith, c.loop-rule-test.true, (start c).pre.0.1.0.0.few-rules))
+    (λ c. omega (arith, c.loop-rule-test.true, c.requires.0.1.0.0.few-rules))
     (λ c. omega (arith, c.loop-rule-test.true))
     loop-again reclaim-requires
     (λ c. c.reclaim.auto.cells ∙ c.loop-rule.invariant.1)
