@@ -101,8 +101,8 @@ module _ (form : Form) (s : List ℕ) (p : ℕ) (r : Rule) (q : ℕ) (w : RulePa
       let d = split-or _ _ b.1 in
       row_done form s (p + title_width form) 0 (p + head_width form) _ _ _ w.count-years 3 _ _ (years-passed _ s (p + head_width form) _ r.years w.years-read a.0)
       ∙ row_done form s (p + title_width form + form.item_count) 1 w.monthdays-at _ _ _ w.count-monthdays 2 _ _ (months-passed _ s w.monthdays-at _ r.monthdays w.monthdays-read b.0)
-      ∙ row_done form s (p + title_width form + form.item_count + form.item_count) 2 w.weeks_at _ _ _ w.count-weeks 1 _ _ (weeks-passed _ s w.weeks_at _ r.weeks w.weeks-read d.0)
-      ∙ row_done form s (p + title_width form + form.item_count + form.item_count + form.item_count) 3 w.weekdays_at _ _ _ w.count-weekdays 0 _ _ (weekdays-passed _ s w.weekdays_at _ r.weekdays w.weekdays-read d.1)
+      ∙ row_done form s (p + title_width form + form.item_count + form.item_count) 2 w.weeks-at _ _ _ w.count-weeks 1 _ _ (weeks-passed _ s w.weeks-at _ r.weeks w.weeks-read d.0)
+      ∙ row_done form s (p + title_width form + form.item_count + form.item_count + form.item_count) 3 w.weekdays-at _ _ _ w.count-weekdays 0 _ _ (weekdays-passed _ s w.weekdays-at _ r.weekdays w.weekdays-read d.1)
       ∙ spans-found form s (p + title_width form + form.item_count + form.item_count + form.item_count + form.item_count) 4 w.spans-at _ _ _ w.count-spans
 
   -- THE DAYS STOP
@@ -119,12 +119,12 @@ module _ (form : Form) (s : List ℕ) (p : ℕ) (r : Rule) (q : ℕ) (w : RulePa
       go false ha false hb true hd t =
           ap (λ x. x.spans) (row_done form s (p + title_width form) 0 (p + head_width form) _ _ _ w.count-years 3 _ _ (years-passed _ s (p + head_width form) _ r.years w.years-read ha)
           ∙ row_done form s (p + title_width form + form.item_count) 1 w.monthdays-at _ _ _ w.count-monthdays 2 _ _ (months-passed _ s w.monthdays-at _ r.monthdays w.monthdays-read hb))
-          ∙ row_ends form s (p + title_width form + form.item_count + form.item_count) 2 w.weeks_at _ _ _ w.count-weeks 1 (weeks-halted _ s w.weeks_at _ r.weeks w.weeks-read hd)
+          ∙ row_ends form s (p + title_width form + form.item_count + form.item_count) 2 w.weeks-at _ _ _ w.count-weeks 1 (weeks-halted _ s w.weeks-at _ r.weeks w.weeks-read hd)
       go false ha false hb false hd t =
           ap (λ x. x.spans) (row_done form s (p + title_width form) 0 (p + head_width form) _ _ _ w.count-years 3 _ _ (years-passed _ s (p + head_width form) _ r.years w.years-read ha)
           ∙ row_done form s (p + title_width form + form.item_count) 1 w.monthdays-at _ _ _ w.count-monthdays 2 _ _ (months-passed _ s w.monthdays-at _ r.monthdays w.monthdays-read hb)
-          ∙ row_done form s (p + title_width form + form.item_count + form.item_count) 2 w.weeks_at _ _ _ w.count-weeks 1 _ _ (weeks-passed _ s w.weeks_at _ r.weeks w.weeks-read hd))
-          ∙ row_ends form s (p + title_width form + form.item_count + form.item_count + form.item_count) 3 w.weekdays_at _ _ _ w.count-weekdays 0 (weekdays-halted _ s w.weekdays_at _ r.weekdays w.weekdays-read t)
+          ∙ row_done form s (p + title_width form + form.item_count + form.item_count) 2 w.weeks-at _ _ _ w.count-weeks 1 _ _ (weeks-passed _ s w.weeks-at _ r.weeks w.weeks-read hd))
+          ∙ row_ends form s (p + title_width form + form.item_count + form.item_count + form.item_count) 3 w.weekdays-at _ _ _ w.count-weekdays 0 (weekdays-halted _ s w.weekdays-at _ r.weekdays w.weekdays-read t)
 
 -- each dimension has at most 32 ranges
 pub days-few : (form : Form) (sheet : List ℕ) → Bytes sheet → (p : ℕ) (r : Rule) (q : ℕ) → RuleParts form (sheet_bits sheet) p r q → days_stop r ≡ false → All (λ R. length R ≤ 32) (days_rows r)
@@ -138,8 +138,8 @@ days-few form sheet b p r q w f =
       (
         few 1 _ _ w.monthdays-at _ _ w.count-monthdays (months-passed _ s w.monthdays-at _ r.monthdays w.monthdays-read d.0),
         (
-          few 2 _ _ w.weeks_at _ _ w.count-weeks (weeks-passed _ s w.weeks_at _ r.weeks w.weeks-read e.0),
-          (few 3 _ _ w.weekdays_at _ _ w.count-weekdays (weekdays-passed _ s w.weekdays_at _ r.weekdays w.weekdays-read e.1), tt),
+          few 2 _ _ w.weeks-at _ _ w.count-weeks (weeks-passed _ s w.weeks-at _ r.weeks w.weeks-read e.0),
+          (few 3 _ _ w.weekdays-at _ _ w.count-weekdays (weekdays-passed _ s w.weekdays-at _ r.weekdays w.weekdays-read e.1), tt),
         ),
       ),
     )
