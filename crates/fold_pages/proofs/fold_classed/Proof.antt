@@ -23,7 +23,7 @@ number-lists-requires c κs =
 
 rename-requires : tie.Need-rename-requires
 rename-requires c κs =
-    λ box. omega (arith, c.requires.0.2.stored.store.names box, c.requires.1.0, c.number_lists.auto.1.1.1.1.1.1.0)
+    λ box. omega (arith, c.requires.0.2.stored.store.names box, c.requires.1.0, c.number_lists.auto.6)
 
 pop-groups-requires : tie.Need-pop_groups-stop-requires
 pop-groups-requires c κs =
@@ -39,7 +39,7 @@ pop-groups-requires c κs =
         (
           empty-class a.states.now a.span_counts.now a.spans.now a.row_starts.now a.sizes.now a.cuts.now a.lists.now
               a.cells.now _ _ _ a.used given.0 given.1 (store-names _ _ _ _ _ _ _ given.2) numbered.ensures c.rename.ensures,
-          omega (arith, c.requires.1.3, numbered.kept.1.1.1.1.1.0),
+          omega (arith, c.requires.1.3, numbered.auto.5),
         ),
       ),
     )
@@ -52,8 +52,8 @@ count-pages-requires c κs =
     let given = c.requires.0 in
     let ended = pages-end a.states.now a.span_counts.now a.spans.now a.row_starts.now a.sizes.now a.cuts.now a.lists.now
     a.cells.now _ _ _ a.used given.0 given.1 (store-names _ _ _ _ _ _ _ given.2) numbered.ensures c.rename.ensures numbered.last.1.1.1.1.1.0 _
-    (omega (arith, c.requires.1.3, numbered.kept.1.1.1.1.1.0)) popped.ensures.1 _ popped.ensures.0 in
-    (ended.0, omega (arith, ended.1, popped.auto.pages))
+    (omega (arith, c.requires.1.3, numbered.auto.5)) popped.ensures.1 _ popped.ensures.0 in
+    (ended.0, omega (arith, ended.1, popped.auto.5))
 
 returns : tie.Need-returns
 returns c =
@@ -62,7 +62,7 @@ returns c =
     let a = c.args in
     λ rs form tables boxed commented. pages-folded a.states.now a.span_counts.now a.spans.now a.row_starts.now a.sizes.now a.cuts.now
     a.lists.now a.cells.now _ _ _ a.used rs tables (store-names _ _ _ _ _ _ _ boxed) numbered.ensures c.rename.ensures numbered.last.1.1.1.1.1.0 _
-    (omega (arith, c.requires.1.3, numbered.kept.1.1.1.1.1.0)) popped.ensures.1 _ popped.ensures.0 form commented _ c.count_pages.ensures
+    (omega (arith, c.requires.1.3, numbered.auto.5)) popped.ensures.1 _ popped.ensures.0 form commented _ c.count_pages.ensures
 
 pub fold_classed_spec : {M : Type 1} → statement M
 fold_classed_spec =

@@ -27,16 +27,16 @@ Loop = tie.At-loop invariant-loop decreases-loop
 
 -- where the day of a place is found
 abbrev Found : Type 0
-Found = tie.After-slice-known7 invariant-loop decreases-loop
+Found = tie.After-slice_known-1 invariant-loop decreases-loop
 
 abbrev start : Loop → tie.Start invariant-loop decreases-loop
 start c = c.before.before.before.before.before.before.before.before.before.before
 
 abbrev day : Found → tie.After-day_at-day invariant-loop decreases-loop
-day c = c.before.before.before.before
+day c = c.before.before
 
 abbrev test : Found → tie.In-loop-place invariant-loop decreases-loop
-test c = c.before.before.before.before.before.before.before.before
+test c = c.before.before.before.before.before.before
 
 abbrev loop : Found → Loop
 loop c = (test c).before

@@ -62,8 +62,8 @@ loop-again c =
     let page = c.measure_page-page.ensures in (
       measured-more inv.0 c.loop-pages_left-test.true c.page_size-size.ensures page.0 page.1 page.2 page.3 page.4,
       page.5,
-      c.measure_page-page.auto.1.0 ∙ inv.2,
-      c.measure_page-page.auto.1.1.0 ∙ inv.3,
+      c.measure_page-page.auto.1 ∙ inv.2,
+      c.measure_page-page.auto.2 ∙ inv.3,
     )
 
 returns : tie.Need-returns invariant-loop decreases-loop

@@ -39,8 +39,8 @@ judge_spec =
     (λ c κs. let pre = c.requires in (pre.0, pre.1))
     (λ c κs. search rules)
     (λ c. c.Cut-all.auto.0)
-    (λ c. c.Cut-all.auto.1.0)
-    (λ c. c.Cut-all.auto.1.1.0) returns-2
+    (λ c. c.Cut-all.auto.1)
+    (λ c. c.Cut-all.auto.2) returns-2
     (λ c. c.Cut-all.auto.0)
-    (λ c. c.Cut-all.auto.1.0)
-    (λ c. c.Cut-all.auto.1.1.0) returns-3)
+    (λ c. c.Cut-all.auto.1)
+    (λ c. c.Cut-all.auto.2) returns-3)

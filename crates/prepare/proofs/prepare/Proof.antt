@@ -18,26 +18,24 @@ drain-requires c κs =
 
 judge-requires : tie.Need-judge-requires
 judge-requires c κs =
-    let entry = (known c).before in
-    let sheet = entry.args.sheet.now in
-    let pre = entry.pre in
+    let sheet = c.args.sheet.now in
+    let pre = c.requires in
     let read = pre.0.1.1 in
     let drain = c.drain-drained in
-    let bytes = known_bytes sheet (λ j. omega (arith, (known c).shared-slice-known.given j)) in
+    let bytes = known_bytes sheet (λ j. omega (arith, c.shared_slice_known-1.given j)) in
     let few = drained-few _ sheet bytes _ _ _ _ read.0 read.1 _ _ _ _ _ _ _ drain.ensures.0 drain.ensures.2 in
-    let kept = drain.auto.1.1.1.1.1.1.1.1 in
+    let kept = drain.auto.8 in
     let days = drained-days _ sheet bytes _ _ _ _ read.0 read.1 _ _ _ _ _ _ _ drain.ensures.0 drain.ensures.2
     (omega (arith, kept.0, pre.1.1.0.0)) (omega (arith, kept.1.0, pre.1.1.0.1)) in
     ((_, days), (pre.1.1.1.0, pre.1.1.1.1, omega (arith, few, pre.1.1.1.2)))
 
 returns : tie.Need-returns
 returns c =
-    let entry = (known c).before in
-    let sheet = entry.args.sheet.now in
-    let pre = entry.pre in
+    let sheet = c.args.sheet.now in
+    let pre = c.requires in
     let drain = c.drain-drained in
-    let kept = drain.kept.1.1.1.1 in
-    let bytes = known_bytes sheet (λ j. omega (arith, (known c).shared-slice-known.given j)) in
+    let kept = drain.auto.4 in
+    let bytes = known_bytes sheet (λ j. omega (arith, c.shared_slice_known-1.given j)) in
     λ rs end reading many. let days = drained-days _ sheet bytes _ rs end _ reading many _ _ _ _ _ _ _ drain.ensures.0 drain.ensures.2
     (omega (arith, kept.1.1.1.1.0, pre.1.1.0.0)) (omega (arith, kept.1.1.1.1.1.0, pre.1.1.0.1)) in
     sheet-judged _ sheet bytes _ rs end _ reading many _ _ _ _ _ _ _ drain.ensures.0 drain.ensures.2
@@ -49,12 +47,12 @@ pub prepare_spec : {M : Type 1} → statement M
 prepare_spec =
     tie.close
     (tie.spec drain-requires judge-requires
-    (λ c. c.drain-drained.auto.1.1.1.1.0)
-    (λ c. c.drain-drained.auto.1.1.1.1.1.0)
-    (λ c. c.drain-drained.auto.1.1.1.1.1.1.0)
-    (λ c. c.drain-drained.auto.1.1.1.1.1.1.1.0)
-    (λ c. c.drain-drained.auto.1.1.1.1.1.1.1.1.0)
-    (λ c. c.drain-drained.auto.1.1.1.1.1.1.1.1.1.0)
-    (λ c. c.judge.auto.1.1.0)
-    (λ c. c.judge.auto.1.0)
+    (λ c. c.drain-drained.auto.4)
+    (λ c. c.drain-drained.auto.5)
+    (λ c. c.drain-drained.auto.6)
+    (λ c. c.drain-drained.auto.7)
+    (λ c. c.drain-drained.auto.8)
+    (λ c. c.drain-drained.auto.9)
+    (λ c. c.judge.auto.2)
+    (λ c. c.judge.auto.1)
     (λ c. c.judge.auto.0) returns)
