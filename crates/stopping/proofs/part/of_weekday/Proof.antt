@@ -9,8 +9,6 @@ pub of_weekday_spec : {M : Type 1} → statement M
 of_weekday_spec =
     tie.close
     (tie.spec (λ c. search rules) (λ c κs. search rules) (λ c. search rules) (λ c. search rules)
-    (λ c.
-    let read = c.read-1 in
-    ap (λ z. found z read.given.0.1.1.1.1.1.0) c.of_days.ensures ∙ sym (rw read.given.1))
+    (λ c. ap (λ z. found z c.in-Fixed.next) c.of_days.ensures ∙ sym (rw c.in-Fixed.is))
     (λ c. sym (rw c.in-Holiday.is))
     (λ c. sym (rw c.in-Refused.is)))
