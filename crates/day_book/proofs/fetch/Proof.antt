@@ -17,45 +17,45 @@ own-words : (W : ℕ → List ℕ) (number : ℕ) → 1 ≤ number → W (number
 unfolding words_of
 own-words W number l = let e : suc (number - 1) ≡ number = omega arith in ap (words_of W) e
 
-module _ (c : tie.After-fold-box) where
+module _ (c : tie.After-fold_box-count) where
   abbrev book : List ℕ
-  book = c.before.before.before.before.before.before.before.before.before.args.book.now
+  book = c.args.book.now
 
   abbrev filled : ℕ
-  filled = c.before.before.before.before.before.before.before.before.before.args.filled
+  filled = c.args.filled
 
   abbrev rest : List ℕ
   rest = drop (length book - filled) (drop filled book)
 
   abbrev days : ℕ → List ℕ
-  days = let a = c.before.before.before.before.before.before.before.before.before.args in number_words a.states.now a.span_counts.now a.spans.now a.lists.now
+  days = let a = c.args in number_words a.states.now a.span_counts.now a.spans.now a.lists.now
 
   -- it has room behind what is filled
-  fits : c.fold_box.result + filled ≤ length book
-  fits = omega (arith, c.fold_box.ensures.1, c.before.before.before.before.before.before.before.before.before.requires.0.2.wordy, c.before.before.before.before.before.before.before.before.before.requires.1.roomy)
+  fits : c.fold_box-count.result + filled ≤ length book
+  fits = omega (arith, c.fold_box-count.ensures.1, c.requires.0.2.wordy, c.requires.1.roomy)
 
-  long : c.fold_box.result ≤ length c.fold_box.new.0
-  long = omega (arith, c.fold_box.ensures.1, c.before.before.before.before.before.before.before.before.before.requires.0.2.wordy, c.before.before.before.before.before.before.before.before.before.requires.1.roomy, c.fold_box.auto.words)
+  long : c.fold_box-count.result ≤ length c.fold_box-count.new.words
+  long = omega (arith, c.fold_box-count.ensures.1, c.requires.0.2.wordy, c.requires.1.roomy, c.fold_box-count.auto.words)
 
   abbrev after : List ℕ
-  after = take filled book ++ (c.fold_box.new.0 ++ rest)
+  after = take filled book ++ (c.fold_box-count.new.words ++ rest)
 
   same_size : length after ≡ length book
   same_size =
       omega (
         arith,
-        length-append (take filled book) (c.fold_box.new.0 ++ rest),
-        length-append c.fold_box.new.0 rest,
-        length-take-le filled book (omega (arith, c.before.before.before.before.before.before.before.before.before.requires.1.roomy)),
+        length-append (take filled book) (c.fold_box-count.new.words ++ rest),
+        length-append c.fold_box-count.new.words rest,
+        length-take-le filled book (omega (arith, c.requires.1.roomy)),
         length-drop (length book - filled) (drop filled book),
         length-drop filled book,
-        c.fold_box.auto.words,
+        c.fold_box-count.auto.words,
       )
 
-  there : part after filled c.fold_box.result ≡ days c.before.before.before.before.before.before.before.before.before.args.number
+  there : part after filled c.fold_box-count.result ≡ days c.args.number
   there =
-      folded-there book filled (omega (arith, c.before.before.before.before.before.before.before.before.before.requires.1.roomy)) c.fold_box.new.0 rest c.fold_box.result _ long
-      (c.fold_box.ensures.0 ∙ own-words _ c.before.before.before.before.before.before.before.before.before.args.number c.before.before.before.before.before.before.before.before.before.requires.0.0)
+      folded-there book filled (omega (arith, c.requires.1.roomy)) c.fold_box-count.new.words rest c.fold_box-count.result _ long
+      (c.fold_box-count.ensures.0 ∙ own-words _ c.args.number c.requires.0.0)
 
 -- ## What is needed
 returns : tie.Need-returns-then-kept-gt0
@@ -73,38 +73,41 @@ returns c =
 
 returns-2 : tie.Need-returns-then-noted-notes-2
 returns-2 c =
+    let f = c.before.before.before.before in
     record {
-      inside = omega (arith, same_size c, fits c);
-      words = there c;
+      inside = omega (arith, same_size f, fits f);
+      words = there f;
       opened = record {
-        held = one-more-held (book c) (filled c) (omega (arith, c.requires.1.roomy)) c.fold_box-count.new.0 (rest c) (days c) _ c.requires.1.held
-            c.args.number c.fold_box-count.result c.if-noted-notes-2.true (there c);
-        roomy = omega (arith, same_size c, c.if-next-room.true);
-        few = omega (arith, same_size c, c.requires.1.few);
+        held = one-more-held (book f) (filled f) (omega (arith, c.requires.1.roomy)) c.fold_box-count.new.words (rest f) (days f) _ c.requires.1.held
+            c.args.number c.fold_box-count.result c.if-noted-notes-2.true (there f);
+        roomy = omega (arith, same_size f, c.if-next-room.true);
+        few = omega (arith, same_size f, c.requires.1.few);
       };
     }
 
 returns-3 : tie.Need-returns-else-noted-notes-2
 returns-3 c =
+    let f = c.before.before.before.before in
     record {
-      inside = omega (arith, same_size c, fits c);
-      words = there c;
+      inside = omega (arith, same_size f, fits f);
+      words = there f;
       opened = record {
-        held = still-held (book c) (filled c) (omega (arith, c.requires.1.roomy)) c.fold_box-count.new.0 (rest c) (days c) _ c.requires.1.held;
-        roomy = omega (arith, same_size c, c.requires.1.roomy);
-        few = omega (arith, same_size c, c.requires.1.few);
+        held = still-held (book f) (filled f) (omega (arith, c.requires.1.roomy)) c.fold_box-count.new.words (rest f) (days f) _ c.requires.1.held;
+        roomy = omega (arith, same_size f, c.requires.1.roomy);
+        few = omega (arith, same_size f, c.requires.1.few);
       };
     }
 
 returns-4 : tie.Need-returns-else-next-room
 returns-4 c =
+    let f = c.before.before.before in
     record {
-      inside = omega (arith, same_size c, fits c);
-      words = there c;
+      inside = omega (arith, same_size f, fits f);
+      words = there f;
       opened = record {
-        held = still-held (book c) (filled c) (omega (arith, c.requires.1.roomy)) c.fold_box-count.new.0 (rest c) (days c) _ c.requires.1.held;
-        roomy = omega (arith, same_size c, c.requires.1.roomy);
-        few = omega (arith, same_size c, c.requires.1.few);
+        held = still-held (book f) (filled f) (omega (arith, c.requires.1.roomy)) c.fold_box-count.new.words (rest f) (days f) _ c.requires.1.held;
+        roomy = omega (arith, same_size f, c.requires.1.roomy);
+        few = omega (arith, same_size f, c.requires.1.few);
       };
     }
 
