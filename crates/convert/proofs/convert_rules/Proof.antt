@@ -5,7 +5,7 @@ use mathlib.Core.List.{List, [], ◌∷◌, ◌++◌, flat_map}
 use Prim.Native.Nat.{◌+◌, ◌/◌, ◌≤◌}
 use native.Mathlib.Omega.{arith}
 use lib.ListN.{length}
-use borrow.Author.Rules.{rules}
+use borrow.Author.Rules.{rules as goal_rules}
 use borrow.Author.Tests.{lt-ltb, le-ltb, ltb-true, ltb-false}
 use Rattle.laws.specs.Lists.{only_if}
 use Rattle.definition.specs.Field.{Layout, bytes_for}
@@ -58,17 +58,13 @@ returns c =
     (sym (ap written_numbers answer), sym (ap (λ w. buffer w.result a.out.now) answer))
 
 -- ## Behind that test
-module _ (c : tie.Else1) where
-  abbrev long : tie.After-first-long-comment
-  long = c.before
-
-  -- no comment is without room
-  none-long : (rs : List Rule) → Given long rs → first_long_comment (as_form long.before.other_form.result) rs ≡ none
-  none-long rs given =
-      let a = long.before.before.before.before.before.args in
-      let k = long.first_long_comment.result in
-      sym (long-told _ _ a.sheet.now a.begins.now (bytes long) rs a.end a.count given.0 given.1 k long.first_long_comment.ensures.0)
-      ∙ ap (λ b. only_if b k) (le-ltb k a.count c.if1.left)
+-- no comment is without room
+none-long : (c : tie.Else-long-count) (rs : List Rule) → Given c.before rs → first_long_comment (as_form c.other_form-to.result) rs ≡ none
+none-long c rs given =
+    let a = c.args in
+    let k = c.first_long_comment-long.result in
+    sym (long-told _ _ a.sheet.now a.begins.now (bytes c.before) rs a.end a.count given.0 given.1 k c.first_long_comment-long.ensures.0)
+    ∙ ap (λ b. only_if b k) (le-ltb k a.count c.if-long-count.false)
 
 moved-bits-requires : tie.Need-moved_bits-requires
 moved-bits-requires c κs =
@@ -81,16 +77,16 @@ moved-bits-requires c κs =
     )
 
 -- so many bits have the rules in the other form
-sized : (c : tie.After-moved_bits) (rs : List Rule) → Given c rs
+sized : (c : tie.After-moved_bits) (rs : List Rule) → Given c.before.before rs
     → length ((rules (as_form c.other_form-to.result) sheet_limits).write rs) ≡ c.moved_bits.result
 sized c rs given =
     let a = c.args in
     moved_length _ _ a.sheet.now a.begins.now (bytes c.before.before) rs a.end a.count given.0 given.1 _ c.moved_bits.ensures.0
 
 -- and so many bytes
-encoded : (c : tie.After-moved_bits) (rs : List Rule) → Given c rs
+encoded : (c : tie.After-moved_bits) (rs : List Rule) → Given c.before.before rs
     → length (encode (as_form c.other_form-to.result) sheet_limits rs) ≡ (c.moved_bits.result + 7) / 8
-encoded c rs given = encoded-length _ 0 rs (none-long c rs given) ∙ ap bytes_for (sized c rs given)
+encoded c rs given = encoded-length _ 0 rs (none-long c.before rs given) ∙ ap bytes_for (sized c rs given)
 
 -- ## A buffer without room
 returns-2 : tie.Need-returns-then-lacks_room
@@ -98,7 +94,7 @@ returns-2 c =
     let a = c.args in
     let lacking = ltb-true _ _ (sym c.lacks_room.ensures ∙ c.if-lacks_room.true) in
     λ rs read many.
-    let none = none-long c rs (read, many) in
+    let none = none-long c.before.before.before rs (read, many) in
     let answer = answered c.before.before.before.before rs (converts-short _ (length a.out.now) rs none _ (encoded c.before.before rs (read, many)) lacking) in
     (sym (ap written_numbers answer), sym (ap (λ w. buffer w.result a.out.now) answer))
 
@@ -107,8 +103,8 @@ returns-2 c =
 enough : (c : tie.Else-lacks_room) → (c.moved_bits.result + 7) / 8 ≤ length c.args.out.now
 enough c = ltb-false _ _ (sym c.lacks_room.ensures ∙ c.if-lacks_room.false)
 
-room : (c : tie.Else-lacks_room) (rs : List Rule) → Given c rs → let first = c in
-    let to = as_form first.before.other_form.result in let a = first.before.before.before.before.before.args in
+room : (c : tie.Else-lacks_room) (rs : List Rule) → Given c.before.before.before.before rs →
+    let to = as_form c.other_form-to.result in let a = c.args in
     RoomFor (length a.out.now) 0 ((opening to sheet_limits).write a.count ++ flat_map (rule to sheet_limits).write rs)
 room c rs given =
     let a = c.args in
@@ -128,7 +124,7 @@ move-rules-requires c κs =
       c.requires.0,
       read.0,
       read.1,
-      all-commented _ 0 _ (none-long c _ read),
+      all-commented _ 0 _ (none-long c.before.before.before.before.before.before.before.before _ read),
       room-rest c.put_opening-first.ensures _ (room c.before.before.before.before.before _ read),
     )
 
@@ -145,7 +141,7 @@ returns-3 c =
     let a = c.args in
     λ rs read many.
     let given : Given c.before.before.before.before.before.before.before.before.before.before.before.before.before.before.before.before rs = (read, many) in
-    let none = none-long c rs given in
+    let none = none-long c.before.before.before.before.before.before.before.before.before.before.before.before.before.before.before rs given in
     let fine = answered c.before.before.before.before.before.before.before.before.before.before.before.before.before.before.before.before rs (converts-fine _ (length a.out.now) rs none _ (encoded c.before.before.before.before.before.before.before.before.before.before.before.before.before.before rs given) (enough c.before.before.before.before.before.before.before.before.before.before.before.before)) in
     let behind = c.move_rules-behind.result in
     let new = all-written _ _ a.sheet.now a.begins.now (bytes c.before.before.before.before.before.before.before.before.before.before.before.before.before.before.before.before) rs a.end a.count read many c.put_opening-first.ensures
@@ -158,5 +154,5 @@ returns-3 c =
 pub convert_rules_spec : {M : Type 1} → statement M
 convert_rules_spec =
     tie.close
-    (tie.spec (λ c κs. search rules) first-long-comment-requires returns moved-bits-requires (λ c. search rules) (λ c κs. search rules) returns-2
-    put-opening-requires move-rules-requires put-padding-requires (λ c. search rules) returns-3)
+    (tie.spec (λ c κs. search goal_rules) first-long-comment-requires returns moved-bits-requires (λ c. search goal_rules) (λ c κs. search goal_rules) returns-2
+    put-opening-requires move-rules-requires put-padding-requires (λ c. search goal_rules) returns-3)

@@ -70,7 +70,7 @@ loop-again c =
     let a = c.args in
     let loop = c.loop-rule in (
       omega (arith, c.loop-rule-test.true),
-      c.move_rule-next.auto.5 ∙ loop.invariant.1,
+      c.move_rule-next.auto.out ∙ loop.invariant.1,
       λ rs read room.
           let many = c.requires.2 ∙ ap length (rules-once c.requires.0 rs c.requires.1 read) in
           let here = turn c.before.before.before.before.before.before rs read many in

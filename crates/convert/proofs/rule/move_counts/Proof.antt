@@ -17,16 +17,16 @@ use Rattle.convert.proofs.rule.move_counts.Statement.{statement}
 use Rattle.convert.proofs.rule.move_counts.Tie as tie
 
 -- the counts that were read
-read : (c : tie.In-Counts) → let entry = c in let v = c.counts-1.given.0 in
-    (counts (as_form entry.args.form) sheet_limits).read (sheet_bits entry.args.sheet.now) entry.args.at
-    ≡ got (v.0, (v.1.0, (v.1.1.0, (v.1.1.1.0, v.1.1.1.1.0)))) v.1.1.1.1.1.0
+read : (c : tie.In-Counts) →
+    (counts (as_form c.args.form) sheet_limits).read (sheet_bits c.args.sheet.now) c.args.at
+    ≡ got (c.in-Counts.years, (c.in-Counts.monthdays, (c.in-Counts.weeks, (c.in-Counts.weekdays, c.in-Counts.spans)))) c.in-Counts.next
 read c = took-counts _ _ _ _ _ _ _ c.counts_at-counts.ensures c.in-Counts.is
 
 -- as the writer takes them
-same : (c : tie.After-item_counts-1) → let told = c in let v = told.before.counts.given.0 in
+same : (c : tie.After-item_counts-1) →
     counts_of (c.u64_to_u16.result ∷ c.u64_to_u16-in-Counts.result
-    ∷ c.u64_to_u16-in-Counts-2.result ∷ c.u64_to_u16-in-Counts-3.result ∷ []) v.1.1.1.1.0
-    ≡ (v.0, (v.1.0, (v.1.1.0, (v.1.1.1.0, v.1.1.1.1.0))))
+    ∷ c.u64_to_u16-in-Counts-2.result ∷ c.u64_to_u16-in-Counts-3.result ∷ []) c.in-Counts.spans
+    ≡ (c.in-Counts.years, (c.in-Counts.monthdays, (c.in-Counts.weeks, (c.in-Counts.weekdays, c.in-Counts.spans))))
 same c =
     row_counts _ _ _ _ _ _ _ _ _ c.u64_to_u16.ensures c.u64_to_u16-in-Counts.ensures
     c.u64_to_u16-in-Counts-2.ensures c.u64_to_u16-in-Counts-3.ensures
