@@ -6,6 +6,7 @@ use answers::{Folded, Written};
 
 // The standard streams' numbers.
 const STDIN_FILENO: i32 = 0;
+
 const STDOUT_FILENO: i32 = 1;
 
 fn print_refusal(name: &[u8], code: u64, place: u64) {

@@ -6,6 +6,7 @@ use answers::Folded;
 
 // The standard streams' numbers.
 const STDIN_FILENO: i32 = 0;
+
 const STDOUT_FILENO: i32 = 1;
 
 fn print_number(name: &[u8], number: u64) {

@@ -33,12 +33,7 @@ pub fn hours_fold(form: u64, sheet: &[u8], out: &mut [u8], lent: &mut [u64]) -> 
 }
 
 // The same by the plain engine.
-pub fn hours_fold_plain(
-    form: u64,
-    sheet: &[u8],
-    out: &mut [u8],
-    lent: &mut [u64],
-) -> bool
+pub fn hours_fold_plain(form: u64, sheet: &[u8], out: &mut [u8], lent: &mut [u64]) -> bool
     ensures { (result ≡ leb 7 (length lent.old))
         × (lent.new ≡ put result (numbers (fold_in sheet_limits form (length out.old) sheet.now)) lent.old)
         × (out.new ≡ put result (fold_in sheet_limits form (length out.old) sheet.now).result out.old) }
@@ -67,12 +62,7 @@ pub fn hours_lookup(
 }
 
 // Code, bytes, place.
-pub fn hours_write_back(
-    form: u64,
-    sheet: &[u8],
-    out: &mut [u8],
-    lent: &mut [u64],
-) -> bool
+pub fn hours_write_back(form: u64, sheet: &[u8], out: &mut [u8], lent: &mut [u64]) -> bool
     ensures { (result ≡ leb 3 (length lent.old))
         × (lent.new ≡ put result (written_numbers (write_back_in sheet_limits form (length out.old) sheet.now)) lent.old)
         × (out.new ≡ put result (write_back_in sheet_limits form (length out.old) sheet.now).result out.old) }

@@ -120,7 +120,12 @@ fn replay(file: &mut File, sort: Sort) -> io::Result<Tally> {
     })
 }
 
-fn replay_file(rt: &(impl Files<File = File> + Print), path: &str, sort: Sort, name: &str) -> io::Result<()> {
+fn replay_file(
+    rt: &(impl Files<File = File> + Print),
+    path: &str,
+    sort: Sort,
+    name: &str,
+) -> io::Result<()> {
     let mut file = File::open(rt, path)?;
     let tally = replay(&mut file, sort)?;
     let compared = tally.compared;

@@ -43,7 +43,7 @@ returns-2 : tie.Need-returns-then-same_day invariant-loop decreases-loop
 returns-2 c =
     let a = c.args in
     day-found (box_words a.states.now a.span_counts.now a.spans.now a.lists.now) _ _ _ c.requires.1.1.0 c.if-word_count-eq0.false _ c.loop-before.invariant.0
-        (sym c.if-same_day.true ∙ c.same_day.ensures)
+    (sym c.if-same_day.true ∙ c.same_day.ensures)
 
 loop-again : tie.Need-loop-before-preserved invariant-loop decreases-loop
 loop-again c =
@@ -73,4 +73,4 @@ find_day_spec =
     (λ c.
     let a = c.args in
     day-new (box_words a.states.now a.span_counts.now a.spans.now a.lists.now) _ _ _ c.requires.1.1.0 c.if-word_count-eq0.false _ c.loop-before.invariant.0
-        c.loop-before-test.false))
+    c.loop-before-test.false))

@@ -37,8 +37,7 @@ first_overlap_spec =
     (rule-asked _ _ _ rs days _ c.loop-rule-test.true _ c.rule_overlaps.ensures ∙ c.if-rule_overlaps.true))
     (λ c. omega (arith, c.loop-rule-test.true))
     (λ c. omega (arith, c.loop-rule-test.true))
-    (λ c.
-    (
+    (λ c. (
       omega (arith, c.loop-rule-test.true),
       λ rs days. none-next _ _ _ rs days _ (c.loop-rule.invariant.1 rs days)
           (rule-asked _ _ _ rs days _ c.loop-rule-test.true _ c.rule_overlaps.ensures ∙ c.if-rule_overlaps.false),

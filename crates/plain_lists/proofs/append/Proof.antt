@@ -19,7 +19,7 @@ based : (c : tie.Joined-replaces) → let a = c.args in c.if-replaces.count ≡ 
 based c =
     let a = c.args in
     elim c.if-replaces.branch [
-      then-replaces w ↦ based-none a.lists.now a.box_index a.replaces c.if-replaces.count w.if-replaces.true w.count-is
+      | then-replaces w ↦ based-none a.lists.now a.box_index a.replaces c.if-replaces.count w.if-replaces.true w.count-is
       | else-replaces w ↦ based-all a.lists.now a.box_index a.replaces c.if-replaces.count w.if-replaces.false w.count-is
     ]
 

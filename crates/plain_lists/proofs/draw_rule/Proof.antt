@@ -42,7 +42,7 @@ draw_rule_spec =
       omega (arith, c.loop-box_index-test.true),
       c.if-covers.auto.lists ∙ inv.1,
       elim c.if-covers.branch [
-        then-covers+else-not-append w ↦ subst (λ l. drawn l (box + 1)) (sym w.lists-is) (drawn-more _ _ _ _ _ c.requires.0.0 _ _ inv.2 c.loop-box_index-test.true _ _
+        | then-covers+else-not-append w ↦ subst (λ l. drawn l (box + 1)) (sym w.lists-is) (drawn-more _ _ _ _ _ c.requires.0.0 _ _ inv.2 c.loop-box_index-test.true _ _
             (sym c.covers.ensures ∙ w.if-covers.true) w.append.ensures (not-false _ w.if-not-append.false-raw))
         | else-covers w ↦ subst (λ l. drawn l (box + 1)) (sym w.lists-is) (drawn-clear _ _ _ _ _ c.requires.0.0 _ _ inv.2 c.loop-box_index-test.true
             (sym c.covers.ensures ∙ w.if-covers.false))

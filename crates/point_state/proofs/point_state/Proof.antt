@@ -27,8 +27,7 @@ point_state_spec =
     (λ c κs. let given = c.requires in each-there _ _ _ _ _ _ given.0 given.1 (moment_point c.args.moment) _ c.loop-rule-test.true)
     (λ c. omega (arith, c.loop-rule-test.true, c.well_formed))
     (λ c. omega (arith, c.loop-rule-test.true))
-    (λ c.
-    (
+    (λ c. (
       omega (arith, c.loop-rule-test.true),
       λ rs given. rw c.at_rule-found.ensures (state-next _ _ _ _ _ _ rs given _ _ _ c.loop-rule-test.true _ (c.loop-rule.invariant.1 rs given)),
     ))

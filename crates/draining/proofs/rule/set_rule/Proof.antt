@@ -12,8 +12,7 @@ use Rattle.draining.proofs.rule.set_rule.Tie as tie
 
 returns : tie.Need-returns-then-is_fallback
 returns c =
-    let v = c.title-1.given.0 in
-    set-fallback _ _ _ c.requires.0 v.0 v.1.0 v.1.1.0 _ _ _ (sym c.title_at-title.ensures ∙ ap as_title c.in-Title.is) _ _ _ _
+    set-fallback _ _ _ c.requires.0 c.in-Title.operator c.in-Title.kind c.in-Title.comment _ _ _ (sym c.title_at-title.ensures ∙ ap as_title c.in-Title.is) _ _ _ _
     c.is_fallback.ensures c.if-is_fallback.true
 
 state-number-requires : tie.Need-state_number-requires
@@ -24,8 +23,7 @@ state-number-requires c κs =
 
 returns-2 : tie.Need-returns-else-is_fallback
 returns-2 c =
-    let v = c.title-1.given.0 in
-    set-rule _ _ _ c.requires.0 v.0 v.1.0 v.1.1.0 _ _ _ (sym c.title_at-title.ensures ∙ ap as_title c.in-Title.is) _ _ _ _
+    set-rule _ _ _ c.requires.0 c.in-Title.operator c.in-Title.kind c.in-Title.comment _ _ _ (sym c.title_at-title.ensures ∙ ap as_title c.in-Title.is) _ _ _ _
     c.is_fallback.ensures _ _ _ c.if-is_fallback.false
     c.state_number.ensures c.u64_to_u8.ensures c.replace_number.ensures
 

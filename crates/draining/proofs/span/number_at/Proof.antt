@@ -29,7 +29,7 @@ at_once c =
     (c.simple_span.ensures c.if-simple_span.true _ _ c.wide_at-bits.ensures)
     (c.fixed_time-first.ensures ∙ ap (λ m. time_number (fixed m)) (c.u64_to_u16.ensures ∙ c.part.ensures))
     (c.fixed_time-last.ensures ∙ ap (λ m. time_number (fixed m)) (c.u64_to_u16-then-simple_span.ensures ∙ c.part-then-simple_span.ensures))
-    (c.open_bit.ensures ∙ ap (λ v. cond (eqb v 1) 1 0) c.part-then-simple_span-2.ensures) c.span_number.ensures
+    (c.open_bit.ensures ∙ ap (λ v. cond (eqb v 1) 1 0) c.part-then-simple_span-2.ensures) c.span-number.ensures
 
 pub number_at_spec : {M : Type 1} → statement M
 number_at_spec =

@@ -43,5 +43,5 @@ number_fields_spec =
     (tie.spec (λ c κs. search rules) (λ c. search rules) time-number-requires time-number-requires-2 (λ c κs. search rules) span-requires (λ c. search rules)
     (λ c.
     number-goes _ _ _ _ c.in-Span.open_end _ _ _ _ _ _ (sym c.span_at-read.ensures ∙ ap as_span c.in-Span.is)
-    c.time_number-first.ensures c.time_number-last.ensures c.open_bit.ensures c.span_number.ensures)
+    c.time_number-first.ensures c.time_number-last.ensures c.open_bit.ensures c.span-number.ensures)
     (λ c. number-stops _ _ _ _ (sym c.span_at-read.ensures ∙ ap as_span c.in-Refused.is)))

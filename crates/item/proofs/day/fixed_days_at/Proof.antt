@@ -25,8 +25,7 @@ fixed_days_at_spec =
     (via-stops _ _ _ _ _
     (then-stops-later _ _ _ _ (took _ _ _ c.weekday_at-first.ensures c.in-Value.is)
     (then-stops _ _ _ _ (stopped _ _ _ c.weekday_at-second.ensures c.in_default-second.is)))))
-    (λ c κs.
-    (
+    (λ c κs. (
       omega arith,
       omega (
         arith,
@@ -41,8 +40,7 @@ fixed_days_at_spec =
     (then-stops-later _ _ _ _ (took _ _ _ c.weekday_at-first.ensures c.in-Value.is)
     (then-stops-later _ _ _ _ (took _ _ _ c.weekday_at-second.ensures c.in-Value-second.is)
     (then-stops _ _ _ _ (stopped _ _ _ c.take_at-third.ensures c.in_default-third.is))))))
-    (λ c κs.
-    (
+    (λ c κs. (
       omega arith,
       omega (
         arith,
@@ -59,8 +57,7 @@ fixed_days_at_spec =
     (then-stops-later _ _ _ _ (took _ _ _ c.weekday_at-second.ensures c.in-Value-second.is)
     (then-stops-later _ _ _ _ (took _ _ _ c.take_at-third.ensures c.in-Value-third.is)
     (then-stops _ _ _ _ (stopped _ _ _ c.take_at-fourth.ensures c.in_default-fourth.is)))))))
-    (λ c κs.
-    (
+    (λ c κs. (
       omega arith,
       omega (
         arith,

@@ -27,8 +27,7 @@ year_range_at_spec =
     (via-stops _ _ _ _ _
     (then-stops-later _ _ _ _ (took _ _ _ c.year_at-first.ensures c.in-Value.is)
     (then-stops _ _ _ _ (stopped _ _ _ c.year_at-second.ensures c.in_default-second.is)))))
-    (λ c κs.
-    (
+    (λ c κs. (
       omega arith,
       omega (
         arith,

@@ -26,8 +26,7 @@ span_at_spec =
     (via-stops _ _ _ _ _
     (then-stops-later _ _ _ _ (took-time _ _ _ c.time_at-first.ensures c.in-Time.is)
     (then-stops _ _ _ _ (stopped-time _ _ _ c.time_at-second.ensures c.in_default-second.is)))))
-    (λ c κs.
-    (
+    (λ c κs. (
       omega arith,
       omega (
         arith,

@@ -12,8 +12,7 @@ time_width_spec =
     tie.close
     (tie.spec (λ c κs. search rules) (λ c. (omega arith, λ l s p wide. wide-variable wide (λ e. c.if-part-ne0.true (c.part.ensures ∙ e))))
     (λ c κs. search rules)
-    (λ c.
-    (
+    (λ c. (
       omega arith,
       λ l s p wide. wide-fixed wide (sym c.part.ensures ∙ c.if-part-ne0.false) (subst (◌≤ 2880) c.part-2.ensures c.if-part-le2880.true),
     ))

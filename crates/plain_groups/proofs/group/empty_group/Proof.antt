@@ -37,7 +37,7 @@ loop-again c =
     let marked = c.is_marked.ensures in
     let cell : c.loop-box_index.box_index < length c.loop-box_index.cells = omega (arith, room-size _ _ _ _ _ _ c.requires, c.size_of-boxes.ensures, inv.1, on) in
     elim c.if-is_marked.branch [
-      then-is_marked w ↦ (omega (arith, on), ap length w.cells-is ∙ simp length-set inv.1, emptied-in _ _ _ _ _ _ _ _ inv.2 marked w.if-is_marked.true cell w.cells-is)
+      | then-is_marked w ↦ (omega (arith, on), ap length w.cells-is ∙ simp length-set inv.1, emptied-in _ _ _ _ _ _ _ _ inv.2 marked w.if-is_marked.true cell w.cells-is)
       | else-is_marked w ↦ (omega (arith, on), ap length w.cells-is ∙ inv.1, emptied-out _ _ _ _ _ _ _ _ inv.2 marked w.if-is_marked.false w.cells-is)
     ]
 

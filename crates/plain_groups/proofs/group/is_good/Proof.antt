@@ -57,7 +57,7 @@ loop-again c =
       omega (arith, on),
       are-more _ _ _ _ _ _ _ _ inv.2
           (elim c.if-cells-box_index.branch [
-            then-cells-box_index+else-is_marked w ↦ λ m. absurd (false≢true (sym w.if-is_marked.false ∙ w.is_marked.ensures ∙ m))
+            | then-cells-box_index+else-is_marked w ↦ λ m. absurd (false≢true (sym w.if-is_marked.false ∙ w.is_marked.ensures ∙ m))
             | else-cells-box_index w ↦ λ m. w.if-cells-box_index.false
           ]),
     )

@@ -31,8 +31,7 @@ counts_over_spec =
     (λ c.
     many-kinds _ _ _ _ _ c.note-count.ensures.1 (omega (arith, c.loop-box_index-test.true)) (sym c.lists_over.ensures ∙ c.if-lists_over.true))
     (λ c. search rules) (λ c. search rules)
-    (λ c.
-    (
+    (λ c. (
       omega (arith, c.loop-box_index-test.true),
       c.note-count.auto.kinds ∙ c.loop-box_index.invariant.1,
       ltb-false 512 c.note-count.result (sym c.lists_over.ensures ∙ c.if-lists_over.false),

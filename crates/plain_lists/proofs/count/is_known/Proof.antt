@@ -42,8 +42,7 @@ is_known_spec =
     (omega arith) (omega (arith, c.loop-kind-test.true)) (sym (compared c.before) ∙ c.if-same_list.true)))
     (λ c. search rules) (λ c. search rules)
     (λ c.
-    let a = c.args in
-    (
+    let a = c.args in (
       omega (arith, c.loop-kind-test.true),
       below_more (λ k. same_list eqb (list_of a.lists.now (get_or a.kinds.now k 0)) (list_of a.lists.now a.box_index) ≡ false) c.loop-kind.kind c.loop-kind.invariant.1
           (sym (compared c.before) ∙ c.if-same_list.false),

@@ -45,8 +45,7 @@ covers_spec =
     covers-no _ _ _ _ _ _ _ _ _ _ _ c.u16_to_usize.ensures.0 c.digit.ensures c.holds_in.ensures
     c.loop-dimension-test.true (not-true _ c.if-not-holds_in.true-raw))
     (λ c. omega (arith, c.loop-dimension-test.true)) (λ c. omega (arith, c.loop-dimension-test.true))
-    (λ c.
-    (
+    (λ c. (
       omega (arith, c.loop-dimension-test.true),
       covers-next _ _ _ _ _ _ _ _ _ _ _ c.u16_to_usize.ensures.0 c.digit.ensures c.holds_in.ensures
           c.loop-dimension.invariant.1 (not-false _ c.if-not-holds_in.false-raw),

@@ -22,8 +22,7 @@ in_ranges_spec =
     (λ c.
     in-yes _ _ _ c.loop-range.range _ c.in_range.ensures _ c.loop-range-test.true c.if-in_range.true)
     (λ c. search rules) (λ c. search rules)
-    (λ c.
-    (
+    (λ c. (
       omega (arith, c.loop-range-test.true),
       in-next _ _ _ c.loop-range.range _ c.in_range.ensures c.loop-range.invariant.1 c.if-in_range.false,
     ))

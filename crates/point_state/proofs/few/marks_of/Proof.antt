@@ -35,8 +35,7 @@ marks_of_spec =
     (λ c κs. search rules)
     (λ c. search (rules, fits c.before.before, c.bit.ensures.1))
     (λ c. search rules) (λ c. search rules)
-    (λ c.
-    (
+    (λ c. (
       omega (arith, c.loop-rule-test.true),
       marks-more _ _ _ _ _ _ _ _ c.loop-rule.invariant.1 c.holds_in.ensures c.bit.ensures.0,
     ))

@@ -28,8 +28,7 @@ check_rules_spec =
     tie.close
     (tie.spec (λ c κs. search rules) (λ c. search rules) ended-at-requires (λ c κs. search rules) (λ c. search rules)
     (λ c. search rules)
-    (λ c.
-    (
+    (λ c. (
       c.of.ensures ∙ ap (and_then (λ u e. got _ e)) c.ended_at.ensures
           ∙ sym (rules-go _ _ _ _ _ (went _ _ c.rules_end-step.ensures.0 c.in-At.is)),
       c.rules_end-step.ensures.1,
