@@ -11,13 +11,13 @@ use Rattle.plain.proofs.fold_lists.Tie as tie
 
 -- ## What numbering the days leaves
 abbrev pages : tie.After-number_lists → List ℕ
-pages c = c.number_lists.new.1.1.1.1.1.0
+pages c = c.number_lists.new.hashes
 
 abbrev numbers : tie.After-number_lists → List ℕ
-numbers c = c.number_lists.new.1.1.1.1.1.1.0
+numbers c = c.number_lists.new.numbers
 
 abbrev classes : tie.After-number_lists → List ℕ
-classes c = c.number_lists.new.1.1.1.1.1.1.1.0
+classes c = c.number_lists.new.classes
 
 -- as many numbers as boxes are lent
 whole : (c : tie.After-size_of-boxes) → c.size_of-boxes.result + 1 - 1 ≡ c.size_of-boxes.result
@@ -42,8 +42,8 @@ pop-pages-requires c κs =
     let given = c.requires.0 in
     own-popped a.states.now a.span_counts.now a.spans.now a.row_starts.now a.sizes.now a.cuts.now a.lists.now given.0 given.1 given.2
     (numbers c.before.before.before.before.before.before.before.before.before) (classes c.before.before.before.before.before.before.before.before.before) _ _ c.size_of-boxes.ensures (whole c.before.before.before.before.before.before.before.before.before.before.before.before.before.before.before)
-    (omega (arith, c.requires.1.0, c.number_lists.auto.6)) c.number_lists.ensures _ _
-    (omega (arith, given.2.few-boxes, c.marks-marks.ensures)) (omega (arith, c.requires.1.1, c.number_lists.auto.5))
+    (omega (arith, c.requires.1.0, c.number_lists.auto.numbers)) c.number_lists.ensures _ _
+    (omega (arith, given.2.few-boxes, c.marks-marks.ensures)) (omega (arith, c.requires.1.1, c.number_lists.auto.hashes))
 
 count-pages-requires : tie.Need-count_pages-requires
 count-pages-requires c κs =
@@ -51,17 +51,17 @@ count-pages-requires c κs =
     let given = c.requires.0 in
     let ended = own-ended a.states.now a.span_counts.now a.spans.now a.row_starts.now a.sizes.now a.cuts.now a.lists.now given.0 given.1 given.2
     (numbers c.before.before.before.before.before.before.before.before.before.before.before.before.before.before.before) (classes c.before.before.before.before.before.before.before.before.before.before.before.before.before.before.before) _ _ c.size_of-boxes.ensures (whole c.before.before.before.before.before.before.before.before.before.before.before.before.before.before.before.before.before.before.before.before.before)
-    (omega (arith, c.requires.1.0, c.number_lists.auto.6)) c.number_lists.ensures (pages c.before.before.before.before.before.before.before.before.before.before.before.before.before.before.before) _
-    (omega (arith, c.requires.1.1, c.number_lists.auto.5)) c.pop_pages-stop.ensures.1 _ c.pop_pages-stop.ensures.0 in
-    (ended.0, omega (arith, ended.1, c.pop_pages-stop.auto.6))
+    (omega (arith, c.requires.1.0, c.number_lists.auto.numbers)) c.number_lists.ensures (pages c.before.before.before.before.before.before.before.before.before.before.before.before.before.before.before) _
+    (omega (arith, c.requires.1.1, c.number_lists.auto.hashes)) c.pop_pages-stop.ensures.1 _ c.pop_pages-stop.ensures.0 in
+    (ended.0, omega (arith, ended.1, c.pop_pages-stop.auto.pages))
 
 returns : tie.Need-returns
 returns c =
     let a = c.args in
     λ rs form times given commented. own-folded a.states.now a.span_counts.now a.spans.now a.row_starts.now a.sizes.now a.cuts.now a.lists.now rs times given
     (numbers c.before.before.before.before.before.before.before.before.before.before.before.before.before.before.before.before) (classes c.before.before.before.before.before.before.before.before.before.before.before.before.before.before.before.before) _ _ c.size_of-boxes.ensures (whole c.before.before.before.before.before.before.before.before.before.before.before.before.before.before.before.before.before.before.before.before.before.before)
-    (omega (arith, c.requires.1.0, c.number_lists.auto.6)) c.number_lists.ensures (pages c.before.before.before.before.before.before.before.before.before.before.before.before.before.before.before.before) _
-    (omega (arith, c.requires.1.1, c.number_lists.auto.5)) c.pop_pages-stop.ensures.1 _ c.pop_pages-stop.ensures.0 form commented _
+    (omega (arith, c.requires.1.0, c.number_lists.auto.numbers)) c.number_lists.ensures (pages c.before.before.before.before.before.before.before.before.before.before.before.before.before.before.before.before) _
+    (omega (arith, c.requires.1.1, c.number_lists.auto.hashes)) c.pop_pages-stop.ensures.1 _ c.pop_pages-stop.ensures.0 form commented _
     c.count_pages.ensures
 
 pub fold_lists_spec : {M : Type 1} → statement M
