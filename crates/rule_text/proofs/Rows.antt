@@ -1,7 +1,7 @@
 -- Rows of items: their tales step by step, and how many bits they take at most.
 use mathlib.Core.Path.{◌≡◌, refl, sym, ap, ap₂, ◌∙◌}
 use mathlib.Core.List.{List, [], ◌∷◌, ◌++◌, append-nil, append_assoc}
-use mathlib.Core.Bool.{Bool, true, false, ◌||◌, or-false}
+use mathlib.Core.Bool.{Bool, true, false, not, ◌||◌, or-false}
 use Prim.Native.Nat.{ℕ, zero, suc, ◌+◌, ◌*◌, ◌-◌, ◌≤◌, ◌<◌}
 use native.Mathlib.Omega.{arith}
 use lib.Dec.{eqb}
@@ -10,7 +10,9 @@ use borrow.Author.Tests.{eq-eqb, ne_eqb, eqb-true, eqb-false}
 use Rattle.laws.proofs.Flags.{or_assoc}
 use Rattle.definition.specs.Field.{Read, got, refused, Layout}
 use Rattle.definition.specs.Sheet.{year_range, monthday_range, week_range, week_day_range, span}
+use Rattle.definition.specs.Stop.{monthday_stops, weekday_stops}
 use Rattle.definition.specs.Text.{Text, ascii}
+use Rattle.definition.specs.Line.{year_text, month_text, week_text, weekday_text, is_plain, span_text}
 use Rattle.definition.proofs.Reading.{Short}
 use Rattle.definition.proofs.Lengths.{years-short, monthdays-short, weeks-short, weekdays-short, span-short}
 use Rattle.item.proofs.Sorts.{of-each}
@@ -33,9 +35,9 @@ told-near L T wordless n short l s p = go (L.read s p) refl
 
 pub item-near : (sort : ℕ) (s : List ℕ) (p : ℕ) → (item_told sort s p).next ≤ p + 52
 item-near sort s p =
-    of-each _ _ _ _ _ sort s p (λ (x : Tale). x.next ≤ p + 52) (told-near year_range _ _ 44 years-short (omega arith) s p)
-    (told-near monthday_range _ _ 34 monthdays-short (omega arith) s p) (told-near week_range _ _ 20 weeks-short (omega arith) s p)
-    (told-near week_day_range _ _ 33 weekdays-short (omega arith) s p) (told-near span _ _ 52 span-short (omega arith) s p)
+    of-each _ _ _ _ _ sort s p (λ (x : Tale). x.next ≤ p + 52) (told-near year_range year_text (λ y. false) 44 years-short (omega arith) s p)
+    (told-near monthday_range month_text monthday_stops 34 monthdays-short (omega arith) s p) (told-near week_range week_text (λ w. false) 20 weeks-short (omega arith) s p)
+    (told-near week_day_range weekday_text weekday_stops 33 weekdays-short (omega arith) s p) (told-near span span_text (λ x. not (is_plain x)) 52 span-short (omega arith) s p)
 
 -- ## The items behind the first, one by one
 -- what is put so far, and that what is left follows it

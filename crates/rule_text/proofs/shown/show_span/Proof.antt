@@ -19,13 +19,12 @@ use Rattle.rule_text.proofs.shown.show_span.Tie as tie
 put-span-requires : tie.Need-put_span-requires
 put-span-requires c κs =
     let args = c.args in
-    let v = c.read-1.given.0 in
-    let x = span_of (as_time v.0, (as_time v.1.0, (v.1.1.0, repeats_from v.1.1.1.0))) in
+    let x = span_of (as_time c.in-Span.start, (as_time c.in-Span.end, (c.in-Span.open_end, repeats_from c.in-Span.repeats))) in
     let read = sym c.span_at-read.ensures ∙ ap as_span c.in-Span.is in
     let plain = sym c.plain.ensures ∙ c.if-plain.true in
     let small =
     span-times args.sheet.now (known_bytes args.sheet.now (λ j. omega (arith, c.shared_slice_known-1.given j))) args.at x _ read plain in
-    let same = ap₂ (λ a b. plain_span a b (eqb v.1.1.0 1)) c.minutes.ensures c.minutes-then-plain.ensures ∙ span-item x plain in (
+    let same = ap₂ (λ a b. plain_span a b (eqb c.in-Span.open_end 1)) c.minutes.ensures c.minutes-then-plain.ensures ∙ span-item x plain in (
       omega (arith, small.0, c.minutes.ensures),
       omega (arith, small.1, c.minutes-then-plain.ensures),
       omega (arith, got-within span_text (λ y. not (is_plain y)) _ _ args.place x _ read c.requires.1, ap length same),
@@ -33,17 +32,15 @@ put-span-requires c κs =
 
 returns : tie.Need-returns-then-plain
 returns c =
-    let v = c.read-1.given.0 in
-    let x = span_of (as_time v.0, (as_time v.1.0, (v.1.1.0, repeats_from v.1.1.1.0))) in
+    let x = span_of (as_time c.in-Span.start, (as_time c.in-Span.end, (c.in-Span.open_end, repeats_from c.in-Span.repeats))) in
     let plain = sym c.plain.ensures ∙ c.if-plain.true in
-    let same = ap₂ (λ a b. plain_span a b (eqb v.1.1.0 1)) c.minutes.ensures c.minutes-then-plain.ensures ∙ span-item x plain in
+    let same = ap₂ (λ a b. plain_span a b (eqb c.in-Span.open_end 1)) c.minutes.ensures c.minutes-then-plain.ensures ∙ span-item x plain in
     got-shows span_text (λ y. not (is_plain y)) _ _ _ x _ _ _ (sym c.span_at-read.ensures ∙ ap as_span c.in-Span.is) (sym (ap not plain))
     (put_as same c.put_span.ensures)
 
 returns-2 : tie.Need-returns-else-plain
 returns-2 c =
-    let v = c.read-1.given.0 in
-    let x = span_of (as_time v.0, (as_time v.1.0, (v.1.1.0, repeats_from v.1.1.1.0))) in
+    let x = span_of (as_time c.in-Span.start, (as_time c.in-Span.end, (c.in-Span.open_end, repeats_from c.in-Span.repeats))) in
     let not_plain = sym c.plain.ensures ∙ c.if-plain.false in
     got-silent span_text (λ y. not (is_plain y)) _ _ _ x _ _ (sym c.span_at-read.ensures ∙ ap as_span c.in-Span.is) (ap not not_plain)
     (span-silent x not_plain) c.silent.ensures

@@ -16,28 +16,25 @@ use Rattle.rule_text.proofs.shown.show_weekdays.Tie as tie
 put-item-requires : tie.Need-put_item-requires
 put-item-requires c κs =
     let args = c.args in
-    let v = c.read-1.given.0 in
     let read = sym c.week_day_range_at-read.ensures ∙ ap as_week_day c.in-Fixed.is in
     let fit =
     weekday-ends args.sheet.now (known_bytes args.sheet.now (λ j. omega (arith, c.shared_slice_known-1.given j))) args.at _ _ _ _ _ _
     read in
-    let same = weekday-item v.0 v.1.0 v.1.1.0 v.1.1.1.0 v.1.1.1.1.0
-    (weekdays-stand v.0 v.1.0 v.1.1.0 v.1.1.1.0 v.1.1.1.1.0 _ c.every_week.ensures c.if-every_week.true) in
+    let same = weekday-item c.in-Fixed.first c.in-Fixed.last c.in-Fixed.offset c.in-Fixed.from_start c.in-Fixed.from_end
+    (weekdays-stand c.in-Fixed.first c.in-Fixed.last c.in-Fixed.offset c.in-Fixed.from_start c.in-Fixed.from_end _ c.every_week.ensures c.if-every_week.true) in
     (fit.0, fit.1, omega (arith, got-within weekday_text weekday_stops _ _ args.place _ _ read c.requires.1, ap length same))
 
 returns : tie.Need-returns-then-every_week
 returns c =
-    let v = c.read-1.given.0 in
     let stand =
-    weekdays-stand v.0 v.1.0 v.1.1.0 v.1.1.1.0 v.1.1.1.1.0 _ c.every_week.ensures c.if-every_week.true in
+    weekdays-stand c.in-Fixed.first c.in-Fixed.last c.in-Fixed.offset c.in-Fixed.from_start c.in-Fixed.from_end _ c.every_week.ensures c.if-every_week.true in
     got-shows weekday_text weekday_stops _ _ _ _ _ _ _ (sym c.week_day_range_at-read.ensures ∙ ap as_week_day c.in-Fixed.is)
-    (sym stand) (put_as (weekday-item v.0 v.1.0 v.1.1.0 v.1.1.1.0 v.1.1.1.1.0 stand) c.put_item.ensures)
+    (sym stand) (put_as (weekday-item c.in-Fixed.first c.in-Fixed.last c.in-Fixed.offset c.in-Fixed.from_start c.in-Fixed.from_end stand) c.put_item.ensures)
 
 returns-2 : tie.Need-returns-else-every_week
 returns-2 c =
-    let v = c.read-1.given.0 in
     let moved =
-    weekdays-moved v.0 v.1.0 v.1.1.0 v.1.1.1.0 v.1.1.1.1.0 _ c.every_week.ensures c.if-every_week.false in
+    weekdays-moved c.in-Fixed.first c.in-Fixed.last c.in-Fixed.offset c.in-Fixed.from_start c.in-Fixed.from_end _ c.every_week.ensures c.if-every_week.false in
     got-silent weekday_text weekday_stops _ _ _ _ _ _ (sym c.week_day_range_at-read.ensures ∙ ap as_week_day c.in-Fixed.is) moved
     (weekday-silent _ moved) c.silent.ensures
 
