@@ -27,11 +27,11 @@ page-size-requires c κs =
 
 add-measure-page : tie.Need-overflow_add-here invariant-loop decreases-loop
 add-measure-page c =
-    omega (arith, (measured-page c.loop-pages_left.invariant.0 c.loop-pages_left-test.true).inside, c.page_size-size.ensures, c.good)
+    omega (arith, (measured-page c.loop-pages_left.invariant.0 c.loop-pages_left-test.true).inside, c.page_size-size.ensures, c.well_formed)
 
 mul-measure-page : tie.Need-offset_bounds-pages-here invariant-loop decreases-loop
 mul-measure-page c =
-    omega (arith, (measured-page c.loop-pages_left.invariant.0 c.loop-pages_left-test.true).inside, c.page_size-size.ensures, c.good)
+    omega (arith, (measured-page c.loop-pages_left.invariant.0 c.loop-pages_left-test.true).inside, c.page_size-size.ensures, c.well_formed)
 
 part-measure-page-end : tie.Need-slice_bounds-measure_page-end invariant-loop decreases-loop
 part-measure-page-end c =
@@ -52,9 +52,9 @@ add-bits : tie.Need-overflow_add-bits invariant-loop decreases-loop
 add-bits c =
     omega (arith, c.loop-pages_left.invariant.0.short, c.loop-pages_left-test.true, c.measure_page-page.ensures.4, c.requires.1.0)
 
-add-here : tie.Need-overflow_add-here invariant-loop decreases-loop
+add-here : tie.Need-overflow_add-here-in-loop-pages_left invariant-loop decreases-loop
 add-here c =
-    omega (arith, (measured-page c.loop-pages_left.invariant.0 c.loop-pages_left-test.true).inside, c.page_size-size.ensures, c.good)
+    omega (arith, (measured-page c.loop-pages_left.invariant.0 c.loop-pages_left-test.true).inside, c.page_size-size.ensures, c.well_formed)
 
 loop-again : tie.Need-loop-pages_left-preserved invariant-loop decreases-loop
 loop-again c =
@@ -62,8 +62,8 @@ loop-again c =
     let page = c.measure_page-page.ensures in (
       measured-more inv.0 c.loop-pages_left-test.true c.page_size-size.ensures page.0 page.1 page.2 page.3 page.4,
       page.5,
-      c.measure_page-page.auto.1 ∙ inv.2,
-      c.measure_page-page.auto.2 ∙ inv.3,
+      c.measure_page-page.auto.book ∙ inv.2,
+      c.measure_page-page.auto.notes ∙ inv.3,
     )
 
 returns : tie.Need-returns invariant-loop decreases-loop

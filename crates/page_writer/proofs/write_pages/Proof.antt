@@ -28,11 +28,11 @@ page-size-requires c κs =
 
 add-write-page : tie.Need-overflow_add-here invariant-loop decreases-loop
 add-write-page c =
-    omega (arith, (writing-page c.loop-pages_left.invariant.0 c.loop-pages_left-test.true).inside, c.page_size-size.ensures, c.good)
+    omega (arith, (writing-page c.loop-pages_left.invariant.0 c.loop-pages_left-test.true).inside, c.page_size-size.ensures, c.well_formed)
 
 mul-write-page : tie.Need-offset_bounds-pages-here invariant-loop decreases-loop
 mul-write-page c =
-    omega (arith, (writing-page c.loop-pages_left.invariant.0 c.loop-pages_left-test.true).inside, c.page_size-size.ensures, c.good)
+    omega (arith, (writing-page c.loop-pages_left.invariant.0 c.loop-pages_left-test.true).inside, c.page_size-size.ensures, c.well_formed)
 
 part-write-page-end : tie.Need-slice_bounds-write_page-end invariant-loop decreases-loop
 part-write-page-end c =
@@ -48,20 +48,20 @@ write-page-requires c κs =
       (inv.1, (page-countable inv.0 some long, page-room inv.0 some long)),
     )
 
-add-here : tie.Need-overflow_add-here invariant-loop decreases-loop
+add-here : tie.Need-overflow_add-here-in-loop-pages_left invariant-loop decreases-loop
 add-here c =
-    omega (arith, (writing-page c.loop-pages_left.invariant.0 c.loop-pages_left-test.true).inside, c.page_size-size.ensures, c.good)
+    omega (arith, (writing-page c.loop-pages_left.invariant.0 c.loop-pages_left-test.true).inside, c.page_size-size.ensures, c.well_formed)
 
 loop-again : tie.Need-loop-pages_left-preserved invariant-loop decreases-loop
 loop-again c =
     let inv = c.loop-pages_left.invariant in
     let written = c.write_page-written.ensures in
-    let kept = c.write_page-written.auto.1 in (
+    let kept = c.write_page-written.auto in (
       writing_more inv.0 c.loop-pages_left-test.true c.page_size-size.ensures written.0,
       written.1,
-      kept.0 ∙ inv.2,
-      kept.1.1.0 ∙ inv.3,
-      kept.1.1.1.0 ∙ inv.4,
+      kept.out ∙ inv.2,
+      kept.book ∙ inv.3,
+      kept.notes ∙ inv.4,
     )
 
 pub write_pages_spec : {M : Type 1} → statement M

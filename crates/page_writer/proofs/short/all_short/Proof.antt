@@ -19,19 +19,15 @@ abbrev decreases-loop : tie.decreases-loop-pages_left
 decreases-loop lists pages count here₀ left₀ here left = left
 
 -- the page at which the loop is
-module _ (c : tie.In-loop invariant-loop decreases-loop) where
-  abbrev entry : tie.Start invariant-loop decreases-loop
-  entry = c.before.before.before.before
+here-ready : (c : tie.In-loop-pages_left invariant-loop decreases-loop) → let given = c.requires in
+    PageReady given.0 given.1 given.2 given.3 c.args.lists.now c.args.pages.now day_room c.loop-pages_left.here
+here-ready c = next-ready c.loop-pages_left.invariant c.loop-pages_left-test.true c.requires.4
 
-  here-ready : let given = entry.pre in
-      PageReady given.0 given.1 given.2 given.3 entry.args.lists.now entry.args.pages.now day_room c.before.loop.here
-  here-ready = let given = entry.pre in next-ready c.before.loop.invariant c.loop-test.true given.4
-
-named : (c : tie.After-u16_to_usize-place invariant-loop decreases-loop) → c.u16_to_usize-place.result - 1 ≡ get_or (entry c).args.pages.now c.loop-pages_left.here 0 - 1
+named : (c : tie.After-u16_to_usize-place invariant-loop decreases-loop) → c.u16_to_usize-place.result - 1 ≡ get_or c.args.pages.now c.loop-pages_left.here 0 - 1
 named c = ap (◌- 1) c.u16_to_usize-place.ensures.0
 
-inside : (c : tie.After-u16_to_usize-place invariant-loop decreases-loop) → (c.u16_to_usize-place.result - 1) * list_places + list_places ≤ length (entry c).args.lists.now
-inside c = omega (arith, named c, (here-ready c).ready.there)
+inside : (c : tie.After-u16_to_usize-place invariant-loop decreases-loop) → (c.u16_to_usize-place.result - 1) * list_places + list_places ≤ length c.args.lists.now
+inside c = omega (arith, named c, (here-ready c.before.before).ready.there)
 
 loop-again : tie.Need-loop-pages_left-preserved invariant-loop decreases-loop
 loop-again c =
@@ -42,18 +38,18 @@ pub all_short_spec : {M : Type 1} → statement M
 all_short_spec =
     tie.close
     (tie.spec invariant-loop decreases-loop (λ c. none_passed _ _ _)
-    (λ c. omega (arith, (here-ready c).inside, (entry c).well_formed))
-    (λ c. omega (arith, (here-ready c).inside, size_low (entry c).args.pages.now c.loop-pages_left.here))
+    (λ c. omega (arith, (here-ready c).inside, c.well_formed))
+    (λ c. omega (arith, (here-ready c.before).inside, size_low c.args.pages.now c.loop-pages_left.here))
     (λ c κs. search rules)
-    (λ c. omega (arith, (here-ready c).numbered, c.u16_to_usize-place.ensures.0))
-    (λ c. omega (arith, inside c, (entry c).good))
-    (λ c. omega (arith, inside c, (entry c).good))
+    (λ c. omega (arith, (here-ready c.before.before).numbered, c.u16_to_usize-place.ensures.0))
+    (λ c. omega (arith, inside c, c.well_formed))
+    (λ c. omega (arith, inside c, c.well_formed))
     (λ c. omega (arith, inside c.before))
     (λ c e. absurd (true≢false (sym e)))
     (λ c κs.
-    omega (arith, (here-ready c).inside, size_low (entry c).args.pages.now c.loop-pages_left.here))
+    omega (arith, (here-ready c.before.before.before.before).inside, size_low c.args.pages.now c.loop-pages_left.here))
     (λ c.
-    omega (arith, (here-ready c).inside, c.page_size-here.ensures, (entry c).well_formed))
+    omega (arith, (here-ready c.before.before.before.before.before).inside, c.page_size-here.ensures, c.well_formed))
     (λ c. omega (arith, c.loop-pages_left-test.true))
     (λ c. omega (arith, c.loop-pages_left-test.true))
     loop-again
