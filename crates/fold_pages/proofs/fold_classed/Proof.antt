@@ -23,7 +23,7 @@ number-lists-requires c κs =
 
 rename-requires : tie.Need-rename-requires
 rename-requires c κs =
-    λ box. omega (arith, c.requires.0.2.stored.store.names box, c.requires.1.0, c.number_lists.auto.6)
+    λ box. omega (arith, c.requires.0.2.stored.store.names box, c.requires.1.0, c.number_lists.auto.numbers)
 
 pop-groups-requires : tie.Need-pop_groups-stop-requires
 pop-groups-requires c κs =
@@ -31,15 +31,15 @@ pop-groups-requires c κs =
     let a = c.args in
     let given = c.requires.0 in
     let cut = given.2.cut in
-    let one_Cell = c.rename.auto.0 ∙ given.2.one_Cell in (
-      (one_Cell, given.2.few_boxes, record { dims = omega (arith, cut.four); filled = cut.filled; below = omega (arith, one_Cell) }),
+    let one_cell = c.rename.auto.cells ∙ given.2.one_cell in (
+      (one_cell, given.2.few-boxes, record { dims = omega (arith, cut.four); filled = cut.filled; below = omega (arith, one_cell) }),
       (
         rows_cut a.states.now a.span_counts.now a.spans.now given.0 given.1 a.row_starts.now a.sizes.now a.cuts.now
             a.cells.now a.lists.now a.used (store-names _ _ _ _ _ _ _ given.2),
         (
           empty-class a.states.now a.span_counts.now a.spans.now a.row_starts.now a.sizes.now a.cuts.now a.lists.now
               a.cells.now _ _ _ a.used given.0 given.1 (store-names _ _ _ _ _ _ _ given.2) numbered.ensures c.rename.ensures,
-          omega (arith, c.requires.1.3, numbered.auto.5),
+          omega (arith, c.requires.1.3, numbered.auto.hashes),
         ),
       ),
     )
@@ -51,9 +51,9 @@ count-pages-requires c κs =
     let a = c.args in
     let given = c.requires.0 in
     let ended = pages-end a.states.now a.span_counts.now a.spans.now a.row_starts.now a.sizes.now a.cuts.now a.lists.now
-    a.cells.now _ _ _ a.used given.0 given.1 (store-names _ _ _ _ _ _ _ given.2) numbered.ensures c.rename.ensures numbered.last.1.1.1.1.1.0 _
-    (omega (arith, c.requires.1.3, numbered.auto.5)) popped.ensures.1 _ popped.ensures.0 in
-    (ended.0, omega (arith, ended.1, popped.auto.5))
+    a.cells.now _ _ _ a.used given.0 given.1 (store-names _ _ _ _ _ _ _ given.2) numbered.ensures c.rename.ensures numbered.new.hashes _
+    (omega (arith, c.requires.1.3, numbered.auto.hashes)) popped.ensures.1 _ popped.ensures.0 in
+    (ended.0, omega (arith, ended.1, popped.auto.pages))
 
 returns : tie.Need-returns
 returns c =
@@ -61,8 +61,8 @@ returns c =
     let numbered = c.number_lists in
     let a = c.args in
     λ rs form tables boxed commented. pages-folded a.states.now a.span_counts.now a.spans.now a.row_starts.now a.sizes.now a.cuts.now
-    a.lists.now a.cells.now _ _ _ a.used rs tables (store-names _ _ _ _ _ _ _ boxed) numbered.ensures c.rename.ensures numbered.last.1.1.1.1.1.0 _
-    (omega (arith, c.requires.1.3, numbered.auto.5)) popped.ensures.1 _ popped.ensures.0 form commented _ c.count_pages.ensures
+    a.lists.now a.cells.now _ _ _ a.used rs tables (store-names _ _ _ _ _ _ _ boxed) numbered.ensures c.rename.ensures numbered.new.hashes _
+    (omega (arith, c.requires.1.3, numbered.auto.hashes)) popped.ensures.1 _ popped.ensures.0 form commented _ c.count_pages.ensures
 
 pub fold_classed_spec : {M : Type 1} → statement M
 fold_classed_spec =
