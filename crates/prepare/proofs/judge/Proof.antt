@@ -15,14 +15,14 @@ returns-2 : tie.Need-returns-then-boxes_over
 unfolding JudgesDays
 returns-2 c =
     λ ds days.
-    boxes-refused ds _ _ (c.first_overlap-twice.ensures ds days) c.if-twice-rules.false _ (c.Cut-all.ensures ds days).0
+    boxes-refused ds _ _ (c.first_overlap-twice.ensures ds days) c.if-twice-rules.false _ (c.cut_all-boxes.ensures ds days).0
     (ltb-true _ _ (sym c.boxes_over.ensures ∙ c.if-boxes_over.true))
 
 returns-3 : tie.Need-returns
 unfolding JudgesDays
 returns-3 c =
     λ ds days.
-    let there = c.Cut-all.ensures ds days in (
+    let there = c.cut_all-boxes.ensures ds days in (
       refl,
       refl,
       there.1,
@@ -38,9 +38,9 @@ judge_spec =
     returns
     (λ c κs. let pre = c.requires in (pre.0, pre.1))
     (λ c κs. search rules)
-    (λ c. c.Cut-all.auto.0)
-    (λ c. c.Cut-all.auto.1)
-    (λ c. c.Cut-all.auto.2) returns-2
-    (λ c. c.Cut-all.auto.0)
-    (λ c. c.Cut-all.auto.1)
-    (λ c. c.Cut-all.auto.2) returns-3)
+    (λ c. c.cut_all-boxes.auto.cuts)
+    (λ c. c.cut_all-boxes.auto.sizes)
+    (λ c. c.cut_all-boxes.auto.row_starts) returns-2
+    (λ c. c.cut_all-boxes.auto.cuts)
+    (λ c. c.cut_all-boxes.auto.sizes)
+    (λ c. c.cut_all-boxes.auto.row_starts) returns-3)
