@@ -67,70 +67,70 @@ fn agrees_body(sort: Sort, form: u64, body: &[u8], length: usize, out: &mut [u8]
 
 // The file's next record, compared: the form in eight bytes, the sheet's length, the length of all that follows, the sheet, and what is told of it.
 // A file that ends behind the three numbers differs.
-fn compare_record(
-    file: &mut File,
-    sort: Sort,
-    body: &mut [u8],
-    out: &mut [u8],
-) -> io::Result<Compared> {
+fn compare_record(file: &mut File, sort: Sort, body: &mut [u8], out: &mut [u8]) -> Compared {
     let mut numbers = [0u8; 14];
-    if record::read_full(file, &mut numbers)? < 14 {
-        return Ok(Compared::NoRecord);
+    if record::read_full(file, &mut numbers) < 14 {
+        return Compared::NoRecord;
     }
     let form = record::long_number(&numbers, 0);
     let length = record::number(&numbers, 8);
     let size = record::number(&numbers, 11);
-    let taken = record::take(file, body, size)?;
+    let taken = record::take(file, body, size);
     if taken < size {
-        return Ok(Compared::Differing);
+        return Compared::Differing;
     }
     if agrees_body(sort, form, &body[..taken], length, out) {
-        Ok(Compared::Same)
+        Compared::Same
     } else {
-        Ok(Compared::Differing)
+        Compared::Differing
     }
 }
 
 // Record after record to the end of the file. A proved loop has to end, so it stops at a million, which no file here has. Both buffers are made once,
 // since clearing them takes longer than most records.
-fn replay(file: &mut File, sort: Sort) -> io::Result<Tally> {
+fn replay(file: &mut File, sort: Sort) -> Tally {
     let mut body = [0u8; 65536];
     let mut out = [0u8; 65536];
     let mut differing: usize = 0;
     let mut turn: usize = 0;
     while turn < 1000000 {
-        let compared = compare_record(file, sort, &mut body, &mut out)?;
+        let compared = compare_record(file, sort, &mut body, &mut out);
         match compared {
             Compared::Same => {}
             Compared::Differing => {
                 differing += 1;
             }
             Compared::NoRecord => {
-                return Ok(Tally {
+                return Tally {
                     compared: turn,
                     differing,
-                });
+                };
             }
         }
         turn += 1;
     }
-    Ok(Tally {
+    Tally {
         compared: turn,
         differing,
-    })
+    }
 }
 
+// Replays a file's records. One that can't be opened is told on standard error.
 fn replay_file(
-    rt: &(impl Files<File = File> + Print),
+    rt: &(impl Files<File = File> + Print + Eprint),
     path: &str,
     sort: Sort,
     name: &str,
 ) -> io::Result<()> {
-    let mut file = File::open(rt, path)?;
-    let tally = replay(&mut file, sort)?;
-    let compared = tally.compared;
-    let differing = tally.differing;
-    println!(rt; "{compared} {name} compared, {differing} differing")
+    match File::open(rt, path) {
+        Ok(mut file) => {
+            let tally = replay(&mut file, sort);
+            let compared = tally.compared;
+            let differing = tally.differing;
+            println!(rt; "{compared} {name} compared, {differing} differing")
+        }
+        Err(refused) => eprintln!(rt; "{path}: {refused}"),
+    }
 }
 
 fn main(rt: HostRuntime) -> io::Result<()> {

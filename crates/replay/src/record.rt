@@ -1,9 +1,8 @@
 // Records of a file of stored answers: numbers of three bytes, or of eight, the high byte first, and bytes behind them.
-ghost use Rattle.std.specs.Prelude.{◌+◌, ◌≤◌, ◌<◌, ◌^◌, length, take, IfOk, ◌≡◌};
+ghost use Rattle.std.specs.Prelude.{◌+◌, ◌≤◌, ◌<◌, ◌^◌, length, take, ◌≡◌};
 
 use casts::u8_to_usize;
 use std::fs::File;
-use std::io;
 use std::io::Read;
 
 // The number of three bytes at a place.
@@ -23,27 +22,37 @@ pub fn long_number(s: &[u8], at: usize) -> u64
     high * 4294967296 + low
 }
 
-// Reads until the buffer is full or the file ends: how many bytes were put at the front of the buffer.
-pub fn read_full(file: &mut File, buffer: &mut [u8]) -> io::Result<usize>
-    ensures { IfOk result (λ n. (n ≤ length buffer.new) × (n ≡ length (take n buffer.new))) }
+// The next bytes of the file at the front of the buffer, as many as one read gives: none at the end, and where the read fails.
+fn read_some(file: &mut File, buffer: &mut [u8]) -> usize
+    ensures { result ≤ length buffer.new }
+{
+    match file.read(buffer) {
+        Ok(count) => count,
+        Err(_refused) => 0,
+    }
+}
+
+// Reads until the buffer is full, the file ends or a read fails: how many bytes were put at the front of the buffer.
+pub fn read_full(file: &mut File, buffer: &mut [u8]) -> usize
+    ensures { (result ≤ length buffer.new) × (result ≡ length (take result buffer.new)) }
 {
     let mut done: usize = 0;
     for _ in 0..buffer.len() {
-        let got = file.read(&mut buffer[done..])?;
-        if got == 0 {
+        let count = read_some(file, &mut buffer[done..]);
+        if count == 0 {
             break;
         }
-        done += got;
+        done += count;
     }
-    Ok(done)
+    done
 }
 
 // The file's next bytes, at the front of a buffer: how many there were, none where the buffer has no room for all.
-pub fn take(file: &mut File, buffer: &mut [u8], size: usize) -> io::Result<usize>
-    ensures { IfOk result (λ n. (n ≤ length buffer.new) × (n ≡ length (take n buffer.new))) }
+pub fn take(file: &mut File, buffer: &mut [u8], size: usize) -> usize
+    ensures { (result ≤ length buffer.new) × (result ≡ length (take result buffer.new)) }
 {
     if buffer.len() < size {
-        return Ok(0);
+        return 0;
     }
     read_full(file, &mut buffer[..size])
 }
