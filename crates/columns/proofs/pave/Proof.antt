@@ -25,7 +25,7 @@ fold-pages-requires c κs =
     let given = pre.0.1 in
     let held = listing-held _ _ _ _ _ _ _ (c.draw_rules-listed.ensures _ (given.drawable, given.passed.apart)) _ c.in-Held.is in
     let few = held-few _ _ _ _ _ _ _ _ _ _ pre.1.0 held.1 in
-    ((_, given.times, held.1), (omega (arith, few, c.draw_rules-listed.auto.2), omega (arith, held.1.few-lists, pre.1.1), pre.1.1))
+    ((_, given.times, held.1), (omega (arith, few, c.draw_rules-listed.auto.memo), omega (arith, held.1.few-lists, pre.1.1), pre.1.1))
 
 returns-2 : tie.Need-returns-in-Held
 returns-2 c =
@@ -38,6 +38,6 @@ pave_spec =
     tie.close
     (tie.spec
     draw-rules-requires (λ c. search rules) (λ c. search rules) fold-pages-requires (λ c. search rules) (λ c. search rules) (λ c. search rules) returns
-    (λ c. c.fold_pages-count.auto.9 ∙ c.draw_rules-listed.auto.0)
-    (λ c. c.draw_rules-listed.auto.1)
-    (λ c. c.fold_pages-count.auto.5 ∙ c.draw_rules-listed.auto.2) (λ c. search rules) returns-2)
+    (λ c. c.fold_pages-count.auto.cells ∙ c.draw_rules-listed.auto.cells)
+    (λ c. c.draw_rules-listed.auto.lists)
+    (λ c. c.fold_pages-count.auto.numbers ∙ c.draw_rules-listed.auto.memo) (λ c. search rules) returns-2)
