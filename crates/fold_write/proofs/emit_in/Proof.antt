@@ -16,9 +16,8 @@ measure-pages-requires c κs =
 
 -- behind the test the result has room
 enough : (c : tie.Else-lacks_room)
-    → let measured = c in
-    let args = measured.before.before.before.before.before.before.before.before.before.before.before.before.args in
-    (c.opening_width.result + measured.measure_pages.result.bits + (args.left.end - args.left.start) + 7) / 8 ≤ length args.out.now
+    → let args = c.args in
+    (c.opening_width.result + c.measure_pages-measured.result.bits + (args.left.end - args.left.start) + 7) / 8 ≤ length args.out.now
 enough c = ltb-false _ _ (sym c.lacks_room.ensures ∙ c.if-lacks_room.false)
 
 add-rules : tie.Need-overflow_add-rules
@@ -70,9 +69,7 @@ returns-3 c =
 
 -- what the result takes fits a machine word
 short : (c : tie.After-opening_width)
-    → let measured = c in
-    (c.opening_width.result + measured.measure_pages.result.bits < 2 ^ 50) × (measured.before.before.before.before.before.before.before.before.before.before.before.before.args.left.start ≤ measured.before.before.before.before.before.before.before.before.before.before.before.before.args.left.end)
-    × (measured.before.before.before.before.before.before.before.before.before.before.before.before.args.left.end < 2 ^ 32)
+    → (c.opening_width.result + c.measure_pages-measured.result.bits < 2 ^ 50) × (c.args.left.start ≤ c.args.left.end) × (c.args.left.end < 2 ^ 32)
 short c =
     let pre = c.requires.0 in
     (omega (arith, c.opening_width.ensures.1, c.measure_pages-measured.ensures.4, pre.1.few), pre.2.ordered, omega (arith, pre.2.low))
