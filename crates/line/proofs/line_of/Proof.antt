@@ -23,7 +23,7 @@ returns-2 : tie.Need-returns-in-Wordless
 returns-2 c =
     let args = c.args in
     let same = shown-not (rules_at (as_form args.form) (sheet_bits args.sheet.now) args.begins.now args.count) _ c.measure-measured.ensures
-    (length args.out.now) _ c.decreases.given.1 in
+    (length args.out.now) _ c.in-Wordless.is in
     (sym (ap written_numbers same), sym (ap (λ w. buffer w.result args.out.now) same))
 
 returns-3 : tie.Need-returns-else-lacks_room
