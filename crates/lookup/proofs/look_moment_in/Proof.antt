@@ -30,27 +30,27 @@ mul-places c =
 
 slice-reshare-prefix-look-drained : tie.Need-slice_bounds-look_drained-end
 slice-reshare-prefix-look-drained c =
-    omega (arith, within c, c.requires.1.1.0.0, c.prepare-judged.auto.4)
+    omega (arith, within c, c.requires.1.1.0.0, c.prepare-judged.auto.states)
 
 slice-aggregate-look-drained : tie.Need-slice_bounds-look_drained-end-in-Fine
 slice-aggregate-look-drained c =
-    sym (length-take-le c.in-Fine.rules _ (omega (arith, within c, c.requires.1.1.0.0, c.prepare-judged.auto.4)))
+    sym (length-take-le c.in-Fine.rules _ (omega (arith, within c, c.requires.1.1.0.0, c.prepare-judged.auto.states)))
 
 slice-reshare-prefix-look-drained-2 : tie.Need-slice_bounds-look_drained-end-in-Fine-2
 slice-reshare-prefix-look-drained-2 c =
-    omega (arith, within c, c.requires.1.1.0.1, c.prepare-judged.auto.5)
+    omega (arith, within c, c.requires.1.1.0.1, c.prepare-judged.auto.span_counts)
 
 slice-aggregate-look-drained-2 : tie.Need-slice_bounds-look_drained-end-in-Fine-3
 slice-aggregate-look-drained-2 c =
-    sym (length-take-le c.in-Fine.rules _ (omega (arith, within c, c.requires.1.1.0.1, c.prepare-judged.auto.5)))
+    sym (length-take-le c.in-Fine.rules _ (omega (arith, within c, c.requires.1.1.0.1, c.prepare-judged.auto.span_counts)))
 
 slice-reshare-prefix-look-drained-3 : tie.Need-slice_bounds-look_drained-end-in-Fine-4
 slice-reshare-prefix-look-drained-3 c =
-    omega (arith, within c, c.requires.1.1.0.2, c.prepare-judged.auto.6)
+    omega (arith, within c, c.requires.1.1.0.2, c.prepare-judged.auto.spans)
 
 slice-aggregate-look-drained-3 : tie.Need-slice_bounds-look_drained-end-in-Fine-5
 slice-aggregate-look-drained-3 c =
-    sym (length-take-le (c.in-Fine.rules * 16) _ (omega (arith, within c, c.requires.1.1.0.2, c.prepare-judged.auto.6)))
+    sym (length-take-le (c.in-Fine.rules * 16) _ (omega (arith, within c, c.requires.1.1.0.2, c.prepare-judged.auto.spans)))
 
 sub-look-drained : tie.Need-overflow_sub-count
 sub-look-drained c = within c.before.before
@@ -60,7 +60,7 @@ look-drained-requires c κs =
     let pre = c.requires in
     let read = pre.0.1.1 in
     let fine = judged-fine _ _ _ _ _ _ _ _ _ _ _ (c.prepare-judged.ensures _ _ read.0 read.1) _ _ c.in-Fine.is in (
-      (_, prepared-lookable _ _ _ _ _ _ _ _ _ _ _ fine.0 _ read.1 (omega (arith, within c.before.before, pre.1.1.0.0, c.prepare-judged.auto.4))),
+      (_, prepared-lookable _ _ _ _ _ _ _ _ _ _ _ fine.0 _ read.1 (omega (arith, within c.before.before, pre.1.1.0.0, c.prepare-judged.auto.states))),
       pre.1.0,
     )
 
@@ -69,7 +69,7 @@ returns c =
     λ rs end reading many.
     let fine = judged-fine _ _ _ _ _ _ _ _ _ _ _ (c.prepare-judged.ensures rs end reading many) _ _ c.in-Fine.is in
     c.look_drained.ensures rs
-    (prepared-lookable _ _ _ _ _ _ _ _ _ _ _ fine.0 _ many (omega (arith, within c.before.before.before, c.requires.1.1.0.0, c.prepare-judged.auto.4)))
+    (prepared-lookable _ _ _ _ _ _ _ _ _ _ _ fine.0 _ many (omega (arith, within c.before.before.before, c.requires.1.1.0.0, c.prepare-judged.auto.states)))
 
 returns-2 : tie.Need-returns-in-Refused
 returns-2 c =
@@ -84,12 +84,12 @@ look_moment_in_spec =
     (λ c. search rules) (λ c. search rules) prepare-requires (λ c. search rules) mul-places slice-reshare-prefix-look-drained slice-aggregate-look-drained
     slice-reshare-prefix-look-drained-2 slice-aggregate-look-drained-2 slice-reshare-prefix-look-drained-3 slice-aggregate-look-drained-3
     (λ c. search rules) (λ c. search rules) sub-look-drained look-drained-requires (λ c. search rules) (λ c κs. search rules)
-    (λ c. c.prepare-judged.auto.4)
-    (λ c. c.prepare-judged.auto.5)
-    (λ c. c.prepare-judged.auto.6)
-    (λ c. c.prepare-judged.auto.7)
-    (λ c. c.prepare-judged.auto.8)
-    (λ c. c.prepare-judged.auto.9)
+    (λ c. c.prepare-judged.auto.states)
+    (λ c. c.prepare-judged.auto.span_counts)
+    (λ c. c.prepare-judged.auto.spans)
+    (λ c. c.prepare-judged.auto.replacing)
+    (λ c. c.prepare-judged.auto.range_counts)
+    (λ c. c.prepare-judged.auto.ranges)
     (λ c. search rules) returns
     (λ c. search rules) (λ c. search rules) (λ c. search rules) (λ c. search rules) (λ c. search rules) (λ c. search rules) (λ c. search rules)
     returns-2)

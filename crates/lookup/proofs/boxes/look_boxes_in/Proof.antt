@@ -44,7 +44,7 @@ returns-3 c =
     let held = listing-held _ _ _ _ _ _ _ told _ c.in-Held.is in
     state-found rs _ _ _ given.to-draw.passed.apart (boxes-few _ _ _ _ _ _ _ _ _ _ given.to-draw) held.0
     (omega (arith, c.if-rules_left-gt0.false, given.counted, given.to-draw.times.all-states))
-    (c.Numbers-of.ensures ∙ c.look.ensures _ _ given.to-draw.times held.1)
+    (c.numbers_of.ensures ∙ c.look.ensures _ _ given.to-draw.times held.1)
 
 pub look_boxes_in_spec : {M : Type 1} → statement M
 look_boxes_in_spec =

@@ -20,5 +20,5 @@ look_many_boxes_spec =
     tie.close
     (tie.spec
     (λ c κs. let pre = c.requires in search (rules, pre.0.1.to-draw.drawable.2.four))
-    (λ c. let sized = c in let pre = sized.before.before.before.before.before.before.before.before.before.before.requires in omega (arith, pre.0.1.to-draw.passed.few-boxes, sized.type_size.ensures))
+    (λ c. let pre = c.requires in omega (arith, pre.0.1.to-draw.passed.few-boxes, c.size_of-boxes.ensures))
     slice-aggregate-look-boxes-in (λ c. search rules) (λ c. search rules) look-boxes-in-requires (λ c. search rules))

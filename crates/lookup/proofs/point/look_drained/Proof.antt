@@ -33,7 +33,7 @@ returns-3 c =
     λ rs given.
     state-found rs _ _ _ given.to-draw.passed.apart (boxes-few _ _ _ _ _ _ _ _ _ _ given.to-draw) (none-met c.before.before.before rs given)
     (omega (arith, c.if-rules_left-gt0.false, given.counted, given.to-draw.times.all-states))
-    (c.Numbers-of.ensures ∙ c.point_state.ensures _ (lookable-rules _ _ _ _ _ _ _ _ _ _ rs given))
+    (c.numbers_of.ensures ∙ c.point_state.ensures _ (lookable-rules _ _ _ _ _ _ _ _ _ _ rs given))
 
 pub look_drained_spec : {M : Type 1} → statement M
 look_drained_spec =
