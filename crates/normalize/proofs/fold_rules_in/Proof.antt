@@ -40,27 +40,27 @@ rules-left-requires c κs =
 
 slice-reshare-prefix-fold-boxes : tie.Need-slice_bounds-fold_boxes-end
 slice-reshare-prefix-fold-boxes c =
-    omega (arith, within c.before.before, c.requires.1.0.0, c.prepare-judged.auto.4)
+    omega (arith, within c.before.before, c.requires.1.0.0, c.prepare-judged.auto.states)
 
 slice-aggregate-fold-boxes : tie.Need-slice_bounds-fold_boxes-end-in-Fine
 slice-aggregate-fold-boxes c =
-    sym (length-take-le c.in-Fine.rules _ (omega (arith, within c.before.before, c.requires.1.0.0, c.prepare-judged.auto.4)))
+    sym (length-take-le c.in-Fine.rules _ (omega (arith, within c.before.before, c.requires.1.0.0, c.prepare-judged.auto.states)))
 
 slice-reshare-prefix-fold-boxes-2 : tie.Need-slice_bounds-fold_boxes-end-in-Fine-2
 slice-reshare-prefix-fold-boxes-2 c =
-    omega (arith, within c.before.before, c.requires.1.0.1, c.prepare-judged.auto.5)
+    omega (arith, within c.before.before, c.requires.1.0.1, c.prepare-judged.auto.span_counts)
 
 slice-aggregate-fold-boxes-2 : tie.Need-slice_bounds-fold_boxes-end-in-Fine-3
 slice-aggregate-fold-boxes-2 c =
-    sym (length-take-le c.in-Fine.rules _ (omega (arith, within c.before.before, c.requires.1.0.1, c.prepare-judged.auto.5)))
+    sym (length-take-le c.in-Fine.rules _ (omega (arith, within c.before.before, c.requires.1.0.1, c.prepare-judged.auto.span_counts)))
 
 slice-reshare-prefix-fold-boxes-3 : tie.Need-slice_bounds-fold_boxes-end-in-Fine-4
 slice-reshare-prefix-fold-boxes-3 c =
-    omega (arith, within c.before.before, c.requires.1.0.2, c.prepare-judged.auto.6)
+    omega (arith, within c.before.before, c.requires.1.0.2, c.prepare-judged.auto.spans)
 
 slice-aggregate-fold-boxes-3 : tie.Need-slice_bounds-fold_boxes-end-in-Fine-5
 slice-aggregate-fold-boxes-3 c =
-    sym (length-take-le (c.in-Fine.rules * 16) _ (omega (arith, within c.before.before, c.requires.1.0.2, c.prepare-judged.auto.6)))
+    sym (length-take-le (c.in-Fine.rules * 16) _ (omega (arith, within c.before.before, c.requires.1.0.2, c.prepare-judged.auto.spans)))
 
 fold-boxes-requires : tie.Need-fold_boxes-requires
 fold-boxes-requires c κs =
@@ -76,9 +76,9 @@ fold-boxes-requires c κs =
           end = c.args.end;
           read = read.0.read;
           commented = rules-commented _ sheet bytes _ _ _ read.0;
-          c = rules-leaving _ sheet bytes _ _ _ read.0 _ _ fine.0.rules-many read.1 _ _ _ _ _ left.0 left.1 left.2
-              (length-take-le _ _ (omega (arith, within c.before.before.before.before, c.requires.1.0.0, c.prepare-judged.auto.4))) (left.3 ∙ fine.1);
-          to-draw = prepared-to-draw _ _ _ _ _ _ _ _ _ _ _ fine.0 (omega (arith, within c.before.before.before.before, c.requires.1.0.0, c.prepare-judged.auto.4));
+          leaving = rules-leaving _ sheet bytes _ _ _ read.0 _ _ fine.0.rules-many read.1 _ _ _ _ _ left.0 left.1 left.2
+              (length-take-le _ _ (omega (arith, within c.before.before.before.before, c.requires.1.0.0, c.prepare-judged.auto.states))) (left.3 ∙ fine.1);
+          to-draw = prepared-to-draw _ _ _ _ _ _ _ _ _ _ _ fine.0 (omega (arith, within c.before.before.before.before, c.requires.1.0.0, c.prepare-judged.auto.states));
         },
       ),
       omega arith,
@@ -99,12 +99,12 @@ fold_rules_in_spec =
     slice-aggregate-fold-boxes slice-reshare-prefix-fold-boxes-2 slice-aggregate-fold-boxes-2 slice-reshare-prefix-fold-boxes-3
     slice-aggregate-fold-boxes-3 (λ c. search rules) (λ c. search rules) fold-boxes-requires (λ c. search rules) (λ c κs. search rules)
     (λ c. search rules)
-    (λ c. c.prepare-judged.auto.4)
-    (λ c. c.prepare-judged.auto.5)
-    (λ c. c.prepare-judged.auto.6)
-    (λ c. c.prepare-judged.auto.7)
-    (λ c. c.prepare-judged.auto.8)
-    (λ c. c.prepare-judged.auto.9)
-    (λ c. c.prepare-judged.auto.12) (λ c. search rules)
+    (λ c. c.prepare-judged.auto.states)
+    (λ c. c.prepare-judged.auto.span_counts)
+    (λ c. c.prepare-judged.auto.spans)
+    (λ c. c.prepare-judged.auto.replacing)
+    (λ c. c.prepare-judged.auto.range_counts)
+    (λ c. c.prepare-judged.auto.ranges)
+    (λ c. c.prepare-judged.auto.cuts) (λ c. search rules)
     (λ c. search rules) (λ c. search rules) (λ c. search rules) (λ c. search rules) (λ c. search rules) (λ c. search rules) (λ c. search rules)
     returns-2)
