@@ -1,4 +1,6 @@
 -- `hours::fold_by` meets its contract: in the form that the number names, or refused.
+use mathlib.Core.List.{List}
+use Prim.Native.Nat.{ℕ}
 use mathlib.Core.Path.{◌≡◌, refl}
 use lib.ListN.{length}
 use borrow.Author.Rules.{rules}
@@ -11,29 +13,23 @@ use Rattle.hours.proofs.fold_by.Statement.{statement}
 use Rattle.hours.proofs.fold_by.Tie as tie
 
 -- what the definition answers in a form
-abbrev answer : tie.Start → Form → Folded
-answer c form = fold form sheet_limits (length c.args.out.now) c.args.sheet.now
-
--- by a number that names a form
-known : (c : tie.In-Known-2)
-    → let entry = c in
-    fold_in sheet_limits entry.args.form (length entry.args.out.now) entry.args.sheet.now ≡ answer entry (as_form c.in-Known.known)
-unfolding fold_in
-known c =
-    form-known refusal (answer c.before.before.before.before) c.args.form _ c.form_of-named.ensures _ c.in-Known.is
+abbrev answer : List ℕ → List ℕ → Form → Folded
+answer out sheet form = fold form sheet_limits (length out) sheet
 
 returns : tie.Need-returns-then-sheet-le-FEW_BYTES
+unfolding fold_in
 returns c =
-    of-same numbers (λ w. w.result) _ (known c) c.fold.ensures
+    of-same numbers (λ w. w.result) _ (form-known refusal (answer c.args.out.now c.args.sheet.now) c.args.form _ c.form_of-named.ensures _ c.in-Known.is) c.fold.ensures
 
 returns-2 : tie.Need-returns-else-sheet-le-FEW_BYTES
+unfolding fold_in
 returns-2 c =
-    of-same numbers (λ w. w.result) _ (known c) c.fold-in-Known.ensures
+    of-same numbers (λ w. w.result) _ (form-known refusal (answer c.args.out.now c.args.sheet.now) c.args.form _ c.form_of-named.ensures _ c.in-Known.is) c.fold-in-Known.ensures
 
 returns-3 : tie.Need-returns-in-Unknown
 unfolding fold_in
 returns-3 c =
-    let unknown = form-unknown refusal (answer c.before.before.before.before.before) c.args.form _ c.form_of-named.ensures c.in-Unknown.is in
+    let unknown = form-unknown refusal (answer c.args.out.now c.args.sheet.now) c.args.form _ c.form_of-named.ensures c.in-Unknown.is in
     of-same numbers (λ w. w.result) c.args.out.now unknown (c.fold_refused.ensures, refl)
 
 pub fold_by_spec : {M : Type 1} → statement M

@@ -1,4 +1,6 @@
 -- `hours::line` meets its contract: in the form that the number names, or refused.
+use mathlib.Core.List.{List}
+use Prim.Native.Nat.{ℕ}
 use mathlib.Core.Path.{◌≡◌, refl}
 use lib.ListN.{length}
 use borrow.Author.Rules.{rules}
@@ -12,29 +14,23 @@ use Rattle.hours.proofs.line.Statement.{statement}
 use Rattle.hours.proofs.line.Tie as tie
 
 -- what the definition answers in a form
-abbrev answer : tie.Start → Form → Written
-answer c form = show_line form sheet_limits (length c.args.out.now) c.args.sheet.now
-
--- by a number that names a form
-known : (c : tie.In-Known-2)
-    → let entry = c in
-    show_line_in sheet_limits entry.args.form (length entry.args.out.now) entry.args.sheet.now ≡ answer entry (as_form c.in-Known.known)
-unfolding show_line_in
-known c =
-    form-known unwritten (answer c.before.before.before.before) c.args.form _ c.form_of-named.ensures _ c.in-Known.is
+abbrev answer : List ℕ → List ℕ → Form → Written
+answer out sheet form = show_line form sheet_limits (length out) sheet
 
 returns : tie.Need-returns-then-sheet-le-FEW_BYTES
+unfolding show_line_in
 returns c =
-    of-same written_numbers (λ w. w.result) _ (known c) c.line.ensures
+    of-same written_numbers (λ w. w.result) _ (form-known unwritten (answer c.args.out.now c.args.sheet.now) c.args.form _ c.form_of-named.ensures _ c.in-Known.is) c.line.ensures
 
 returns-2 : tie.Need-returns-else-sheet-le-FEW_BYTES
+unfolding show_line_in
 returns-2 c =
-    of-same written_numbers (λ w. w.result) _ (known c) c.line-in-Known.ensures
+    of-same written_numbers (λ w. w.result) _ (form-known unwritten (answer c.args.out.now c.args.sheet.now) c.args.form _ c.form_of-named.ensures _ c.in-Known.is) c.line-in-Known.ensures
 
 returns-3 : tie.Need-returns-in-Unknown
 unfolding show_line_in
 returns-3 c =
-    let unknown = form-unknown unwritten (answer c.before.before.before.before) c.args.form _ c.form_of-named.ensures c.in-Unknown.is in
+    let unknown = form-unknown unwritten (answer c.args.out.now c.args.sheet.now) c.args.form _ c.form_of-named.ensures c.in-Unknown.is in
     of-same written_numbers (λ w. w.result) c.args.out.now unknown (refl, refl)
 
 pub line_spec : {M : Type 1} → statement M

@@ -1,4 +1,6 @@
 -- `hours::lookup` meets its contract: in the form that the number names, or refused.
+use mathlib.Core.List.{List}
+use Prim.Native.Nat.{ℕ}
 use mathlib.Core.Path.{◌≡◌, sym, ◌∙◌}
 use borrow.Author.Rules.{rules}
 use Rattle.definition.specs.Sheet.{Form, sheet_limits}
@@ -10,29 +12,22 @@ use Rattle.hours.proofs.lookup.Statement.{statement}
 use Rattle.hours.proofs.lookup.Tie as tie
 
 -- what the definition answers in a form
-abbrev answer : tie.Start → Form → Looked
-answer c form = let a = c.args in lookup form sheet_limits a.sheet.now a.year a.month a.day a.minute
-
--- by a number that names a form
-known : (c : tie.In-Known-2)
-    → let entry = c in
-    let a = entry.args in
-    lookup_in sheet_limits a.form a.sheet.now a.year a.month a.day a.minute ≡ answer entry (as_form c.in-Known.known)
-unfolding lookup_in
-known c =
-    form-known refusal (answer c.before.before.before) c.args.form _ c.form_of-named.ensures _ c.in-Known.is
+abbrev answer : List ℕ → ℕ → ℕ → ℕ → ℕ → Form → Looked
+answer sheet year month day minute form = lookup form sheet_limits sheet year month day minute
 
 returns : tie.Need-returns-then-sheet-le-FEW_BYTES
-returns c = c.lookup.ensures ∙ sym (known c)
+unfolding lookup_in
+returns c = c.lookup.ensures ∙ sym (form-known refusal (answer c.args.sheet.now c.args.year c.args.month c.args.day c.args.minute) c.args.form _ c.form_of-named.ensures _ c.in-Known.is)
 
 returns-2 : tie.Need-returns-else-sheet-le-FEW_BYTES
-returns-2 c = c.lookup-in-Known.ensures ∙ sym (known c)
+unfolding lookup_in
+returns-2 c = c.lookup-in-Known.ensures ∙ sym (form-known refusal (answer c.args.sheet.now c.args.year c.args.month c.args.day c.args.minute) c.args.form _ c.form_of-named.ensures _ c.in-Known.is)
 
 returns-3 : tie.Need-returns-in-Unknown
 unfolding lookup_in
 returns-3 c =
     c.lookup_refused.ensures
-    ∙ sym (form-unknown refusal (answer c.before.before.before.before) c.args.form _ c.form_of-named.ensures c.in-Unknown.is)
+    ∙ sym (form-unknown refusal (answer c.args.sheet.now c.args.year c.args.month c.args.day c.args.minute) c.args.form _ c.form_of-named.ensures c.in-Unknown.is)
 
 pub lookup_spec : {M : Type 1} → statement M
 lookup_spec =

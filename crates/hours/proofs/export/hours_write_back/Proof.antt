@@ -15,7 +15,7 @@ returns-2 : tie.Need-returns
 returns-2 c =
     let answer = c.write_back.ensures in (
       long-enough 3 (length c.args.lent.now) _ c.lacks_room.ensures c.if-lacks_room.false,
-      c.Put-written.ensures ∙ ap (λ n. buffer n c.args.lent.now) answer.0,
+      c.put_written.ensures ∙ ap (λ n. buffer n c.args.lent.now) answer.0,
       answer.1,
     )
 

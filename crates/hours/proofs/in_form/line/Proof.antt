@@ -25,7 +25,7 @@ returns c =
     let a = c.args in
     let same = line_read _ a.sheet.now _ c.check-checked.ensures.0 (narrow a.form) (bytes c.before.before.before.before.before.before.before) _ _ c.check-checked.ensures.1 c.requires _ _
     c.in-Rules.is (length a.out.now) in
-    of-same written_numbers (λ w. w.result) _ (sym same) c.Line-of.ensures
+    of-same written_numbers (λ w. w.result) _ (sym same) c.line_of.ensures
 
 returns-2 : tie.Need-returns-in-Refused
 returns-2 c =
