@@ -11,13 +11,13 @@ use Rattle.item_text.proofs.day.put_behind.Tie as tie
 put-byte-requires-2 : tie.Need-put_byte-slash-requires
 put-byte-requires-2 c κs =
     let args = c.args in
-    let long = behind-long args.sort args.last args.step (ne_eqb _ 1 c.if-step-eq1.false) in
+    let long = behind-long args.sort args.last args.step (ne_eqb c.args.step 1 (omega arith)) in
     omega (arith, c.requires.1, long, c.put_byte-dash.ensures.ends, c.put_end-end.ensures.ends)
 
 put-decimal-requires : tie.Need-put_decimal-requires
 put-decimal-requires c κs =
     let args = c.args in
-    let long = behind-long args.sort args.last args.step (ne_eqb _ 1 c.if-step-eq1.false) in
+    let long = behind-long args.sort args.last args.step (ne_eqb c.args.step 1 (omega arith)) in
     omega (arith, c.requires.1, long, c.put_byte-dash.ensures.ends, c.put_end-end.ensures.ends, c.put_byte-slash.ensures.ends)
 
 pub put_behind_spec : {M : Type 1} → statement M
@@ -36,9 +36,9 @@ put_behind_spec =
     (pre.0, omega (arith, pre.1, behind-least args.sort args.last args.step, c.put_byte-dash.ensures.ends)))
     (λ c. search rules)
     (λ c.
-    put_as (sym (behind-alone _ _ _ (eq-eqb _ 1 c.if-step-eq1.true))) (put_then c.put_byte-dash.ensures c.put_end-end.ensures))
+    put_as (sym (behind-alone _ _ _ (eq-eqb c.args.step 1 (omega arith)))) (put_then c.put_byte-dash.ensures c.put_end-end.ensures))
     put-byte-requires-2 put-decimal-requires (λ c. search rules)
     (λ c.
-    put_as (sym (behind-step _ _ _ (ne_eqb _ 1 c.if-step-eq1.false)))
+    put_as (sym (behind-step _ _ _ (ne_eqb c.args.step 1 (omega arith))))
     (put_then c.put_byte-dash.ensures
     (put_then c.put_end-end.ensures (put_then c.put_byte-slash.ensures c.put_decimal.ensures)))))

@@ -24,7 +24,7 @@ kinds-there : (c : tie.Else-not-lists_over) → let a = c.args in (i : ℕ) → 
     × ((i < length a.row_starts.now) × (i < length a.sizes.now) × (get_or a.row_starts.now i 0 + get_or a.sizes.now i 0 < length a.cuts.now))
 kinds-there c i h =
     let cut = c.requires.1.cut in
-    ((all_there c, h, c.if-rules-gt32.false), (omega (arith, cut.all-rows), omega (arith, cut.four), cut.inside i h))
+    ((all_there c, h, omega arith), (omega (arith, cut.all-rows), omega (arith, cut.four), cut.inside i h))
 
 products : (c : tie.After-kinds_in-weekdays) → let a = c.kinds_in-years.result in let b = c.kinds_in-months.result in let d = c.kinds_in-weeks.result in
     (b * a < 2 ^ 64) × (d * (b * a) < 2 ^ 64) × (c.kinds_in-weekdays.result * (d * (b * a)) < 2 ^ 64)
@@ -38,7 +38,7 @@ few_lists_spec =
     (λ c κs. let given = c.requires.1 in (omega (arith, given.cut.four), given.cut.filled, omega (arith, given.few-boxes)))
     (λ c κs. search rules)
     (λ c.
-    λ _ rs given. few-none _ _ _ _ _ _ rs given c.args.sizes.now (omega (arith, given.cut.four)) (λ i l. kinds-all _ _ _ _ _ _ _) (omega (arith, c.if-rules-gt32.false))
+    λ _ rs given. few-none _ _ _ _ _ _ rs given c.args.sizes.now (omega (arith, given.cut.four)) (λ i l. kinds-all _ _ _ _ _ _ _) (omega arith)
     (omega (arith, ltb-false sheet_limits.lists c.size_of.result (sym c.lists_over.ensures ∙ not-true _ c.if-not-lists_over.true-raw), c.size_of.ensures)))
     (λ c κs. kinds-there c 0 (omega arith))
     (λ c κs. kinds-there c.before 1 (omega arith))
@@ -52,5 +52,5 @@ few_lists_spec =
     let w = c.kinds_in-weeks in
     let d = c.kinds_in-weekdays in
     λ e rs given. few-none _ _ _ _ _ _ rs given (y.result ∷ m.result ∷ w.result ∷ d.result ∷ []) (omega arith)
-    (four-kinds _ _ _ _ c.args.sizes.now _ _ _ _ _ y.ensures.1 m.ensures.1 w.ensures.1 d.ensures.1) (omega (arith, c.if-rules-gt32.false))
+    (four-kinds _ _ _ _ c.args.sizes.now _ _ _ _ _ y.ensures.1 m.ensures.1 w.ensures.1 d.ensures.1) (omega arith)
     (omega (arith, four-sizes y.result m.result w.result d.result, ltb-false sheet_limits.lists (d.result * (w.result * (m.result * y.result))) (sym c.lists_over-2.ensures ∙ not-true _ e)))))
