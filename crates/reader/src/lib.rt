@@ -1,6 +1,5 @@
-// The reader of 01: "a view that holds the lent sheet and a bit position". The functions over it are thin, since a proof over a held
-// slice is a walk by hand; the work is done by `read_at` on a plain slice and numbers, by crate `field`. The check of a sheet begins here:
-// `rule_count` opens the sheet and takes its mark and its rule count.
+// The reader of 01: "a view that holds the lent sheet and a bit position". The functions over it are thin: the work is done by `read_at` on a
+// plain slice and numbers, by crate `field`. The check of a sheet begins here: `rule_count` opens the sheet and takes its mark and its rule count.
 #![tactic(auto)]
 
 ghost use Rattle.std.specs.Prelude.{◌≡◌};
