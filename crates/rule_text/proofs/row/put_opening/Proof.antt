@@ -11,7 +11,7 @@ use Rattle.rule_text.proofs.row.put_opening.Tie as tie
 pub put_opening_spec : {M : Type 1} → statement M
 put_opening_spec =
     tie.close
-    (tie.spec 
+    (tie.spec
     (λ c κs.
     omega (arith, c.requires, ap length (opening-weeks c.args.sort c.if-sort-eq2.true)))
     (λ c. search rules)
