@@ -1,5 +1,5 @@
 -- A row of items as ranges, and the table of ranges: a dimension has its row at 64 times its number, as start, end, start, end ..
-use Rattle.std.specs.Prelude.{List, [], ◌∷◌, ◌++◌, cond, ℕ, zero, suc, ◌+◌, ◌<◌, eqb}
+use Rattle.std.specs.Prelude.{List, [], ◌∷◌, ◌++◌, cond, ℕ, zero, suc, ◌<◌, eqb}
 use Rattle.std.proofs.Math.Option.{Option, none, some}
 use Rattle.grid.specs.Cut.{Range}
 use Rattle.canonical_date.specs.declared.row.Row.{Row}

@@ -7,7 +7,7 @@ use native.Mathlib.Omega.{arith}
 use lib.Dec.{leb, ltb}
 use borrow.Author.Tests.{ltb-true}
 use Rattle.laws.proofs.Flags.{split-and}
-use Rattle.definition.specs.Field.{Layout, field, ◌then◌, via, tagged}
+use Rattle.definition.specs.Field.{field, ◌then◌, via, tagged}
 use Rattle.definition.specs.Rule.{Time, fixed, variable, Span, repeats_key}
 use Rattle.definition.specs.Sheet.{time_of, time, repeats_of, repeats_layout, span, flag_bit}
 use Rattle.codes.specs.Number.{time_number, NumberedTime, Numbered}

@@ -11,10 +11,10 @@ use borrow.Author.Tests.{leb-false}
 use Rattle.laws.specs.Lists.{only_if}
 use Rattle.laws.proofs.Lists.{All-map}
 use Rattle.laws.proofs.Passing.{Found, first_found}
-use Rattle.definition.specs.Field.{Layout, bytes_for, sheet_bits, long_comment, no_room}
+use Rattle.definition.specs.Field.{bytes_for, sheet_bits, long_comment, no_room}
 use Rattle.definition.specs.Rule.{Rule}
 use Rattle.definition.specs.Sheet.{Form, sheet_limits, opening_width, head_width, rule, opening, rules, encode}
-use Rattle.definition.specs.Fold.{Written, unwritten, written_into, buffer}
+use Rattle.definition.specs.Fold.{unwritten, written_into, buffer}
 use Rattle.definition.specs.Forms.{first_long_comment, convert_rules}
 use Rattle.definition.proofs.Bits.{Bytes}
 use Rattle.definition.proofs.SheetRead.{encode-decoded}

@@ -8,7 +8,7 @@ use lib.Dec.{ltb}
 use lib.ListN.{length, drop, get_or, length-append, drop_of_length-le}
 use lib.Seq.{drop-cons}
 use borrow.Author.Tests.{ltb-true, ltb-false}
-use Rattle.definition.specs.Field.{Read, Layout, got, sheet_bits}
+use Rattle.definition.specs.Field.{Read, got, sheet_bits}
 use Rattle.definition.specs.Rule.{Rule, no_rule}
 use Rattle.definition.specs.Sheet.{Form, sheet_limits, rule}
 use Rattle.definition.proofs.Bits.{Bytes}

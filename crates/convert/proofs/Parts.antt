@@ -6,7 +6,7 @@ use mathlib.Core.List.{List, ◌++◌}
 use Prim.Native.Nat.{ℕ, ◌+◌, ◌*◌, ◌-◌, ◌^◌, ◌≤◌, ◌<◌}
 use native.Mathlib.Omega.{arith}
 use lib.ListN.{length, take, drop, length-append, length-drop}
-use Rattle.definition.specs.Field.{bits, number, field_at, got, sheet_bits, Layout}
+use Rattle.definition.specs.Field.{bits, number, field_at, got, sheet_bits}
 use Rattle.definition.specs.Rule.{Rule}
 use Rattle.definition.specs.Sheet.{Form, sheet_limits, title_width, head_width, head_of, title, counts, rule}
 use Rattle.definition.proofs.Bits.{Bytes, sheet-bits, length-sheet_bits, length-bits, number-bits}

@@ -3,7 +3,7 @@
 use mathlib.Core.Path.{◌≡◌, refl, sym, ap, ◌∙◌, subst}
 use mathlib.Core.Bool.{Bool, true, false}
 use mathlib.Core.List.{List, [], ◌∷◌}
-use Prim.Native.Nat.{ℕ, zero, suc, ◌+◌, ◌-◌, ◌*◌, ◌≤◌, ◌<◌}
+use Prim.Native.Nat.{ℕ, zero, suc, ◌+◌, ◌*◌, ◌≤◌, ◌<◌}
 use native.Mathlib.Omega.{arith}
 use native.Mathlib.Nat.{mul-le-mul_right}
 use lib.Dec.{eqb}
@@ -15,7 +15,6 @@ use Rattle.grid.specs.Cut.{cuts}
 use Rattle.grid.proofs.Count.{cuts-count}
 use Rattle.definition.specs.Rule.{Rule}
 use Rattle.definition.specs.Sheet.{form2, sheet_limits}
-use Rattle.definition.specs.Range.{ranges}
 use Rattle.definition.specs.Point.{Dimension, dimensions}
 use Rattle.definition.specs.Box.{all_ranges, box_count}
 use Rattle.definition.proofs.Lawful.{Lawful}

@@ -14,7 +14,7 @@ use Rattle.laws.proofs.Flags.{split-and, split-or}
 use Rattle.laws.proofs.Lists.{All-map, All-map₂, All-append, every-all, any-all, all_any}
 use Rattle.laws.proofs.Spread.{flat_map-all, flat_map-length}
 use Rattle.grid.specs.Cut.{Range}
-use Rattle.definition.specs.Field.{got, field, lawful, counted, ◌then◌, via, tagged, several}
+use Rattle.definition.specs.Field.{got, field, counted, ◌then◌, via, tagged, several}
 use Rattle.definition.specs.Rule.{Operator, Normal, Additional, Rule}
 use Rattle.definition.specs.Sheet.{Form, Limits, form1, form2, most_rules, most_items, sheet_limits, former_limits, title, counts, head, head_of, rule, opening, rules, decode}
 use Rattle.definition.specs.Range.{Ends}

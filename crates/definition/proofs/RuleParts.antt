@@ -4,7 +4,7 @@ use mathlib.Core.List.{List}
 use Prim.Native.Nat.{ℕ, ◌+◌}
 use native.Mathlib.Omega.{arith}
 use lib.ListN.{length}
-use Rattle.definition.specs.Field.{got, read_all, Layout, counted, several}
+use Rattle.definition.specs.Field.{got, read_all, counted, several}
 use Rattle.definition.specs.Rule.{Rule}
 use Rattle.definition.specs.Sheet.{Form, sheet_limits, title_width, head_width, year_range, monthday_range, week_range, week_day_range, span, Counts, head_of, rule_with, title, counts, body, rule}
 use Rattle.definition.proofs.Reading.{then-parts, via-parts, tagged-parts, field_end, all-length}

@@ -2,7 +2,7 @@
 -- folds to so much is computed here; a case begins where the drained rules are judged and folded.
 use Rattle.std.specs.Prelude.{◌≡◌, List, [], ◌∷◌, Bool, true, false, ℕ, replicate}
 use Rattle.definition.specs.Field.{past_counts, no_room}
-use Rattle.definition.specs.Rule.{Normal, Fallback, closed, YearRange, Rule, no_rule}
+use Rattle.definition.specs.Rule.{Normal, Fallback, closed, Rule, no_rule}
 use Rattle.definition.specs.Sheet.{Form, form1, form2, sheet_limits}
 use Rattle.definition.specs.Fold.{Folded, refusal, fine, passes_counts, fold_rules}
 

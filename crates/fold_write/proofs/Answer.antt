@@ -13,7 +13,7 @@ use Rattle.laws.specs.Lists.{any_of}
 use Rattle.laws.proofs.Flags.{or-false, split-or}
 use Rattle.laws.proofs.Lists.{any_of-append, all_any}
 use Rattle.laws.proofs.Spread.{flat_map-append}
-use Rattle.definition.specs.Field.{Layout, bytes_for, packed, no_room}
+use Rattle.definition.specs.Field.{bytes_for, packed, no_room}
 use Rattle.definition.specs.Rule.{Rule}
 use Rattle.definition.specs.Sheet.{Form, most_rules, sheet_limits, opening_width, rule, opening, encode}
 use Rattle.definition.specs.Stop.{drained, left, why}

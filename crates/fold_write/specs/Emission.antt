@@ -1,6 +1,5 @@
 -- What the fold writes: a sheet of the rules of pages, then the rules left as their bits stand in the sheet that was read.
 use Rattle.std.specs.Prelude.{List, ◌++◌, ℕ}
-use Rattle.definition.specs.Field.{Layout}
 use Rattle.definition.specs.Rule.{Rule}
 use Rattle.definition.specs.Sheet.{Form, sheet_limits, opening}
 use Rattle.definition.specs.Stop.{drained}

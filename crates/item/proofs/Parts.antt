@@ -8,7 +8,7 @@ use Prim.Native.Nat.{ℕ, ◌+◌, ◌-◌, ◌/◌, ◌%◌, ◌^◌, ◌≤◌
 use native.Mathlib.Omega.{arith}
 use borrow.Author.Tests.{le-leb, eq-eqb, ne_eqb, lt-ltb}
 use Rattle.grid.specs.Cut.{Range, holds}
-use Rattle.definition.specs.Field.{got, Layout, lawful, ◌then◌}
+use Rattle.definition.specs.Field.{got, lawful, ◌then◌}
 use Rattle.definition.specs.Rule.{month_bounds, weekday_bounds, months, dated, fixed_days, holiday}
 use Rattle.definition.specs.Rule as Rule
 use Rattle.definition.specs.Sheet.{step, monthday_range, week_day_range, time, repeats_layout, span_of, span}

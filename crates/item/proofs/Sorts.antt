@@ -5,7 +5,7 @@ use mathlib.Core.Bool.{Bool, true, false, cond}
 use Prim.Native.Nat.{ℕ}
 use lib.Dec.{eqb}
 use borrow.Author.Tests.{eq-eqb, ne_eqb}
-use Rattle.definition.specs.Field.{Read, Layout}
+use Rattle.definition.specs.Field.{Read}
 use Rattle.definition.specs.Rule.{YearRange, MonthdayRange, WeekRange, WeekDayRange, Span}
 use Rattle.definition.specs.Sheet.{year_range, monthday_range, week_range, week_day_range, span}
 use Rattle.item.specs.Sort.{of_sort}

@@ -6,7 +6,7 @@ use mathlib.Core.Bool.{true, false}
 use Prim.Native.Nat.{ℕ, suc, ◌+◌}
 use native.Mathlib.Omega.{arith}
 use lib.Dec.{eqb}
-use Rattle.definition.specs.Field.{Read, got, refused, Layout, no_bits, plain}
+use Rattle.definition.specs.Field.{Read, got, refused, no_bits, plain}
 use Rattle.definition.specs.Rule as Rule
 use Rattle.definition.specs.Sheet.{repeats_of}
 use Rattle.definition.proofs.Reading.{via-goes, via-stops}

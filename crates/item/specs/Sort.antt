@@ -1,7 +1,7 @@
 -- An item by its sort: 0 years, 1 monthdays, 2 weeks, 3 weekdays, else spans. What a stage makes of an item it says for each sort once, of the bit
 -- where the item stands and of what is read there.
 use Rattle.std.specs.Prelude.{List, cond, ℕ, eqb}
-use Rattle.definition.specs.Field.{Read, Layout}
+use Rattle.definition.specs.Field.{Read}
 use Rattle.definition.specs.Rule.{YearRange, MonthdayRange, WeekRange, WeekDayRange, Span}
 use Rattle.definition.specs.Sheet.{year_range, monthday_range, week_range, week_day_range, span}
 

@@ -14,7 +14,7 @@ use Rattle.laws.proofs.Numbers.{every-below}
 use Rattle.laws.proofs.Tests.{exact-eqb, exact-list}
 use Rattle.grid.specs.Cut.{Range}
 use Rattle.grid.proofs.Cut.{holds-in}
-use Rattle.definition.specs.Text.{Text, ascii, named}
+use Rattle.definition.specs.Text.{ascii, named}
 use Rattle.definition.specs.Line.{month_names, weekday_names}
 use Rattle.definition.specs.Rule.{weekday_bounds, month_bounds}
 use Rattle.item_text.specs.Day.{month_name, weekday_name}

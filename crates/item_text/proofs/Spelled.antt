@@ -9,7 +9,7 @@ use lib.ListN.{length, length-append}
 use borrow.Author.Tests.{le-leb, eq-eqb, ne_eqb}
 use Rattle.grid.specs.Cut.{holds}
 use Rattle.definition.specs.Rule.{week_bounds, year_bounds, operator_of, State}
-use Rattle.definition.specs.Text.{Text, ascii, digits, decimal, word, padded, plain, ◌then◌, of, unless, only}
+use Rattle.definition.specs.Text.{ascii, digits, decimal, word, padded, plain, ◌then◌, of, unless, only}
 use Rattle.definition.specs.Line.{single, item, clock, span_text, state_text, before}
 use Rattle.definition.proofs.Lengths.{length_digits}
 use Rattle.item_text.specs.Day.{month_name, weekday_name, end_text, item_text, behind}

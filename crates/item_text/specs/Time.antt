@@ -2,7 +2,6 @@
 use Rattle.std.specs.Prelude.{List, Bool, ℕ}
 use Rattle.std.proofs.Math.Option.{none}
 use Rattle.definition.specs.Rule.{fixed}
-use Rattle.definition.specs.Text.{Text}
 use Rattle.definition.specs.Line.{span_text}
 
 abbrev pub plain_span : ℕ → ℕ → Bool → List ℕ

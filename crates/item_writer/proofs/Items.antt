@@ -7,7 +7,7 @@ use native.Mathlib.Omega.{arith}
 use lib.Dec.{eqb, leb, ltb}
 use borrow.Author.Tests.{ltb-true, lt-ltb, le-ltb, ne_eqb}
 use Rattle.laws.proofs.Flags.{split-and}
-use Rattle.definition.specs.Field.{bits, Layout, field, plain, no_bits, ◌then◌, via, tagged}
+use Rattle.definition.specs.Field.{bits, field, plain, no_bits, ◌then◌, via, tagged}
 use Rattle.definition.specs.Day.{simple}
 use Rattle.definition.specs.Rule.{by_size}
 use Rattle.definition.specs.Sheet.{weekday_of, week_day_range, time_of, time, repeats_of, flag_bit, repeats_layout, span}

@@ -5,8 +5,8 @@ use mathlib.Core.Option.{Option, none, some, map, some-ne-none}
 use mathlib.Core.Bool.{Bool, true, false}
 use Prim.Native.Nat.{ℕ, zero, suc, ◌<◌}
 use native.Mathlib.Omega.{arith}
-use lib.ListN.{length, get_or, get_elem?}
-use Rattle.laws.specs.Lists.{any_of, first_index, All, PassesAt, FailsAt, FirstAt}
+use lib.ListN.{length, get_or}
+use Rattle.laws.specs.Lists.{any_of, first_index, All, FailsAt, FirstAt}
 use Rattle.laws.proofs.Lists.{Mem-All, any_none}
 
 module _ {A : Type 0} (t : A → Bool) where

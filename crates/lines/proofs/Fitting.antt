@@ -12,7 +12,6 @@ use Rattle.laws.proofs.Flags.{both-and, split-or}
 use Rattle.laws.proofs.Lists.{All-map₂, every-all, all-every}
 use Rattle.grid.specs.Cut.{Range, holds}
 use Rattle.grid.proofs.Cut.{in-holds}
-use Rattle.definition.specs.Field.{◌then◌ as ◌then_bits◌}
 use Rattle.definition.specs.Rule.{weekday_bounds, week_bounds, month_bounds, year_bounds, State, Span, YearRange, MonthdayRange, months, months_of, dated, WeekRange, WeekDayRange, fixed_days, holiday, Rule}
 use Rattle.definition.specs.Sheet.{Form, Limits, year_range, monthday_range, week_range, week_day_range, span, rule, rules}
 use Rattle.definition.specs.Stop.{monthday_stops, weekday_stops}

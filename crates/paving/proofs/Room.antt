@@ -10,7 +10,7 @@ use lib.ListN.{get_or}
 use borrow.Author.Tests.{lt-ltb, eq-eqb, ne_eqb, ltb-true, ltb-false, eqb-true, eqb-false}
 use Rattle.laws.specs.Lists.{from, keep}
 use Rattle.grid.specs.Group.{at}
-use Rattle.paving.specs.Grid.{Node, Room, size_of, width_of, grid, marks_from, marked}
+use Rattle.paving.specs.Grid.{Node, Room, size_of, width_of, grid, marks_from}
 
 pub from_cons : (j n : ℕ) → j < n → from j (n - j) ≡ j ∷ from (j + 1) (n - (j + 1))
 unfolding from

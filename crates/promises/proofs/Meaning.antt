@@ -9,7 +9,7 @@ use Rattle.laws.specs.Lists.{All}
 use Rattle.laws.proofs.Lists.{All-map₂, All-each, OnSome-map}
 use Rattle.laws.proofs.Spread.{flat_map-map}
 use Rattle.laws.proofs.Tests.{exact-eqb}
-use Rattle.grid.specs.Group.{Group, inside, pop, groups}
+use Rattle.grid.specs.Group.{Group, inside, pop}
 use Rattle.grid.specs.Cut.{as_runs}
 use Rattle.grid.proofs.Part.{groups-part, groups-each}
 use Rattle.grid.proofs.Value.{pop-agree}

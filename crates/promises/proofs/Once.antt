@@ -1,6 +1,6 @@
 -- NO RULE TWICE IN A LIST, of every sheet that is folded. Rests on the table of codes, and on the law that a rule without overlaps covers once.
 use mathlib.Core.Path.{refl, ap, subst}
-use mathlib.Core.List.{List, map}
+use mathlib.Core.List.{List}
 use Prim.Native.Nat.{ℕ, ◌≤◌}
 use native.Mathlib.Nat.{min-le_left}
 use native.Mathlib.Omega.{arith}

@@ -4,15 +4,15 @@ use mathlib.Core.List.{List}
 use mathlib.Core.Bool.{◌||◌, not}
 use Prim.Native.Nat.{ℕ, ◌+◌, ◌*◌, ◌≤◌}
 use Rattle.laws.specs.Lists.{any_of}
-use Rattle.definition.specs.Field.{got, Layout}
+use Rattle.definition.specs.Field.{got}
 use Rattle.definition.specs.Sheet.{Form, sheet_limits, title_width, Counts, counts}
 use Rattle.definition.specs.Stop.{monthday_stops, weekday_stops}
-use Rattle.definition.specs.Text.{Text, several}
+use Rattle.definition.specs.Text.{several}
 use Rattle.definition.specs.Line.{is_plain, span_text}
 use Rattle.definition.proofs.Lengths.{counts-low}
 use Rattle.sheet.specs.Begin.{rule_read_at, Readable}
 use Rattle.sheet.proofs.Titles.{parts, counts_same}
-use Rattle.rule_text.specs.Tale.{Tale, tale}
+use Rattle.rule_text.specs.Tale.{tale}
 use Rattle.rule_text.specs.Row.{items_told}
 use Rattle.rule_text.specs.Rule.{days_told, days_text}
 use Rattle.rule_text.proofs.Meaning.{days-read, spans-read}

@@ -7,12 +7,12 @@ use Prim.Native.Nat.{ℕ, zero, suc, ◌≤◌}
 use native.Mathlib.Omega.{arith}
 use lib.Dec.{eqb}
 use borrow.Author.Tests.{ne_eqb}
-use Rattle.definition.specs.Field.{got, sheet_bits, Layout}
+use Rattle.definition.specs.Field.{got, sheet_bits}
 use Rattle.definition.specs.Rule.{Time, fixed, variable, Span, months, WeekDayRange, fixed_days}
 use Rattle.definition.specs.Sheet.{years_of, weeks_of, year_range, monthday_range, week_range, week_day_range, span}
 use Rattle.definition.specs.Stop.{every_nth, weekday_stops}
 use Rattle.definition.specs.Day.{minute_of, no_repeats}
-use Rattle.definition.specs.Text.{Text, padded, named, of, only}
+use Rattle.definition.specs.Text.{padded, named, of, only}
 use Rattle.definition.specs.Line.{year_text, month_text, week_text, weekday_text, is_fixed, is_plain, span_text}
 use Rattle.definition.proofs.Bits.{Bytes}
 use Rattle.definition.proofs.Items.{year-faithful, monthday-faithful, week-faithful, weekday-faithful, span-faithful}

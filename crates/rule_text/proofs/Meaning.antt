@@ -15,7 +15,7 @@ use Rattle.definition.specs.Line.{year_text, month_text, week_text, weekday_text
 use Rattle.definition.proofs.Reading.{all-parts}
 use Rattle.definition.proofs.RuleParts.{RuleParts}
 use Rattle.item.proofs.Sorts.{of-years, of-monthdays, of-weeks, of-weekdays, of-spans}
-use Rattle.rule_text.specs.Tale.{Tale, tale, told, item_told}
+use Rattle.rule_text.specs.Tale.{tale, told, item_told}
 use Rattle.rule_text.specs.Row.{followed, after, others_told, items_told, opening, part_told}
 use Rattle.rule_text.specs.Rule.{days_told, days_text}
 use Rattle.rule_text.proofs.Rows.{opening-none, part-some}

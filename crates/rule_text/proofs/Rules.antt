@@ -12,7 +12,7 @@ use Rattle.laws.proofs.Flags.{or_assoc}
 use Rattle.definition.specs.Rule.{Operator, Normal, Additional, Fallback, operator_of, Kind, State, Span, Rule}
 use Rattle.definition.specs.Point.{is_normal}
 use Rattle.definition.specs.Stop.{monthday_stops, weekday_stops}
-use Rattle.definition.specs.Text.{Text, ◌then◌, of, is_none, several}
+use Rattle.definition.specs.Text.{◌then◌, of, is_none, several}
 use Rattle.definition.specs.Line.{is_plain, span_text, state_text, rule_text}
 use Rattle.definition.specs.Show.{wordless}
 use Rattle.rule_text.specs.Tale.{Tale}

@@ -2,7 +2,7 @@
 use Rattle.std.specs.Prelude.{◌≡◌, List, [], ◌++◌, Bool, ◌&&◌, ◌||◌, not, cond, ℕ}
 use Rattle.definition.specs.Rule.{Operator, Rule}
 use Rattle.definition.specs.Point.{is_normal}
-use Rattle.definition.specs.Text.{Text, word, ◌then◌, several}
+use Rattle.definition.specs.Text.{word, ◌then◌, several}
 use Rattle.definition.specs.Line.{year_text, month_text, week_text, weekday_text, span_text, part, before, rule_text}
 use Rattle.definition.specs.Show.{wordless}
 use Rattle.text.specs.Put.{Put}

@@ -1,6 +1,6 @@
 -- A tale is what the line says of what stands at a bit: its text, whether some of it has no words, and the bit after it.
 use Rattle.std.specs.Prelude.{List, [], Bool, true, false, not, ℕ}
-use Rattle.definition.specs.Field.{Read, got, refused, Layout}
+use Rattle.definition.specs.Field.{Read, got, refused}
 use Rattle.definition.specs.Sheet.{year_range, monthday_range, week_range, week_day_range, span}
 use Rattle.definition.specs.Stop.{monthday_stops, weekday_stops}
 use Rattle.definition.specs.Text.{Text}

@@ -5,7 +5,7 @@ use mathlib.Core.List.{List, [], ◌∷◌, ◌++◌, flat_map, append_assoc}
 use Prim.Native.Nat.{ℕ, ◌+◌, ◌*◌, ◌≤◌}
 use native.Mathlib.Omega.{arith}
 use lib.ListN.{length, length-append}
-use Rattle.definition.specs.Field.{bits, Layout, field, ◌then◌, via, tagged}
+use Rattle.definition.specs.Field.{bits, field, ◌then◌, via, tagged}
 use Rattle.definition.specs.Rule.{operator_number, kind_number, Rule}
 use Rattle.definition.specs.Sheet.{Form, sheet_limits, title_width, head_width, head_of, body_of, title, counts, head, body, rule}
 use Rattle.definition.proofs.Bits.{length-bits}

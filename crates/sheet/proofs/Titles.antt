@@ -3,7 +3,7 @@ use mathlib.Core.Path.{◌≡◌, sym, ap, ◌∙◌}
 use mathlib.Core.List.{List}
 use Prim.Native.Nat.{ℕ, ◌+◌}
 use lib.ListN.{length}
-use Rattle.definition.specs.Field.{Read, got, refused, Layout}
+use Rattle.definition.specs.Field.{Read, got, refused}
 use Rattle.definition.specs.Rule.{Operator, Kind}
 use Rattle.definition.specs.Sheet.{Form, sheet_limits, title_width, head_width, Title, Counts, head_of, title, counts}
 use Rattle.definition.proofs.Faithful.{clash}

@@ -7,7 +7,7 @@ use native.Mathlib.Nat.{zero-div, zero-mod}
 use native.Mathlib.Omega.{arith}
 use lib.ListN.{length, take, drop, replicate, length-append, length-drop, length-replicate}
 use lib.Seq.{sets-eq, take-append-le, drop-append-le, drop-append-add}
-use Rattle.definition.specs.Field.{bits, number, sheet_bits, bytes_for, bytes, packed, Layout, field, ◌then◌, via, tagged, several}
+use Rattle.definition.specs.Field.{bits, number, sheet_bits, bytes_for, bytes, packed, field, ◌then◌, via, tagged, several}
 use Rattle.definition.specs.Rule.{Rule}
 use Rattle.definition.specs.Sheet.{Form, sheet_limits, opening_width, rule, opening, rules}
 use Rattle.definition.specs.Fold.{buffer}

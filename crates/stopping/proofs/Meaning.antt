@@ -6,7 +6,7 @@ use Prim.Native.Nat.{ℕ, ◌+◌, ◌<◌}
 use native.Mathlib.Omega.{arith}
 use lib.ListN.{length}
 use Rattle.laws.specs.Lists.{any_of}
-use Rattle.definition.specs.Field.{got, Layout}
+use Rattle.definition.specs.Field.{got}
 use Rattle.definition.specs.Rule.{Operator, WeekDayRange, Rule}
 use Rattle.definition.specs.Sheet.{Form, sheet_limits, title_width, head_width, year_range, monthday_range, week_range, week_day_range, span, Counts, counts}
 use Rattle.definition.specs.Stop.{is_fallback, year_stops, monthday_stops, week_stops, is_holiday, is_moved, lacks_nth, span_stops, first_that_applies, reason}

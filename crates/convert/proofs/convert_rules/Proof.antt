@@ -8,7 +8,7 @@ use lib.ListN.{length}
 use borrow.Author.Rules.{rules as goal_rules}
 use borrow.Author.Tests.{lt-ltb, le-ltb, ltb-true, ltb-false}
 use Rattle.laws.specs.Lists.{only_if}
-use Rattle.definition.specs.Field.{Layout, bytes_for}
+use Rattle.definition.specs.Field.{bytes_for}
 use Rattle.definition.specs.Rule.{Rule}
 use Rattle.definition.specs.Sheet.{sheet_limits, rule, opening, rules, encode}
 use Rattle.definition.specs.Fold.{Written, buffer, written_numbers}
@@ -19,7 +19,7 @@ use Rattle.forms.specs.Form.{as_form}
 use Rattle.forms.proofs.Numbers.{rules-fit}
 use Rattle.sheet.specs.Parts.{SheetRead}
 use Rattle.sheet.proofs.Begins.{rules-end, begins-long}
-use Rattle.item_writer.specs.Written.{RoomFor, Wrote}
+use Rattle.item_writer.specs.Written.{RoomFor}
 use Rattle.item_writer.proofs.Chain.{wrote_then, room-first, room-rest, same_size}
 use Rattle.sheet_writer.proofs.Frame.{padding-length}
 use Rattle.convert.proofs.Answer.{converts-not, all-commented, encoded-length, converts-short, converts-fine, rules-begun, long-told, heads-inside, moved_length, laid, room-for-all, all-written}

@@ -6,7 +6,6 @@ use Prim.Native.Nat.{◌+◌, ◌-◌, ◌≤◌, ◌<◌}
 use native.Mathlib.Omega.{arith}
 use lib.Dec.{ltb}
 use lib.ListN.{length, get_or}
-use Rattle.definition.specs.Field.{Layout}
 use Rattle.laws.proofs.Lists.{All-at}
 use Rattle.definition.specs.Rule.{Rule, no_rule}
 use Rattle.definition.specs.Sheet.{sheet_limits, rule}

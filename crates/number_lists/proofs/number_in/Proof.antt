@@ -1,7 +1,7 @@
 -- `number_lists::number_in` meets its contract: before the first list only the empty list is numbered. The loop's invariant: what is hashed and
 -- numbered before a place, and the lengths are kept.
 use mathlib.Core.Path.{◌≡◌, refl, ◌∙◌}
-use Prim.Native.Nat.{suc, ◌+◌, ◌-◌, ◌≤◌, ◌<◌}
+use Prim.Native.Nat.{◌+◌, ◌-◌, ◌≤◌}
 use native.Mathlib.Omega.{arith}
 use lib.ListN.{length, length-set}
 use borrow.Author.Rules.{rules}

@@ -1,6 +1,6 @@
 -- `overlap::rule_overlaps` meets its contract. The loop's invariant: the dimensions passed say nothing, so those left say all.
 use mathlib.Core.Path.{◌≡◌, refl, sym, ◌∙◌}
-use Prim.Native.Nat.{◌-◌, ◌≤◌}
+use Prim.Native.Nat.{◌≤◌}
 use native.Mathlib.Omega.{arith}
 use borrow.Author.Rules.{rules}
 use Rattle.overlap.proofs.Rules.{meet_in, row-asked, row-there, no_row}

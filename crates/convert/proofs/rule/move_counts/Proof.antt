@@ -3,7 +3,7 @@ use mathlib.Core.Path.{◌≡◌, sym, ap, ◌∙◌}
 use mathlib.Core.List.{[], ◌∷◌}
 use native.Mathlib.Omega.{arith}
 use borrow.Author.Rules.{rules}
-use Rattle.definition.specs.Field.{Layout, got, sheet_bits}
+use Rattle.definition.specs.Field.{got, sheet_bits}
 use Rattle.definition.specs.Sheet.{most_items, sheet_limits, counts}
 use Rattle.definition.proofs.Faithful.{clash}
 use Rattle.definition.proofs.Lengths.{counts-low}

@@ -11,7 +11,6 @@ use Rattle.field.proofs.Bytes.{known_bytes}
 use Rattle.forms.specs.Form.{as_form}
 use Rattle.forms.proofs.Numbers.{narrow}
 use Rattle.sheet.specs.Begin.{rule_read_at}
-use Rattle.item_writer.specs.Written.{Wrote}
 use Rattle.item_writer.proofs.Chain.{wrote_then, room-rest, room-first, room_as, wrote_as}
 use Rattle.sheet.proofs.RuleBits.{body_bits, rule-split}
 use Rattle.convert.proofs.Parts.{counts-there, body-there, body-size, reaches}

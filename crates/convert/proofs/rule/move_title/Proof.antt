@@ -7,7 +7,6 @@ use borrow.Author.Rules.{rules}
 use lib.ListN.{take, drop}
 use lib.Seq.{sets}
 use Rattle.definition.specs.Field.{bits, field_at, sheet_bits}
-use Rattle.definition.specs.Sheet.{Form}
 use Rattle.field.proofs.Bytes.{known_bytes}
 use Rattle.forms.specs.Form.{as_form}
 use Rattle.forms.proofs.Numbers.{narrow}

@@ -3,7 +3,6 @@ use mathlib.Core.Path.{sym, ap, ◌∙◌}
 use native.Mathlib.Omega.{arith}
 use lib.ListN.{length, length-append}
 use borrow.Author.Rules.{rules}
-use Rattle.definition.specs.Text.{Text}
 use Rattle.text.proofs.Putting.{put_then, put_as}
 use Rattle.item_text.specs.Day.{end_text, behind}
 use Rattle.item_text.proofs.Spelled.{item-once, item-both, item-least}

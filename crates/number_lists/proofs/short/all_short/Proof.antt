@@ -1,6 +1,6 @@
 -- `number_lists::short::all_short` meets its contract. The loop's invariant: the lists passed are short.
 use mathlib.Core.Path.{sym}
-use mathlib.Core.Bool.{true, true≢false}
+use mathlib.Core.Bool.{true≢false}
 use Prim.Native.Nat.{◌-◌, ◌≤◌}
 use native.Mathlib.Omega.{arith}
 use borrow.Author.Count.{below_more}

@@ -5,7 +5,7 @@ use native.Mathlib.Omega.{arith}
 use lib.ListN.{length, length-append}
 use borrow.Author.Rules.{rules}
 use Rattle.definition.specs.Field.{sheet_bits}
-use Rattle.rule_text.specs.Tale.{Tale, item_told}
+use Rattle.rule_text.specs.Tale.{item_told}
 use Rattle.rule_text.specs.Row.{others_told}
 use Rattle.rule_text.proofs.Telling.{shows-as, shows_nothing, shows_then}
 use Rattle.rule_text.proofs.Rows.{item-near, items-none, items-some}

@@ -3,7 +3,6 @@ use native.Mathlib.Omega.{arith}
 use borrow.Author.Rules.{rules}
 use Rattle.definition.specs.Field.{sheet_bits}
 use Rattle.text.proofs.Putting.{put_then}
-use Rattle.rule_text.specs.Tale.{Tale}
 use Rattle.rule_text.proofs.Telling.{shows-as, shows_nothing}
 use Rattle.rule_text.proofs.Rows.{part_none, part-some, part-long}
 use Rattle.rule_text.proofs.row.show_part.Statement.{statement}

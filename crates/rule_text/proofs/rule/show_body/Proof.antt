@@ -13,7 +13,6 @@ use Rattle.sheet.specs.Begin.{rule_read_at}
 use Rattle.sheet.specs.Head.{as_counts}
 use Rattle.sheet.proofs.Titles.{counts_same, counts-refused}
 use Rattle.text.proofs.Putting.{put_then, put_as}
-use Rattle.rule_text.specs.Tale.{Tale}
 use Rattle.rule_text.proofs.Telling.{shows-as}
 use Rattle.rule_text.proofs.Rules.{days-near, body-text, body-long, lacks-either}
 use Rattle.rule_text.proofs.Bodies.{counts-few, days-told, spans-told}

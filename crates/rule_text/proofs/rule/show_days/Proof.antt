@@ -4,7 +4,6 @@ use native.Mathlib.Omega.{arith}
 use lib.ListN.{length}
 use borrow.Author.Rules.{rules}
 use Rattle.definition.specs.Field.{sheet_bits}
-use Rattle.rule_text.specs.Tale.{Tale}
 use Rattle.rule_text.specs.Row.{part_told}
 use Rattle.rule_text.proofs.Telling.{shows-as, shows_then}
 use Rattle.rule_text.proofs.Rows.{part-near}

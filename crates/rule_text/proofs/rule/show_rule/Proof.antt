@@ -5,7 +5,6 @@ use native.Mathlib.Omega.{arith}
 use lib.ListN.{length}
 use borrow.Author.Rules.{rules}
 use Rattle.definition.specs.Field.{sheet_bits}
-use Rattle.definition.specs.Text.{Text}
 use Rattle.definition.specs.Line.{state_text}
 use Rattle.forms.specs.Form.{as_form}
 use Rattle.sheet.specs.Begin.{rule_read_at}

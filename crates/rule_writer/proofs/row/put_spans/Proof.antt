@@ -6,7 +6,6 @@ use native.Mathlib.Omega.{arith}
 use lib.ListN.{length}
 use borrow.Author.Rules.{rules}
 use Rattle.laws.specs.Lists.{All}
-use Rattle.definition.specs.Field.{Layout}
 use Rattle.definition.specs.Sheet.{span}
 use Rattle.item_writer.proofs.Chain.{Still, still-all, still-next, still-none, room-first, room_as}
 use Rattle.tables.specs.Days.{FitsSpan}

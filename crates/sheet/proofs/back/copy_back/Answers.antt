@@ -1,5 +1,5 @@
 -- `sheet::back::copy_back` meets its contract.
-use Rattle.std.proofs.Common.{length, [], ◌∷◌, ◌++◌}
+use Rattle.std.proofs.Common.{length, ◌++◌}
 use mathlib.Core.Path.{sym, ap, ◌∙◌}
 use borrow.Author.Tests.{ltb-true, ltb-false}
 use lib.ListN.{drop}
