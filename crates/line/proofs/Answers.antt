@@ -8,7 +8,7 @@ use lib.ListN.{length}
 use Rattle.definition.specs.Field.{no_room, no_words}
 use Rattle.definition.specs.Rule.{Rule}
 use Rattle.definition.specs.Sheet.{Form}
-use Rattle.definition.specs.Fold.{Written, buffer, unwritten}
+use Rattle.definition.specs.Fold.{buffer, unwritten}
 use Rattle.definition.specs.Line.{line_of, line}
 use Rattle.definition.specs.Show.{first_wordless, show_rules}
 use Rattle.definition.proofs.Writing.{written-not, written-fine, written-front}

@@ -15,7 +15,7 @@ use Rattle.laws.proofs.Spread.{flat_map-last}
 use Rattle.definition.specs.Rule.{Rule}
 use Rattle.definition.specs.Sheet.{Form}
 use Rattle.definition.specs.Point.{is_normal}
-use Rattle.definition.specs.Text.{Text, is_none}
+use Rattle.definition.specs.Text.{is_none}
 use Rattle.definition.specs.Line.{before, rule_text, line_of}
 use Rattle.definition.specs.Show.{wordless, first_wordless}
 use Rattle.sheet.specs.Begin.{rule_read_at}

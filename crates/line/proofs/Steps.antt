@@ -12,7 +12,6 @@ use Rattle.laws.specs.Lists.{from, first_index}
 use Rattle.definition.specs.Field.{sheet_bits}
 use Rattle.definition.specs.Rule.{Rule}
 use Rattle.definition.specs.Sheet.{Form, sheet_limits}
-use Rattle.definition.specs.Text.{Text}
 use Rattle.definition.specs.Line.{rule_text, line_of}
 use Rattle.definition.specs.Show.{first_wordless}
 use Rattle.definition.proofs.Bits.{Bytes}

@@ -4,7 +4,7 @@ use Rattle.definition.specs.Rule.{Rule}
 use Rattle.definition.specs.Sheet.{sheet_limits}
 use Rattle.definition.specs.Stop.{drained, left}
 use Rattle.definition.specs.Point.{list_at}
-use Rattle.definition.specs.Fold.{Drained, fine, over, drain}
+use Rattle.definition.specs.Fold.{fine, over, drain}
 use Rattle.definition.specs.Lookup.{Looked, refusal, state_at}
 use Rattle.tables.specs.ToDraw.{ToDraw}
 

@@ -1,14 +1,13 @@
 -- `hours::line` meets its contract: in the form that the number names, or refused.
 use mathlib.Core.List.{List}
 use Prim.Native.Nat.{ℕ}
-use mathlib.Core.Path.{◌≡◌, refl}
+use mathlib.Core.Path.{refl}
 use lib.ListN.{length}
 use borrow.Author.Rules.{rules}
 use Rattle.definition.specs.Sheet.{Form, sheet_limits}
 use Rattle.definition.specs.Fold.{Written, written_numbers, unwritten}
 use Rattle.definition.specs.Show.{show_line}
 use Rattle.definition.specs.Forms.{show_line_in}
-use Rattle.forms.specs.Form.{as_form}
 use Rattle.hours.proofs.Entries.{few-places, all-places, of-same, form-known, form-unknown}
 use Rattle.hours.proofs.line.Statement.{statement}
 use Rattle.hours.proofs.line.Tie as tie

@@ -1,12 +1,11 @@
 -- `hours::lookup` meets its contract: in the form that the number names, or refused.
 use mathlib.Core.List.{List}
 use Prim.Native.Nat.{ℕ}
-use mathlib.Core.Path.{◌≡◌, sym, ◌∙◌}
+use mathlib.Core.Path.{sym, ◌∙◌}
 use borrow.Author.Rules.{rules}
 use Rattle.definition.specs.Sheet.{Form, sheet_limits}
 use Rattle.definition.specs.Lookup.{Looked, refusal, lookup}
 use Rattle.definition.specs.Forms.{lookup_in}
-use Rattle.forms.specs.Form.{as_form}
 use Rattle.hours.proofs.Entries.{few-places, all-places, form-known, form-unknown}
 use Rattle.hours.proofs.lookup.Statement.{statement}
 use Rattle.hours.proofs.lookup.Tie as tie
