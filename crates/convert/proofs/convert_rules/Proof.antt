@@ -26,6 +26,7 @@ use Rattle.convert.proofs.Answer.{converts-not, all-commented, encoded-length, c
 use Rattle.convert.proofs.convert_rules.Statement.{statement}
 use Rattle.convert.proofs.convert_rules.Tie as tie
 
+-- the sheet is of bytes
 bytes : (c : tie.After-first_long_comment-long) → Bytes c.args.sheet.now
 bytes c = known_bytes c.args.sheet.now (λ j. omega (arith, c.shared_slice_known-1.given j))
 

@@ -30,6 +30,7 @@ invariant-loop form to sheet begins count end out₀ place next₀ rule₀ out n
 abbrev decreases-loop : tie.decreases-loop-rule
 decreases-loop form to sheet begins count end out₀ place next₀ rule₀ out next passed = count - passed
 
+-- the sheet is of bytes
 bytes : (c : tie.In-loop-rule invariant-loop decreases-loop) → Bytes c.args.sheet.now
 bytes c = known_bytes c.args.sheet.now (λ j. omega (arith, c.shared_slice_known-1.given j))
 

@@ -1,4 +1,4 @@
--- `state_at::look` meets its contract, by the law that the list which the cell of a point's names.before.before is the list at the point.
+-- `state_at::look` meets its contract, by the law that the list which the cell of a point's box names is the list at the point.
 use mathlib.Core.Path.{ap, ◌∙◌}
 use mathlib.Core.List.{[]}
 use borrow.Author.Rules.{rules}

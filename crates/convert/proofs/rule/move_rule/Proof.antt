@@ -17,6 +17,7 @@ use Rattle.convert.proofs.Parts.{counts-there, body-there, body-size, reaches}
 use Rattle.convert.proofs.rule.move_rule.Statement.{statement}
 use Rattle.convert.proofs.rule.move_rule.Tie as tie
 
+-- the sheet is of bytes
 bytes : (c : tie.After-shared_slice_known-1) → Bytes c.args.sheet.now
 bytes c = known_bytes c.args.sheet.now (λ j. omega (arith, c.shared_slice_known-1.given j))
 

@@ -12,6 +12,7 @@ use Rattle.hours.proofs.Checked.{rules-read, converts-read, convert-refused}
 use Rattle.hours.proofs.in_form.convert.Statement.{statement}
 use Rattle.hours.proofs.in_form.convert.Tie as tie
 
+-- the sheet is of bytes
 bytes : (c : tie.After-check-checked) → Bytes c.args.sheet.now
 bytes c = known_bytes c.args.sheet.now (λ j. omega (arith, c.shared_slice_known-1.given j))
 

@@ -1,4 +1,4 @@
--- `point_state::few::few_lists` meets its contract: too rules.before.before.before.before are not counted further, and few boxes, or few combinations of kinds, have few lists.
+-- `point_state::few::few_lists` meets its contract: too many rules are not counted further, and few boxes, or few combinations of kinds, have few lists.
 use mathlib.Core.Path.{sym, ◌∙◌}
 use mathlib.Core.Bool.{true≢false}
 use mathlib.Core.List.{[], ◌∷◌}
