@@ -28,7 +28,7 @@ use Rattle.draw_rules.specs.Listing.{Settled}
 use Rattle.draw_rules.proofs.Settling.{shown-short}
 
 -- ## A store that shows the same lists
-module _ (sizes rows table : List ℕ) (rs : List Rule) (node : Node (size_of sizes 4) sizes 4 0) (cells lists : List ℕ) (used k : ℕ) (one_Cell : length cells ≡ size_of sizes 4)
+module _ (sizes rows table : List ℕ) (rs : List Rule) (node : Node (size_of sizes 4) sizes 4 0) (cells lists : List ℕ) (used k : ℕ) (one_cell : length cells ≡ size_of sizes 4)
     (earlier : Earlier lists used k) (list : (p : List ℕ) → Within sizes 4 p → shown cells lists (box_of sizes 4 0 p) ≡ indexes_at (take k rs) (start_of rows table 4 p)) where
   pub stored_moved : (cells' lists' : List ℕ) (kept : ℕ) → Store cells' lists' kept → ((box : ℕ) → box < length cells → shown cells' lists' box ≡ shown cells lists box)
       → ((p : ℕ) → p < kept → (l : ℕ) × (l < used) × (list_of lists' p ≡ list_of lists l)) → kept ≤ held_limit → Stored sizes rows table cells' lists' kept rs k
@@ -40,7 +40,7 @@ module _ (sizes rows table : List ℕ) (rs : List Rule) (node : Node (size_of si
   }
 
 module _ (replacing counts ranges rows sizes table : List ℕ) (n : ℕ) (rs : List Rule) (to-list : ToList replacing counts ranges rows sizes table n rs)
-    (cells lists : List ℕ) (used k : ℕ) (here : k < n) (before : Stored sizes rows table cells lists used rs k) (one_Cell : length cells ≡ size_of sizes 4) where
+    (cells lists : List ℕ) (used k : ℕ) (here : k < n) (before : Stored sizes rows table cells lists used rs k) (one_cell : length cells ≡ size_of sizes 4) where
   abbrev covered : ℕ → Bool
   covered = covered_box sizes (table_row counts k 4) rows table (table_row ranges k 256)
 
@@ -52,7 +52,7 @@ module _ (replacing counts ranges rows sizes table : List ℕ) (n : ℕ) (rs : L
     -- 6
     pub long-told : over ≡ long sheet_limits rs k
     long-told =
-        drew.told ∙ ap (some_overfull (eqb (get_or replacing k 0) 1) covered (shown cells lists)) one_Cell
+        drew.told ∙ ap (some_overfull (eqb (get_or replacing k 0) 1) covered (shown cells lists)) one_cell
         ∙ some-long replacing counts ranges rows sizes table n rs to-list k here covered covers (shown cells lists) before.list (λ b _. shown-short cells lists used before.store b)
 
     module _ (same : length cells' ≡ length cells) (quiet : over ≡ false) where
@@ -67,11 +67,11 @@ module _ (replacing counts ranges rows sizes table : List ℕ) (n : ℕ) (rs : L
         -- 14
         pub many-told : ltb held_limit kept ≡ many sheet_limits rs k
         many-told =
-            settled.told ∙ ap (λ m. ltb held_limit (length (distinct_lists (map (shown cells' lists') (from 0 m))))) (same ∙ one_Cell)
+            settled.told ∙ ap (λ m. ltb held_limit (length (distinct_lists (map (shown cells' lists') (from 0 m))))) (same ∙ one_cell)
             ∙ many-lists replacing counts ranges rows sizes table n rs to-list k here (shown cells' lists') drawn-at
 
         -- THE STORE AFTER THE RULE
         pub stored_next : kept ≤ held_limit → Stored sizes rows table cells'' lists'' kept rs (suc k)
         stored_next few =
-            stored_moved sizes rows table rs (boxes-node replacing counts ranges rows sizes table n rs to-list) cells' lists' used' (suc k) (same ∙ one_Cell) drew.earlier drawn-at
+            stored_moved sizes rows table rs (boxes-node replacing counts ranges rows sizes table n rs to-list) cells' lists' used' (suc k) (same ∙ one_cell) drew.earlier drawn-at
             cells'' lists'' kept settled.store settled.shows settled.there few

@@ -26,11 +26,11 @@ key_in : (c : tie.After-key_of-key) → c.key_of-key.result < length c.args.memo
 key_in c = omega (arith, key-few c, c.requires.0.made.many)
 
 -- the rule has made no list of it yet
-old : (c : tie.After-has_room) → let key = c in get_or key.before.before.before.before.before.before.before.args.memo.now key.key_of-key.result 0 ≤ key.before.before.before.before.before.before.before.args.before
+old : (c : tie.After-has_room) → get_or c.args.memo.now c.key_of-key.result 0 ≤ c.args.before
 old c = omega (arith, c.if-u16_to_usize-before.false, c.u16_to_usize.ensures.0)
 
 -- its number fits, and its list too
-next : (c : tie.After-has_room) → let key = c in key.before.before.before.before.before.before.before.args.drawn.used + 1 < 65536
+next : (c : tie.After-has_room) → c.args.drawn.used + 1 < 65536
 next c =
     let made = c.requires.0 in
     omega (arith, number-left made.made _ (key-few c.before.before.before.before) (old c), made.few)
