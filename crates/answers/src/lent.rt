@@ -10,11 +10,7 @@ fn put_numbers(numbers: &[u64], lent: &mut [u64])
     requires { length numbers.now ≤ length lent.old }
     ensures { lent.new ≡ buffer numbers.now lent.old }
 {
-    let mut i: usize = 0;
-    while i < numbers.len() {
-        lent[i] = numbers[i];
-        i += 1;
-    }
+    lent[..numbers.len()].copy_from_slice(numbers);
 }
 
 // Code, drained, emitted, left, bytes, place, why.

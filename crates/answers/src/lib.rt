@@ -2,11 +2,15 @@
 #![tactic(auto)]
 
 pub mod lent;
+pub mod refusal;
 
 ghost use Rattle.std.specs.Prelude.{◌≡◌};
-ghost use Rattle.definition.specs.Fold.{numbers, refusal};
+ghost use Rattle.definition.specs.Fold.{numbers, refusal, unwritten, written_numbers};
 ghost use Rattle.definition.specs.Lookup as state;
-ghost use Rattle.answers.specs.Numbers.{fold_numbers, looked_up};
+ghost use Rattle.answers.specs.Numbers.{fold_numbers, looked_up, write_numbers};
+ghost use Rattle.answers.specs.Refusal.{code_of};
+
+pub use refusal::{Read, Reason, Refusal};
 
 // "The fold answers code, drained, emitted (folded rules only), left (rules copied), bytes written, place." And 02: why it stopped, "0 if nothing
 // stopped".
@@ -62,5 +66,36 @@ pub fn lookup_refused(code: u64, place: u64) -> Answer
         kind: 0,
         comment: 0,
         place,
+    }
+}
+
+impl Folded {
+    // A fold that was refused.
+    pub fn refused(why: Refusal) -> Folded
+        ensures { fold_numbers result ≡ numbers (refusal (code_of why.reason) why.place) }
+    {
+        fold_refused(u64::from(why.reason.code()), why.place as u64)
+    }
+}
+
+impl Answer {
+    // A lookup that was refused.
+    pub fn refused(why: Refusal) -> Answer
+        ensures { looked_up result ≡ state.refusal (code_of why.reason) why.place }
+    {
+        lookup_refused(u64::from(why.reason.code()), why.place as u64)
+    }
+}
+
+impl Written {
+    // What a refused entry answers: nothing was written.
+    pub fn refused(why: Refusal) -> Written
+        ensures { write_numbers result ≡ written_numbers (unwritten (code_of why.reason) why.place) }
+    {
+        Written {
+            code: why.reason.code(),
+            bytes: 0,
+            place: why.place,
+        }
     }
 }

@@ -1,3 +1,2 @@
 pub mod Folding
-pub mod Comparing
 pub mod Kept

@@ -3,12 +3,11 @@
 
 mod scratch;
 
-ghost use Rattle.std.specs.Prelude.{◌≡◌, ◌≤◌, eqb, length};
+ghost use Rattle.std.specs.Prelude.{◌≡◌, eqb, length};
 ghost use Rattle.laws.specs.Tests.{same_list};
 ghost use Rattle.words.specs.Words.{part};
 ghost use Rattle.tables.specs.Days.{box_words, Ready};
 
-use casts::u16_to_usize;
 use scratch::fold_list;
 
 // Writes the words of a box's day; answers how many there are.
@@ -27,11 +26,11 @@ pub fn fold_box(
 {
     let count_at = box_index * tables::LIST_PLACES;
     let first = count_at + 1;
-    let end = first + u16_to_usize(lists[count_at]);
+    let end = first + usize::from(lists[count_at]);
     fold_list(words, states, span_counts, spans, &lists[first..end], 4)
 }
 
-// Whether a box's day is another day, which stands as the first `word_count` of `words`. `other` is scratch for the box's words.
+// Whether a box's day is another one. `other` is scratch for the box's words.
 pub fn same_day(
     words: &[u64],
     other: &mut [u64],
@@ -40,17 +39,10 @@ pub fn same_day(
     spans: &[u64],
     lists: &[u16],
     box_index: usize,
-    word_count: usize,
 ) -> bool
-    requires ready { Ready states.now span_counts.now spans.now lists.now (length other.old) box_index }
-    requires word_count_in_bounds { word_count ≤ length words.now }
-    ensures { result ≡ same_list eqb (box_words states.now span_counts.now spans.now lists.now box_index)
-        (part words.now 0 word_count) }
+    requires { Ready states.now span_counts.now spans.now lists.now (length other.old) box_index }
+    ensures { result ≡ same_list eqb (box_words states.now span_counts.now spans.now lists.now box_index) words.now }
 {
-    let other_count = fold_box(other, states, span_counts, spans, lists, box_index);
-    if other_count == word_count {
-        day_flat::same_words(other, words, word_count)
-    } else {
-        false
-    }
+    let count = fold_box(other, states, span_counts, spans, lists, box_index);
+    day_flat::same_words(&other[..count], words)
 }

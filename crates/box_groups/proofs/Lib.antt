@@ -2,3 +2,4 @@ pub mod Listed
 pub mod Growing
 pub mod Boxes
 pub mod Groups
+pub mod Unmarked

@@ -14,14 +14,16 @@ use Rattle.laws.proofs.Flags.{or-false}
 use Rattle.box_groups.specs.Boxes.{all_are, emptied_at, up, Looked}
 
 -- ## The first boxes of a list, moved up
-up_at : (shift : ℕ) (boxes : List ℕ) (k : ℕ) → k < length boxes → get_or (up shift boxes) k 0 ≡ get_or boxes k 0 + shift
-up_at shift [] k h = absurd (omega arith)
-up_at shift (b ∷ bs) zero h = refl
-up_at shift (b ∷ bs) (suc k) h = up_at shift bs k (omega arith)
+pub up-at : (shift : ℕ) (boxes : List ℕ) (k : ℕ) → k < length boxes → get_or (up shift boxes) k 0 ≡ get_or boxes k 0 + shift
+up-at shift [] k h = absurd (omega arith)
+up-at shift (b ∷ bs) zero h = refl
+up-at shift (b ∷ bs) (suc k) h = up-at shift bs k (omega arith)
 
-pub first-low : (boxes : List ℕ) (count : ℕ) → count ≤ length boxes → (bound k : ℕ) → All (λ b. b < bound) (take count boxes) → k < count → get_or boxes k 0 < bound
-first-low boxes count h bound k a l =
-    rw (← get_or-take count boxes k 0 l) (All-at (λ b. b < bound) (take count boxes) 0 a k (omega (arith, length-take-le count boxes h)))
+pub up-many : (boxes : List ℕ) (shift : ℕ) → length (up shift boxes) ≡ length boxes
+up-many boxes shift = length-map boxes (λ b. b + shift)
+
+pub each-low : (boxes : List ℕ) (shift bound k : ℕ) → All (λ b. b < bound) (up shift boxes) → k < length boxes → get_or boxes k 0 + shift < bound
+each-low boxes shift bound k a l = rw (← up-at shift boxes k l) (All-at (λ b. b < bound) (up shift boxes) 0 a k (omega (arith, up-many boxes shift)))
 
 module _ (boxes : List ℕ) (count shift : ℕ) (h : count ≤ length boxes) where
   pub up-length : length (up shift (take count boxes)) ≡ count
@@ -29,7 +31,7 @@ module _ (boxes : List ℕ) (count shift : ℕ) (h : count ≤ length boxes) whe
 
   pub up_first : (k : ℕ) → k < count → get_or (up shift (take count boxes)) k 0 ≡ get_or boxes k 0 + shift
   up_first k l =
-      up_at shift (take count boxes) k (omega (arith, length-take-le count boxes h)) ∙ ap (◌+ shift) (get_or-take count boxes k 0 l)
+      up-at shift (take count boxes) k (omega (arith, length-take-le count boxes h)) ∙ ap (◌+ shift) (get_or-take count boxes k 0 l)
 
   pub up-low : (bound k : ℕ) → All (λ b. b < bound) (up shift (take count boxes)) → k < count → get_or boxes k 0 + shift < bound
   up-low bound k a l = rw (← up_first k l) (All-at (λ b. b < bound) (up shift (take count boxes)) 0 a k (omega (arith, up-length)))

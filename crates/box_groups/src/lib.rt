@@ -3,8 +3,6 @@
 // The first box of the group is the first one that has its value: no column before its own is good.
 #![tactic(auto)]
 
-pub mod search;
-
 ghost use Rattle.std.specs.Prelude.{◌≡◌, false, true, ℕ, ◌+◌, ◌*◌, ◌≤◌, ◌<◌, length, get_or, take};
 ghost use Rattle.std.proofs.lemmas.List.Edits.{sets};
 ghost use Rattle.laws.specs.Lists.{All};
@@ -12,19 +10,15 @@ ghost use Rattle.paving.specs.Grid.{Room, size_of, width_of, chosen, paint, Clea
 ghost use Rattle.plain_boxes.specs.Groups.{MarkedGroup};
 ghost use Rattle.box_groups.specs.Boxes.{boxes_of, all_are, emptied_at, up, Looked, Growing, Grown};
 
-use casts::u16_to_usize;
-
-// Whether the first boxes of the list, each so many boxes up, all have the value.
-fn all_are(cells: &[u16], boxes: &[u16], count: usize, value: u16, shift: usize) -> bool
-    requires { (count ≤ length boxes.now) × All (λ b. b < length cells.now) (up shift (take count boxes.now)) }
-    ensures { result ≡ all_are cells.now value (up shift (take count boxes.now)) }
+// Whether some boxes, each so many boxes up, all have the value.
+fn all_are(cells: &[u16], boxes: &[u16], value: u16, shift: usize) -> bool
+    requires { All (λ b. b < length cells.now) (up shift boxes.now) }
+    ensures { result ≡ all_are cells.now value (up shift boxes.now) }
 {
-    let mut place = 0;
-    while place < count {
-        if cells[u16_to_usize(boxes[place]) + shift] != value {
+    for &number in boxes {
+        if cells[usize::from(number) + shift] != value {
             return false;
         }
-        place += 1;
     }
     true
 }
@@ -34,11 +28,9 @@ fn append(boxes: &mut [u16], count: usize, at: usize, shift: usize)
     requires { (count ≤ at) × (at + count ≤ length boxes.old) × All (λ b. b < 65536) (up shift (take count boxes.old)) }
     ensures { boxes.new ≡ sets boxes.old at (up shift (take count boxes.old)) }
 {
-    let mut place = 0;
-    while place < count {
-        let number = u16_to_usize(boxes[place]) + shift;
+    for place in 0..count {
+        let number = usize::from(boxes[place]) + shift;
         boxes[at + place] = number as u16;
-        place += 1;
     }
 }
 
@@ -47,11 +39,7 @@ fn unmark(marks: &mut [u8], base: usize, width: usize)
     requires { base + width ≤ length marks.old }
     ensures { marks.new ≡ paint (λ _. false) base 0 width marks.old }
 {
-    let mut column = 0;
-    while column < width {
-        marks[base + column] = 0;
-        column += 1;
-    }
+    marks[base..base + width].fill(0);
 }
 
 // Looks at one column: marks it at its place, and if it is good, lists its boxes: the first boxes of the list, so many boxes up. Answers how many
@@ -71,7 +59,7 @@ fn grow_column(
     ensures { Looked marks.old boxes.old count listed place (up shift (take count boxes.old))
         (all_are cells.now value (up shift (take count boxes.old))) marks.new boxes.new result }
 {
-    if all_are(cells, boxes, count, value, shift) {
+    if all_are(cells, &boxes[..count], value, shift) {
         marks[place] = 1;
         append(boxes, count, listed, shift);
         return listed + count;
@@ -101,8 +89,7 @@ fn grow(
     marks[base + own] = 1;
     let mut listed = count;
     let mut shift = step;
-    let mut column = own + 1;
-    while column < width {
+    for column in own + 1..width {
         listed = grow_column(
             cells,
             marks,
@@ -114,7 +101,6 @@ fn grow(
             shift,
         );
         shift += step;
-        column += 1;
     }
     listed
 }
@@ -140,9 +126,8 @@ fn mark_group(
     let mut step = 1;
     let mut block = first;
     let mut base = columns;
-    let mut dimension = 0;
-    while dimension < 4 {
-        let width = u16_to_usize(sizes[dimension]);
+    for dimension in 0..4 {
+        let width = usize::from(sizes[dimension]);
         base -= width;
         count = grow(
             cells,
@@ -155,22 +140,19 @@ fn mark_group(
             block % width,
             step,
         );
-        block = block / width;
-        step = step * width;
-        dimension += 1;
+        block /= width;
+        step *= width;
     }
     count
 }
 
-// Empties the first boxes of a list.
-fn empty_boxes(cells: &mut [u16], boxes: &[u16], count: usize)
-    requires { (count ≤ length boxes.now) × All (λ b. b < length cells.old) (take count boxes.now) }
-    ensures { (q : ℕ) → get_or cells.new q 0 ≡ emptied_at cells.old (take count boxes.now) q }
+// Empties some boxes.
+fn empty_boxes(cells: &mut [u16], boxes: &[u16])
+    requires { All (λ b. b < length cells.old) boxes.now }
+    ensures { (q : ℕ) → get_or cells.new q 0 ≡ emptied_at cells.old boxes.now q }
 {
-    let mut place = 0;
-    while place < count {
-        cells[u16_to_usize(boxes[place])] = 0;
-        place += 1;
+    for &number in boxes {
+        cells[usize::from(number)] = 0;
     }
 }
 
@@ -190,5 +172,5 @@ pub fn pop_group(
         × Cleared cells.old cells.new sizes.now 4 0 (chosen marks.new sizes.now 4 0) }
 {
     let count = mark_group(cells, sizes, marks, boxes, first, columns);
-    empty_boxes(cells, boxes, count);
+    empty_boxes(cells, &boxes[..count]);
 }

@@ -48,6 +48,17 @@ sum-take-within [] (suc k) = omega arith
 sum-take-within (x ∷ xs) zero = omega arith
 sum-take-within (x ∷ xs) (suc k) = omega (arith, sum-take-within xs k)
 
+year-sum : (leap : Bool) → sum (λ n. n) (month_lengths leap) ≤ 366
+unfolding sum
+year-sum true = omega arith
+year-sum false = omega arith
+
+-- the days so far, the months passed and a day, and one month more, are no more than a year and that day
+pub days-so-far : (y d days index more : ℕ) → {leap : Bool} → leap ≡ is_leap y → more ≡ get_or (month_lengths leap) index 0
+    → days ≡ sum (λ n. n) (take index (month_lengths leap)) + d → days + more ≤ 366 + d
+unfolding sum
+days-so-far y d days index more {leap} f e h = omega (arith, sum-take-within (month_lengths leap) index, year-sum leap)
+
 -- the months have the year's days
 pub year-days : (y : ℕ) → sum (λ n. n) (month_lengths (is_leap y)) ≡ year_length y
 unfolding sum year_length

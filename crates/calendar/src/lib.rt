@@ -11,16 +11,13 @@ ghost use Rattle.calendar.specs.Days.{InYear};
 
 use new_years::NEW_YEARS;
 
-// The point of a date, or that there is no such date.
-#[derive(Clone, Copy)]
-pub enum Dated {
-    Point {
-        weekday: u8,
-        week: u8,
-        month: u8,
-        year: u16,
-    },
-    NoDate,
+// A point in numbers: the weekday, Monday 0, the ISO week, the month and the calendar year.
+#[derive(Clone, Copy, PartialEq, Eq)]
+pub struct Point {
+    pub weekday: u8,
+    pub week: u8,
+    pub month: u8,
+    pub year: u16,
 }
 
 // The lengths of January to December: common years, leap years.
@@ -41,23 +38,19 @@ fn month_length(leap: bool, index: usize) -> u8
     requires { index < 12 }
     ensures { result ≡ get_or (month_lengths leap) index 0 }
 {
-    MONTH_LENGTHS[leap as usize][index]
+    MONTH_LENGTHS[usize::from(leap)][index]
 }
 
 // Is there such a date, from 1900 to 9999?
 pub fn is_date(year: u64, month: u64, day: u64) -> bool
     ensures { result ≡ is_date year month day }
 {
-    match year {
-        1900..=9999 => match month {
-            1..=12 => {
-                let length = month_length(is_leap(year), (month - 1) as usize);
-                1 <= day && day <= length as u64
-            }
-            _ => false,
-        },
-        _ => false,
-    }
+    1900 <= year
+        && year <= 9999
+        && 1 <= month
+        && month <= 12
+        && 1 <= day
+        && day <= u64::from(month_length(is_leap(year), (month - 1) as usize))
 }
 
 // A date's day of the year, 1 January the first.
@@ -68,10 +61,8 @@ fn day_of_year(year: u64, month: u64, day: u64) -> u16
     let leap = is_leap(year);
     let passed = (month - 1) as usize;
     let mut days = day as u16;
-    let mut index: usize = 0;
-    while index < passed {
-        days += month_length(leap, index) as u16;
-        index += 1;
+    for index in 0..passed {
+        days += u16::from(month_length(leap, index));
     }
     days
 }
@@ -89,7 +80,7 @@ fn weekday_of(year: u64, day: u16) -> u8
     requires { (1900 ≤ year) × InYear (year, day) }
     ensures { result ≡ weekday_at (year, day) }
 {
-    ((new_year(year) as u16 + (day - 1)) % 7) as u8
+    ((u16::from(new_year(year)) + (day - 1)) % 7) as u8
 }
 
 fn year_length(year: u64) -> u16
@@ -104,7 +95,7 @@ fn thursday_of(year: u64, day: u16, weekday: u8) -> u16
     ensures { result ≡ (thursday_of (year, day)).1 }
 {
     let days = day + 3;
-    let passed = weekday as u16;
+    let passed = u16::from(weekday);
     if days <= passed {
         return year_length(year - 1) + days - passed;
     }
@@ -126,20 +117,19 @@ fn week_of(year: u64, day: u16, weekday: u8) -> u8
     ((thursday_of(year, day, weekday) - 1) / 7 + 1) as u8
 }
 
-// The point of a date: its weekday, ISO week, month and calendar year.
-pub fn point_of(year: u64, month: u64, day: u64) -> Dated
+// The point of a date, or that there is no such date.
+pub fn point_of(year: u64, month: u64, day: u64) -> Option<Point>
     ensures { point_in result ≡ point_at year month day }
 {
-    if is_date(year, month, day) {
-        let passed = day_of_year(year, month, day);
-        let weekday = weekday_of(year, passed);
-        Dated::Point {
-            weekday,
-            week: week_of(year, passed, weekday),
-            month: month as u8,
-            year: year as u16,
-        }
-    } else {
-        Dated::NoDate
+    if !is_date(year, month, day) {
+        return None;
     }
+    let passed = day_of_year(year, month, day);
+    let weekday = weekday_of(year, passed);
+    Some(Point {
+        weekday,
+        week: week_of(year, passed, weekday),
+        month: month as u8,
+        year: year as u16,
+    })
 }

@@ -15,8 +15,9 @@ use Rattle.definition.proofs.RuleParts.{RuleParts, rule-parts}
 use Rattle.forms.specs.Form.{Narrow}
 use Rattle.sheet.specs.Begin.{rule_read_at, Readable}
 use Rattle.tables.specs.Rules.{DaysHeld}
-use Rattle.canonical_date.specs.declared.days.Days.{Days}
-use Rattle.canonical_date.specs.declared.days.Days.TheVariants.{Spans, Stops}
+use Rattle.std.specs.Prelude.{Some, None}
+use Rattle.std.specs.Prelude as std
+use Rattle.canonical_date.specs.declared.days.Spans.{Spans}
 use Rattle.canonical_date.specs.Days.{loaded, days_of, days_loaded}
 use Rattle.canonical_date.specs.Rule.{days_stop, days_rows}
 use Rattle.canonical_date.specs.Found.{Loads, Found}
@@ -64,9 +65,9 @@ module _ (form : Form) (sheet : List ℕ) (b : Bytes sheet) (p : ℕ) (readable 
             };
           }
 
-  pub found : Narrow form → (l' c' : List ℕ) (v : Days) → loaded l' c' (days_of v) ≡ days_loaded form (sheet_bits sheet) p l c → Found (sheet_bits sheet) r v
-  found narrow l' c' (Spans n q) e = found-spans narrow l' c' n q e
-  found narrow l' c' Stops e = go (days_stop r) refl
+  pub found : Narrow form → (l' c' : List ℕ) (v : std.Option Spans) → loaded l' c' (days_of v) ≡ days_loaded form (sheet_bits sheet) p l c → Found (sheet_bits sheet) r v
+  found narrow l' c' (Some x) e = found-spans narrow l' c' x.count x.at e
+  found narrow l' c' None e = go (days_stop r) refl
     where
       go : (t : Bool) → days_stop r ≡ t → days_stop r ≡ true
       go true f = f

@@ -1,9 +1,13 @@
 -- What the readers of items answer: one lemma for each of their returns, and that the ends which were read lie within their bounds.
-use mathlib.Core.Path.{◌≡◌, sym, ap, ap₂, ◌∙◌}
+use mathlib.Core.Path.{◌≡◌, refl, sym, ap, ap₂, ◌∙◌}
 use mathlib.Core.List.{List}
 use mathlib.Core.Option.{Option, none, some}
-use mathlib.Core.Bool.{Bool, true, false, ◌&&◌}
+use mathlib.Core.Bool.{Bool, true, false}
 use Prim.Native.Nat.{ℕ, ◌<◌}
+use Rattle.std.specs.Prelude.{Result, Ok, Err, Some, None}
+use Rattle.std.specs.Result.{result_ok}
+use Rattle.answers.specs.Refusal.{code_of, read_as}
+use Rattle.answers.specs.declared.refusal.Refusal.{Refusal}
 use lib.Dec.{eqb}
 use Rattle.laws.specs.Lists.{only_if}
 use Rattle.grid.specs.Cut.{Range}
@@ -12,12 +16,24 @@ use Rattle.definition.specs.Field.{Read, got, refused, sheet_bits}
 use Rattle.definition.specs.Rule.{weekday_bounds, week_bounds, month_bounds, year_bounds, YearRange, months, WeekRange, fixed_days}
 use Rattle.definition.specs.Sheet.{year_range, monthday_range, week_range, week_day_range}
 use Rattle.definition.specs.Range.{Ends, split}
-use Rattle.definition.specs.Stop.{every_nth}
 use Rattle.definition.proofs.Bits.{Bytes}
 use Rattle.definition.proofs.Items.{year-faithful, monthday-faithful, week-faithful, weekday-faithful}
 use Rattle.definition.proofs.SheetRead.{carried}
 use Rattle.definition.proofs.Lawful.{Bounded, year-lawful, month-lawful, week-lawful, weekday-lawful}
+use Rattle.item.specs.declared.day.Monthday.{Monthday}
+use Rattle.item.specs.declared.day.Monthday.TheVariants.{Months, MonthsOf, Dated}
+use Rattle.item.specs.Answer.{as_monthday}
 use Rattle.canonical_date.specs.Says.{told, bounds_of, item_says, year_says, month_says, week_says, weekday_says}
+
+-- ## What `ok` takes of a reading
+module _ {A B : Type 0} (make : A → B) where
+  pub ok-got : (r : Result (A × ℕ) Refusal) {w : Read B} (x : A) (q : ℕ) → read_as make r ≡ w → Some (x, q) ≡ result_ok r → w ≡ got (make x) q
+  ok-got (Ok (y, j)) x q e h = let z : ◌≡◌ {A = A × ℕ} (x, q) (y, j) = cc in sym e ∙ ap (λ v. got (make v.0) v.1) (sym z)
+  ok-got (Err f) x q e h = cc
+
+  pub ok-refused : (r : Result (A × ℕ) Refusal) {w : Read B} → read_as make r ≡ w → None ≡ result_ok r → (c : ℕ) × ((p : ℕ) × (w ≡ refused c p))
+  ok-refused (Ok (y, j)) e h = absurd (cc)
+  ok-refused (Err f) e h = (code_of f.reason, (f.place, sym e))
 
 -- ## One lemma for each return
 module _ {A : Type 0} (says : A → Option (List Range)) (w : Read A) where
@@ -30,17 +46,18 @@ module _ {A : Type 0} (says : A → Option (List Range)) (w : Read A) where
   pub said-refused : (c p : ℕ) → w ≡ refused c p → none ≡ told says w
   said-refused c p e = sym (rw e)
 
+-- a monthday of another tag than that of months
+pub months-else : (x : Monthday) → ((a b : ℕ) → x ≡ Months a b → ⊥) → month_says (as_monthday x) ≡ none
+months-else (Months a b) h = absurd (h a b refl)
+months-else (MonthsOf a b y) h = refl
+months-else (Dated r) h = refl
+
 -- ranges that were split from numbers of a kind
 pub split-some : (b : Range) (x y m n : ℕ) (R : List Range) → R ≡ split b (x, y) → x ≡ m → y ≡ n → some (split b (m, n)) ≡ some R
 split-some b x y m n R e p q = ap some (sym (e ∙ ap₂ (λ u v. split b (u, v)) p q))
 
 pub only-some : {A : Type 0} (t : Bool) (x : A) (o : Option A) → t ≡ true → some x ≡ o → only_if t x ≡ o
 only-some t x o e h = rw e h
-
--- weekdays as they stand, by the parts that they were read from
-pub each-week : {a b c : ℕ} (x y z : ℕ) {r : Bool} → r ≡ eqb a 0 && (eqb b every_nth && eqb c every_nth) → a ≡ x → b ≡ y → c ≡ z → r ≡ true
-    → eqb x 0 && (eqb y every_nth && eqb z every_nth) ≡ true
-each-week x y z h e f g t = rw (← e, ← f, ← g) (sym h ∙ t)
 
 pub only_none : {A : Type 0} (t : Bool) (x : A) → t ≡ false → only_if t x ≡ none
 only_none t x e = rw e

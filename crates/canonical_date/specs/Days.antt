@@ -1,11 +1,11 @@
 -- How a rule's four rows of days are loaded into the table of ranges, one behind the other, up to the first item that stops the rule.
-use Rattle.std.specs.Prelude.{List, ℕ, zero, suc, ◌+◌, ◌*◌, length, set}
+use Rattle.std.specs.Prelude.{List, ℕ, zero, suc, ◌+◌, ◌*◌, length, set, Some, None}
+use Rattle.std.specs.Prelude as std
 use Rattle.std.proofs.Math.Option.{Option, none, some}
 use Rattle.std.proofs.lemmas.List.Edits.{sets}
 use Rattle.definition.specs.Field.{Read, got, refused, counted}
 use Rattle.definition.specs.Sheet.{Form, sheet_limits, title_width, head_width}
-use Rattle.canonical_date.specs.declared.days.Days.{Days}
-use Rattle.canonical_date.specs.declared.days.Days.TheVariants.{Spans, Stops}
+use Rattle.canonical_date.specs.declared.days.Spans.{Spans}
 use Rattle.canonical_date.specs.Row.{flat, items_end, row_ranges}
 
 -- the table, how many ranges each dimension has; and how many spans the rule has and where they begin, unless an item stops
@@ -17,9 +17,9 @@ pub record Loaded : Type 0 where
 abbrev pub loaded : List ℕ → List ℕ → Option (ℕ × ℕ) → Loaded
 loaded ranges counts spans = record { ranges = ranges; counts = counts; spans = spans }
 
-abbrev pub days_of : Days → Option (ℕ × ℕ)
-days_of (Spans n p) = some (n, p)
-days_of Stops = none
+abbrev pub days_of : std.Option Spans → Option (ℕ × ℕ)
+days_of (Some spans) = some (spans.count, spans.at)
+days_of None = none
 
 module _ (form : Form) where
   -- how many items of a sort: the count at h; fifth are the spans

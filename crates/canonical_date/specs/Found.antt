@@ -1,10 +1,9 @@
 -- What is found at a rule that can be read: its days pass and its spans follow them, or an item stops it.
-use Rattle.std.specs.Prelude.{◌≡◌, List, true, false, ℕ, ◌≤◌, ◌<◌, ◌^◌, length}
+use Rattle.std.specs.Prelude.{◌≡◌, List, true, false, ℕ, ◌≤◌, ◌<◌, ◌^◌, length, Option, Some, None}
 use Rattle.definition.specs.Field.{got, read_all}
 use Rattle.definition.specs.Rule.{Rule}
 use Rattle.definition.specs.Sheet.{span}
-use Rattle.canonical_date.specs.declared.days.Days.{Days}
-use Rattle.canonical_date.specs.declared.days.Days.TheVariants.{Spans, Stops}
+use Rattle.canonical_date.specs.declared.days.Spans.{Spans}
 use Rattle.canonical_date.specs.Rule.{days_stop}
 
 -- some spans that are read from a bit on
@@ -20,6 +19,6 @@ pub record Loads (s : List ℕ) (r : Rule) (n q : ℕ) : Type 0 where
   pub passes : days_stop r ≡ false
   pub spans : SpansRead s r n q
 
-abbrev pub Found : List ℕ → Rule → Days → Type 0
-Found s r (Spans n q) = Loads s r n q
-Found s r Stops = days_stop r ≡ true
+abbrev pub Found : List ℕ → Rule → Option Spans → Type 0
+Found s r (Some spans) = Loads s r spans.count spans.at
+Found s r None = days_stop r ≡ true

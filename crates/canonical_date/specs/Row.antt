@@ -1,9 +1,9 @@
 -- A row of items as ranges, and the table of ranges: a dimension has its row at 64 times its number, as start, end, start, end ..
-use Rattle.std.specs.Prelude.{List, [], ◌∷◌, ◌++◌, cond, ℕ, zero, suc, ◌<◌, eqb}
+use Rattle.std.specs.Prelude.{List, [], ◌∷◌, ◌++◌, cond, ℕ, zero, suc, ◌<◌, eqb, Some, None}
+use Rattle.std.specs.Prelude as std
 use Rattle.std.proofs.Math.Option.{Option, none, some}
 use Rattle.grid.specs.Cut.{Range}
 use Rattle.canonical_date.specs.declared.row.Row.{Row}
-use Rattle.canonical_date.specs.declared.row.Row.TheVariants as row
 use Rattle.canonical_date.specs.Says.{bounds_of, item_says}
 
 -- ## Ranges as numbers
@@ -37,6 +37,6 @@ abbrev pub answered : ℕ → Option ℕ → Answer
 answered place none = none
 answered place (some q) = some (place, q)
 
-abbrev pub row_of : Row → Answer
-row_of (row.Ranges place q) = some (place, q)
-row_of row.Stops = none
+abbrev pub row_of : std.Option Row → Answer
+row_of (Some row) = some (row.place, row.next)
+row_of None = none

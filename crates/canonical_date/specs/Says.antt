@@ -1,5 +1,6 @@
 -- What an item of days says: its ranges, or nothing where it stops its rule (01, "Stoppers"). And what the reader of an item answers.
-use Rattle.std.specs.Prelude.{List, ◌&&◌, cond, ℕ, eqb}
+use Rattle.std.specs.Prelude.{List, ◌&&◌, cond, ℕ, eqb, Some, None}
+use Rattle.std.specs.Prelude as std
 use Rattle.std.proofs.Math.Option.{Option, none, some}
 use Rattle.laws.specs.Lists.{only_if}
 use Rattle.grid.specs.Cut.{Range}
@@ -9,8 +10,7 @@ use Rattle.definition.specs.Sheet.{year_range, monthday_range, week_range, week_
 use Rattle.definition.specs.Range.{split}
 use Rattle.definition.specs.Stop.{every_nth}
 use Rattle.bounded.specs.Strict.{list_of}
-use Rattle.canonical_date.specs.declared.canonical.Canonical.{Canonical}
-use Rattle.canonical_date.specs.declared.canonical.Canonical.TheVariants.{Ranges, Stops}
+use Rattle.bounded.specs.declared.Split.{Split}
 
 -- ## Items
 abbrev pub year_says : YearRange → Option (List Range)
@@ -49,6 +49,6 @@ item_says sort s p = cond (eqb sort 0) (told year_says (year_range.read s p)) (c
 unfoldable pub bounds_of : ℕ → Range
 bounds_of sort = cond (eqb sort 0) year_bounds (cond (eqb sort 1) month_bounds (cond (eqb sort 2) week_bounds weekday_bounds))
 
-abbrev pub item_of : Canonical → Told
-item_of (Ranges split q) = some (list_of split, q)
-item_of Stops = none
+abbrev pub item_of : std.Option (Split × ℕ) → Told
+item_of (Some (split, q)) = some (list_of split, q)
+item_of None = none

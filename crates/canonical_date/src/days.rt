@@ -6,15 +6,15 @@ ghost use Rattle.sheet.specs.Begin.{rule_read_at, Readable};
 ghost use Rattle.canonical_date.specs.Days.{loaded, days_of, load_rows, days_loaded};
 ghost use Rattle.canonical_date.specs.Found.{Found};
 
-use crate::row::Row;
-use field::Taken;
+use crate::row::row_at;
+use field::count_at;
 use forms::{Form, head_width, title_width};
 
-// How many spans a rule has and where they begin; or an item of its days stops it.
+// How many spans a rule has and where they begin.
 #[derive(Clone, Copy)]
-pub enum Days {
-    Spans(u64, usize),
-    Stops,
+pub struct Spans {
+    pub count: u64,
+    pub at: usize,
 }
 
 // How many ranges stand in a sort's row before a place.
@@ -26,6 +26,7 @@ fn ranges_before(sort: usize, place: usize) -> u16
 }
 
 // The four rows, the first from `start` on; their counts stand one behind the other from `counts` on, and behind them that of the spans.
+// Nothing is answered where an item stops its rule.
 fn rows(
     form: Form,
     sheet: &[u8],
@@ -33,47 +34,32 @@ fn rows(
     start: usize,
     ranges: &mut [u16],
     range_counts: &mut [u16],
-) -> Days
+) -> Option<Spans>
     requires { (counts + 80 < 2 ^ 27) × (start + 3328 < 2 ^ 27) × (256 ≤ length ranges.old) × (4 ≤ length range_counts.old) }
     ensures { loaded ranges.new range_counts.new (days_of result)
         ≡ load_rows (as_form form) 4 (sheet_bits sheet.now) counts 0 start ranges.old range_counts.old }
 {
     let mut head = counts;
     let mut at = start;
-    let mut sort: usize = 0;
-    while sort < 4 {
-        let count = field::count_at(form, sheet, head);
-        let Taken::Value(items, after) = count else {
-            return Days::Stops;
-        };
-        let row = crate::row::row_at(sheet, at, sort, items, ranges);
-        match row {
-            Row::Ranges(place, next) => {
-                range_counts[sort] = ranges_before(sort, place);
-                head = after;
-                at = next;
-            }
-            Row::Stops => {
-                return Days::Stops;
-            }
-        }
-        sort += 1;
+    for sort in 0..4 {
+        let (count, after) = count_at(form, sheet, head).ok()?;
+        let row = row_at(sheet, at, sort, count, ranges)?;
+        range_counts[sort] = ranges_before(sort, row.place);
+        head = after;
+        at = row.next;
     }
-    let count = field::count_at(form, sheet, head);
-    match count {
-        Taken::Value(spans, after) => Days::Spans(spans, at),
-        Taken::Refused(code, place) => Days::Stops,
-    }
+    let (count, _) = count_at(form, sheet, head).ok()?;
+    Some(Spans { count, at })
 }
 
-// The days of the rule at a bit: their ranges in the table, up to the first item that stops.
+// The days of the rule at a bit: their ranges in the table, up to the first item that stops; and its spans, where none does.
 pub fn rule_ranges(
     form: Form,
     sheet: &[u8],
     at: usize,
     ranges: &mut [u16],
     range_counts: &mut [u16],
-) -> Days
+) -> Option<Spans>
     requires readable { Readable (as_form form) (sheet_bits sheet.now) at }
     requires at_bound { (at < 2 ^ 25) × (256 ≤ length ranges.old) × (4 ≤ length range_counts.old) }
     ensures { (loaded ranges.new range_counts.new (days_of result) ≡ days_loaded (as_form form) (sheet_bits sheet.now) at ranges.old range_counts.old)

@@ -6,14 +6,14 @@ ghost use Rattle.definition.specs.Field.{sheet_bits};
 ghost use Rattle.bounded.specs.Strict.{pair_of, list_of};
 ghost use Rattle.canonical_date.specs.Row.{flat, Narrow, items_ranges, items_end, row_ranges, answered, row_of};
 
-use crate::canonical::Canonical;
+use crate::canonical::{bounds, item_at};
 use bounded::{Split, StrictRange};
 
-// The place after a row's ranges and the bit after its items; or an item stops.
+// The place after a row's ranges and the bit after its items.
 #[derive(Clone, Copy)]
-pub enum Row {
-    Ranges(usize, usize),
-    Stops,
+pub struct Row {
+    pub place: usize,
+    pub next: usize,
 }
 
 fn put_range(ranges: &mut [u16], place: usize, range: StrictRange)
@@ -50,40 +50,38 @@ fn items(
     count: u64,
     ranges: &mut [u16],
     first: usize,
-) -> Row
+) -> Option<Row>
     requires { (start + count * 52 < 2 ^ 29) × (first + count * 4 ≤ length ranges.old) }
     ensures { (row_of result ≡ answered (first + length (flat (items_ranges sort count (sheet_bits sheet.now) start))) (items_end sort count (sheet_bits sheet.now) start))
         × (ranges.new ≡ sets ranges.old first (flat (items_ranges sort count (sheet_bits sheet.now) start))) }
 {
-    let mut at = start;
-    let mut place = first;
-    let mut left = count;
-    while 0 < left {
-        let item = crate::canonical::item_at(sheet, at, sort);
-        match item {
-            Canonical::Ranges(split, next) => {
-                place = put_split(ranges, place, split);
-                at = next;
-            }
-            Canonical::Stops => {
-                return Row::Stops;
-            }
-        }
-        left -= 1;
+    let mut row = Row {
+        place: first,
+        next: start,
+    };
+    for i in 0..count {
+        let (split, next) = item_at(sheet, row.next, sort)?;
+        row = Row {
+            place: put_split(ranges, row.place, split),
+            next,
+        };
     }
-    Row::Ranges(place, at)
+    Some(row)
 }
 
 // A sort's row, at its place in the table. No items: the whole dimension.
-pub fn row_at(sheet: &[u8], at: usize, sort: usize, count: u64, ranges: &mut [u16]) -> Row
+pub fn row_at(sheet: &[u8], at: usize, sort: usize, count: u64, ranges: &mut [u16]) -> Option<Row>
     requires { (at < 2 ^ 28) × (sort < 4) × (count ≤ 16) × (256 ≤ length ranges.old) }
     ensures { (row_of result ≡ answered (sort * 64 + length (flat (row_ranges sort count (sheet_bits sheet.now) at))) (items_end sort count (sheet_bits sheet.now) at))
         × (ranges.new ≡ sets ranges.old (sort * 64) (flat (row_ranges sort count (sheet_bits sheet.now) at))) }
 {
     let place = sort * 64;
     if count == 0 {
-        put_range(ranges, place, crate::canonical::bounds(sort));
-        return Row::Ranges(place + 2, at);
+        put_range(ranges, place, bounds(sort));
+        return Some(Row {
+            place: place + 2,
+            next: at,
+        });
     }
     items(sheet, at, sort, count, ranges, place)
 }

@@ -2,15 +2,15 @@
 use mathlib.Core.Path.{◌≡◌, refl, ap, ◌∙◌}
 use mathlib.Core.List.{List, ◌∷◌, ◌++◌, map, flat_map}
 use Prim.Native.Nat.{ℕ, zero, suc, ◌+◌, ◌*◌}
-use lib.ListN.{get_or}
+use lib.ListN.{get_or, replicate}
 use Rattle.definition.specs.Day.{stated, flattened, entry_of}
 use Rattle.codes.specs.Number.{state_coded, span_at}
 use Rattle.words.specs.Words.{part}
-use Rattle.canonical_time.specs.Flatten.{same_states, states_from, spans_from}
+use Rattle.canonical_time.specs.Flatten.{states_from, spans_from}
 use Rattle.day_flat.specs.Day.{list_rules, pairs}
 
-pairs-run : (S n a : ℕ) (spans X P : List ℕ) → pairs (same_states S n ++ X) (part spans a n ++ P) ≡ stated (state_coded S, map span_at (part spans a n)) ++ pairs X P
-unfolding pairs same_states part
+pairs-run : (S n a : ℕ) (spans X P : List ℕ) → pairs (replicate n S ++ X) (part spans a n ++ P) ≡ stated (state_coded S, map span_at (part spans a n)) ++ pairs X P
+unfolding pairs part
 pairs-run S zero a spans X P = refl
 pairs-run S (suc n) a spans X P = ap ((state_coded S, span_at (get_or spans a 0)) ∷◌) (pairs-run S n (a + 1) spans X P)
 

@@ -38,14 +38,16 @@ pub fn normalize_time_rules(
         × (result ≡ length (flat (day (list_rules states.now span_counts.now spans.now list.now 0 (length list.now))))) }
 {
     let n = flatten(span_states, span_codes, states, span_counts, spans, list);
-    let k = write_strokes(strokes, span_states, span_codes, n);
-    let m = write_day(minute_cuts, interval_states, strokes, k);
+    let listed_states = &span_states[..n];
+    let listed_spans = &span_codes[..n];
+    let k = write_strokes(strokes, listed_states, listed_spans);
+    let m = write_day(minute_cuts, interval_states, &strokes[..k]);
     // From here on the pieces say all that the strokes said, and `strokes` is used again, as a buffer: here it takes the chain of the intervals.
-    let at = sweep_classes(out, strokes, minute_cuts, interval_states, m);
+    let at = sweep_classes(out, strokes, minute_cuts, &mut interval_states[..m]);
     // Where every span is a stroke, there is no group.
     if k == n {
         return at;
     }
     // And here it takes the spans of a group.
-    groups(out, at, strokes, span_states, span_codes, n)
+    groups(out, at, strokes, listed_states, listed_spans)
 }

@@ -1,11 +1,11 @@
 -- The code's tests on numbers are the definition's: when a span is simple, when it can't overlap with the next day, and a state's class.
-use mathlib.Core.Path.{◌≡◌, refl, sym, ap, ap₂, ◌∙◌}
+use mathlib.Core.Path.{◌≡◌, refl, sym, ap₂, ◌∙◌}
 use mathlib.Core.Bool.{Bool, true, false, ◌&&◌, not, cond}
 use Prim.Native.Nat.{ℕ, ◌/◌, ◌%◌, ◌≤◌, ◌<◌}
 use native.Mathlib.Omega.{arith}
 use lib.Dec.{eqb, leb, ltb}
 use borrow.Author.Tests.{ltb-true, ltb-false, leb-true, lt-ltb, le-ltb, eqb-true, eqb-false, eq-eqb, ne_eqb}
-use Rattle.laws.proofs.Flags.{not-true, split-and, and-true, and-false}
+use Rattle.laws.proofs.Flags.{not-true, split-and, and-false}
 use Rattle.definition.specs.Day.{simple, no_repeats, fixed_within_day, state_class}
 use Rattle.definition.specs.Stop.{stays_today, span_stops}
 use Rattle.codes.specs.Number.{state_coded, closed_number, time_at, repeats_at, span_at}
@@ -50,7 +50,7 @@ stays-numbers a b = go (ltb a 262144) refl (ltb b 262144) refl
     go false p true q = rw (p, q)
     go false p false q = rw (p, q) (sym (ne_eqb b 1440 (omega (arith, ltb-false b 262144 q))))
 
-today-number : (n : ℕ) → not (span_stops (span_at n))
+pub today-number : (n : ℕ) → not (span_stops (span_at n))
     ≡ cond (ltb (n / 8589934592) 262144) (ltb (n / 8589934592) (n / 16384 % 524288) && leb (n / 16384 % 524288) 1440) (eqb (n / 16384 % 524288) 1440)
 unfolding span_at
 today-number n = not-not (stays_today (time_at (n / 8589934592)) (time_at (n / 16384 % 524288))) ∙ stays-numbers (n / 8589934592) (n / 16384 % 524288)
@@ -58,31 +58,6 @@ today-number n = not-not (stays_today (time_at (n / 8589934592)) (time_at (n / 1
     not-not : (v : Bool) → not (not v) ≡ v
     not-not true = refl
     not-not false = refl
-
-module _ (n s e : ℕ) (hs : s ≡ n / 8589934592) (he : e ≡ n / 16384 % 524288) where
-  pub simple-plain : n % 16384 ≡ 0 → s < e → leb e 1440 ≡ simple (span_at n)
-  simple-plain p l =
-      ap (λ v. leb v 1440) he
-      ∙ sym
-      (simple-number n ∙ rw (lt-ltb (n / 8589934592) (n / 16384 % 524288) (omega arith), eq-eqb (n % 16384) 0 p)
-      (and-true (leb (n / 16384 % 524288) 1440)))
-
-  pub simple-late : e ≤ s → false ≡ simple (span_at n)
-  simple-late l = sym (simple-number n ∙ rw (le-ltb (n / 8589934592) (n / 16384 % 524288) (omega arith)))
-
-  pub today-fixed : s < 262144 → s < e → leb e 1440 ≡ not (span_stops (span_at n))
-  today-fixed p l =
-      ap (λ v. leb v 1440) he
-      ∙ sym (today-number n ∙ rw (lt-ltb (n / 8589934592) 262144 (omega arith), lt-ltb (n / 8589934592) (n / 16384 % 524288) (omega arith)))
-
-  pub today-late : s < 262144 → e ≤ s → false ≡ not (span_stops (span_at n))
-  today-late p l = sym (today-number n ∙ rw (lt-ltb (n / 8589934592) 262144 (omega arith), le-ltb (n / 8589934592) (n / 16384 % 524288) (omega arith)))
-
-  pub today-variable : 262144 ≤ s → eqb e 1440 ≡ not (span_stops (span_at n))
-  today-variable p = ap (λ v. eqb v 1440) he ∙ sym (today-number n ∙ rw (le-ltb (n / 8589934592) 262144 (omega arith)))
-
-pub simple-open : (n : ℕ) → (n % 16384 ≡ 0 → ⊥) → false ≡ simple (span_at n)
-simple-open n p = sym (simple-number n ∙ rw (ne_eqb (n % 16384) 0 p) (and-false (ltb (n / 8589934592) (n / 16384 % 524288) && leb (n / 16384 % 524288) 1440)))
 
 -- a simple span lies within the day, by its number
 pub simple-bounds : (n : ℕ) → simple (span_at n) ≡ true

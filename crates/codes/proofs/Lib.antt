@@ -2,4 +2,3 @@ pub mod Digits
 pub mod Numbers
 pub mod Laws
 pub mod Carried
-pub mod TitleCases

@@ -1,5 +1,7 @@
 // Spans and states as numbers: the order of the spans' numbers is 01's order of spans, and a `match` on a state's number decides its class.
-#![tactic(auto)]
+// Kinds and classes are numbers too: the code compares them, sorts by them and writes them to answers and sheets, and never branches on one
+// elsewhere, so that an enum would only be turned back. What a sheet's title says is read by enums, in `title`.
+#![tactic(auto, unfolding(crate::specs::Number::state_coded, crate::specs::Number::parts_number, crate::specs::Number::time_number))]
 
 pub mod title;
 
@@ -8,8 +10,6 @@ ghost use Rattle.definition.specs.Rule.{fixed, variable, kind_number};
 ghost use Rattle.definition.specs.Day.{simple, state_class};
 ghost use Rattle.definition.specs.Stop.{span_stops};
 ghost use Rattle.codes.specs.Number.{state_coded, time_number, parts_number, span_at};
-
-use casts::{u8_to_u64, u16_to_u64};
 
 // A state is one number; this one is plain Closed.
 pub const CLOSED: u64 = 1;
@@ -20,14 +20,14 @@ pub const CLOSED: u64 = 1;
 pub fn fixed_time(minutes: u16) -> u64
     ensures { result ≡ time_number (fixed minutes) }
 {
-    u16_to_u64(minutes)
+    u64::from(minutes)
 }
 
 // The number of a variable time; the offset is 16 bits, two's complement.
 pub fn variable_time(event: u8, offset: u16) -> u64
     ensures { result ≡ time_number (variable event offset) }
 {
-    262144 + u8_to_u64(event) * 65536 + (u16_to_u64(offset) + 32768) % 65536
+    262144 + u64::from(event) * 65536 + (u64::from(offset) + 32768) % 65536
 }
 
 // ## Spans
@@ -58,11 +58,7 @@ pub fn is_simple(span: u64) -> bool
 {
     let start = start_of(span);
     let end = end_of(span);
-    if span % 16384 == 0 {
-        if start < end { end <= 1440 } else { false }
-    } else {
-        false
-    }
+    span % 16384 == 0 && start < end && end <= 1440
 }
 
 // Whether the span can't overlap with the next day.
@@ -72,7 +68,7 @@ pub fn no_overlap_with_next_day(span: u64) -> bool
     let start = start_of(span);
     let end = end_of(span);
     if start < 262144 {
-        if start < end { end <= 1440 } else { false }
+        start < end && end <= 1440
     } else {
         end == 1440
     }

@@ -5,66 +5,31 @@
 ghost use Rattle.std.specs.Prelude.{List, ◌*◌, ◌≤◌, length};
 ghost use Rattle.definition.specs.Rule.{Rule};
 ghost use Rattle.paving.specs.Grid.{size_of};
-ghost use Rattle.tables.specs.ToDraw.{ToDraw};
+ghost use Rattle.tables.specs.ToDraw.{Lent};
 ghost use Rattle.draw_rules.specs.Listing.{NoLists};
 ghost use Rattle.paved.specs.Paved.{Paves};
 
-use draw_rules::{Listed, draw_rules};
+use answers::Refusal;
+use draw_rules::draw_rules;
 use fold_pages::fold_pages;
-use paved::Paved;
+use tables::lent::{Cuts, DrainedRules};
 
-// From the tables of the drained rules and the rows of their cuts to pages of the folded rules, in a store and a buffer that are lent; or 6 or 14.
+// From the tables of the drained rules and the rows of their cuts to pages of the folded rules, in a store and a buffer that are lent: answers how many there are, or
+// refuses (6, 14).
 pub fn pave(
-    states: &[u32],
-    span_counts: &[u8],
-    spans: &[u64],
-    replacing: &[u8],
-    range_counts: &[u16],
-    ranges: &[u16],
-    row_starts: &[u16],
-    sizes: &[u16],
-    cuts: &[u16],
+    rules: DrainedRules,
+    cuts: Cuts,
     cells: &mut [u16],
     lists: &mut [u16],
     memo: &mut [u16],
     pages: &mut [u16],
-) -> Paved
-    requires to_draw { (rs : List Rule) × ToDraw states.now span_counts.now spans.now replacing.now range_counts.now ranges.now row_starts.now sizes.now cuts.now rs }
-    requires no_lists { NoLists cells.old lists.old memo.old sizes.now × (13 * size_of sizes.now 4 ≤ length pages.old) }
-    ensures { (rs : List Rule)
-        → ToDraw states.now span_counts.now spans.now replacing.now range_counts.now ranges.now
-        row_starts.now sizes.now cuts.now rs
-        → Paves states.now span_counts.now spans.now lists.new pages.new rs result }
+) -> Result<usize, Refusal>
+    requires to_draw { (rs : List Rule) × Lent rules cuts rs }
+    requires no_lists { NoLists cells.old lists.old memo.old cuts.sizes.now × (13 * size_of cuts.sizes.now 4 ≤ length pages.old) }
+    ensures { (rs : List Rule) → Lent rules.entry cuts.entry rs
+        → Paves rules.entry.states.now rules.entry.span_counts.now rules.entry.spans.now lists.new pages.new rs result }
 {
-    let listed = draw_rules(
-        cells,
-        lists,
-        memo,
-        row_starts,
-        sizes,
-        cuts,
-        replacing,
-        range_counts,
-        ranges,
-        states.len(),
-    );
-    match listed {
-        Listed::Refused(code, rule) => Paved::Refused(code, rule),
-        Listed::Held(used) => {
-            let count = fold_pages(
-                states,
-                span_counts,
-                spans,
-                lists,
-                used,
-                memo,
-                row_starts,
-                sizes,
-                cuts,
-                cells,
-                pages,
-            );
-            Paved::Pages(count)
-        }
-    }
+    let used = draw_rules(cells, lists, memo, rules, cuts)?;
+    let count = fold_pages(rules, lists, used, memo, cuts, cells, pages);
+    Ok(count)
 }

@@ -5,10 +5,9 @@ use mathlib.Core.Option.{none, some}
 use mathlib.Core.List.{List, [], ◌∷◌, ◌++◌, flat_map}
 use Prim.Native.Nat.{ℕ, ◌+◌, ◌*◌, ◌^◌, ◌≤◌, ◌<◌}
 use native.Mathlib.Omega.{arith}
-use lib.Dec.{leb, ltb}
+use lib.Dec.{leb}
 use lib.ListN.{length, get_or, length-append}
 use borrow.Author.Tests.{leb-false}
-use Rattle.laws.specs.Lists.{only_if}
 use Rattle.laws.proofs.Lists.{All-map}
 use Rattle.laws.proofs.Passing.{Found, first_found}
 use Rattle.definition.specs.Field.{bytes_for, sheet_bits, long_comment, no_room}
@@ -90,9 +89,9 @@ module _ (form to : Form) (sheet begins : List ℕ) (bytes : Bytes sheet) (rs : 
       (all-begin form read.narrow sheet bytes rs end read.read read.before read.room))
 
   -- the first comment without room is that of the rules
-  pub long-told : (k : ℕ) → only_if (ltb k count) k ≡ first_long_comment to (rules_at form (sheet_bits sheet) begins count) → only_if (ltb k count) k ≡ first_long_comment to rs
-  long-told k e =
-      e ∙ ap (first_long_comment to)
+  pub long-told : first_long_comment to (rules_at form (sheet_bits sheet) begins count) ≡ first_long_comment to rs
+  long-told =
+      ap (first_long_comment to)
       (ap₂ (rules_at form (sheet_bits sheet)) read.noted many ∙ rules-there form read.narrow sheet bytes rs end read.read read.before read.room)
 
   -- the bits that the rules take: those of the sheet, with other heads

@@ -1,14 +1,13 @@
 -- The first rule whose comment has no room in a form, found by going over the rules where they begin.
-use mathlib.Core.Path.{◌≡◌, sym, ap, ◌∙◌}
+use mathlib.Core.Path.{◌≡◌, ap, ◌∙◌}
 use mathlib.Core.Bool.{Bool, true, false}
 use mathlib.Core.List.{List}
 use Prim.Native.Nat.{ℕ, ◌+◌, ◌^◌, ◌<◌}
 use native.Mathlib.Omega.{arith}
-use lib.Dec.{leb, ltb}
+use lib.Dec.{leb}
 use lib.ListN.{get_or}
 use borrow.Author.Count.{below_more}
-use borrow.Author.Tests.{lt-ltb, le-ltb}
-use Rattle.laws.specs.Lists.{only_if}
+use mathlib.Core.Option.{none, some}
 use Rattle.laws.proofs.Passing.{index-first, index-none}
 use Rattle.definition.specs.Rule.{Rule, no_rule}
 use Rattle.definition.specs.Sheet.{Form}
@@ -35,14 +34,11 @@ module _ (form to : Form) (s begins : List ℕ) where
     at : (j : ℕ) → j < n → test (get_or (rules_at form s begins n) j no_rule) ≡ long j
     at j l = ap test (rules-each form s begins n j l)
 
-    pub long-found : (k : ℕ) → k < n → long k ≡ true → NoneBefore k → only_if (ltb k n) k ≡ first_long_comment to (rules_at form s begins n)
+    pub long-found : (k : ℕ) → k < n → long k ≡ true → NoneBefore k → first_long_comment to (rules_at form s begins n) ≡ some k
     unfolding first_long_comment
     long-found k l e h =
-        ap (λ b. only_if b k) (lt-ltb k n l)
-        ∙ sym (index-first test no_rule (rules_at form s begins n) k (omega (arith, rules-many form s begins n)) (at k l ∙ e) (λ j m. at j (omega arith) ∙ h j m))
+        index-first test no_rule (rules_at form s begins n) k (omega (arith, rules-many form s begins n)) (at k l ∙ e) (λ j m. at j (omega arith) ∙ h j m)
 
-    pub long-none : NoneBefore n → only_if (ltb n n) n ≡ first_long_comment to (rules_at form s begins n)
+    pub long-none : NoneBefore n → first_long_comment to (rules_at form s begins n) ≡ none
     unfolding first_long_comment
-    long-none h =
-        ap (λ b. only_if b n) (le-ltb n n (omega arith))
-        ∙ sym (index-none test no_rule (rules_at form s begins n) (λ j m. let l : j < n = omega (arith, rules-many form s begins n) in at j l ∙ h j l))
+    long-none h = index-none test no_rule (rules_at form s begins n) (λ j m. let l : j < n = omega (arith, rules-many form s begins n) in at j l ∙ h j l)

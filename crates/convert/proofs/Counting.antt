@@ -6,15 +6,10 @@ use native.Mathlib.Omega.{arith}
 use lib.ListN.{get_or}
 use Rattle.definition.specs.Field.{Read, got}
 use Rattle.definition.specs.Sheet.{Counts}
-use Rattle.rule_writer.specs.Rows.{counts_of}
 
 -- what is read is read once
 pub read-once : {read : Read Counts} (m n : Counts) (p q : ℕ) → read ≡ got m p → read ≡ got n q → m ≡ n
 read-once m n p q e f = let g : ◌≡◌ {A = Read Counts} (got m p) (got n q) = sym e ∙ f in let same : m ≡ n = cc in same
-
-pub row_counts : (a b c d years monthdays weeks weekdays spans : ℕ) → a ≡ years → b ≡ monthdays → c ≡ weeks → d ≡ weekdays
-    → counts_of (a ∷ b ∷ c ∷ d ∷ []) spans ≡ (years, (monthdays, (weeks, (weekdays, spans))))
-row_counts a b c d years monthdays weeks weekdays spans p q r s = λ i. (p i, (q i, (r i, (s i, spans))))
 
 pub row-few : (most a b c d : ℕ) → a ≤ most → b ≤ most → c ≤ most → d ≤ most → (sort : ℕ) → sort < 4 → get_or (a ∷ b ∷ c ∷ d ∷ []) sort 0 ≤ most
 row-few most a b c d p q r s zero l = p

@@ -4,9 +4,9 @@
 
 pub mod rule;
 
-ghost use Rattle.std.specs.Prelude.{◌≡◌, ◌+◌, ◌*◌, ◌≤◌, ◌<◌, ◌^◌, ltb, length};
+ghost use Rattle.std.specs.Prelude.{◌≡◌, ◌+◌, ◌*◌, ◌≤◌, ◌<◌, ◌^◌, length, MatchOption};
 ghost use mathlib.Core.List.{List, flat_map};
-ghost use Rattle.laws.specs.Lists.{only_if};
+ghost use Rattle.std.proofs.Math.Option.{none, some};
 ghost use Rattle.definition.specs.Field.{Layout, sheet_bits};
 ghost use Rattle.definition.specs.Rule.{Rule};
 ghost use Rattle.definition.specs.Sheet.{sheet_limits, opening_width, head_width, rule};
@@ -19,23 +19,28 @@ ghost use Rattle.item_writer.specs.Written.{RoomFor, Wrote};
 ghost use Rattle.answers.specs.Numbers.{write_numbers};
 ghost use Rattle.tables.specs.Rules.{AllCommented};
 
-use answers::Written;
+use answers::{Reason, Refusal, Written};
 use forms::{Form, head_width, opening_width, other_form};
 use limits::lacks_room;
 
-// The first rule whose comment has no room in the form `to`; or how many rules there are.
-fn first_long_comment(form: Form, to: Form, sheet: &[u8], begins: &[usize], count: usize) -> usize
+// The first rule whose comment has no room in the form `to`.
+fn first_long_comment(
+    form: Form,
+    to: Form,
+    sheet: &[u8],
+    begins: &[usize],
+    count: usize,
+) -> Option<usize>
     requires { AllBegin (as_form form) (sheet_bits sheet.now) begins.now count × (count ≤ length begins.now) }
-    ensures { (only_if (ltb result count) result ≡ first_long_comment (as_form to) (rules_at (as_form form) (sheet_bits sheet.now) begins.now count)) × (result ≤ count) }
+    ensures { MatchOption result (first_long_comment (as_form to) (rules_at (as_form form) (sheet_bits sheet.now) begins.now count) ≡ none)
+        (λ rule. first_long_comment (as_form to) (rules_at (as_form form) (sheet_bits sheet.now) begins.now count) ≡ some rule) }
 {
-    let mut rule: usize = 0;
-    while rule < count {
+    for rule in 0..count {
         if rule::has_long_comment(form, to, sheet, begins[rule]) {
-            return rule;
+            return Some(rule);
         }
-        rule += 1;
     }
-    count
+    None
 }
 
 // How many bits so many rules take in the form `to` that end at a bit in `form`.
@@ -64,11 +69,9 @@ fn move_rules(
         → Wrote out.old place (flat_map (rule (as_form to) sheet_limits).write rs) out.new result }
 {
     let mut next = place;
-    let mut rule: usize = 0;
-    while rule < count {
+    for rule in 0..count {
         let behind = rule::rule_end(begins, rule, count, end);
         next = rule::move_rule(form, to, sheet, begins[rule], behind, out, next);
-        rule += 1;
     }
     next
 }
@@ -88,21 +91,18 @@ pub fn convert_rules(
         × (out.new ≡ buffer (convert_rules (other (as_form form)) sheet_limits (length out.old) rs).result out.old) }
 {
     let to = other_form(form);
-    let long = first_long_comment(form, to, sheet, begins, count);
-    if long < count {
-        return Written {
-            code: 12,
-            bytes: 0,
-            place: long,
-        };
+    if let Some(place) = first_long_comment(form, to, sheet, begins, count) {
+        return Written::refused(Refusal {
+            reason: Reason::LongComment,
+            place,
+        });
     }
     let bytes = (moved_bits(form, to, count, end) + 7) / 8;
     if lacks_room(out.len(), bytes) {
-        return Written {
-            code: 7,
-            bytes: 0,
+        return Written::refused(Refusal {
+            reason: Reason::NoRoom,
             place: bytes,
-        };
+        });
     }
     let first = sheet_writer::put_opening(to, out, count as u64);
     let behind = move_rules(form, to, sheet, begins, count, end, out, first);

@@ -6,12 +6,11 @@ ghost use Rattle.forms.specs.Form.{as_form};
 ghost use Rattle.sheet.specs.Begin.{rule_read_at, Readable};
 ghost use Rattle.item_writer.specs.Written.{RoomFor, Wrote};
 
-use casts::u64_to_u16;
 use field::field_at;
 use forms::{Form, comment_over, comment_width, head_width, title_width};
 use item_writer::put::put;
 use rule_writer::head::put_counts;
-use sheet::rule::{CountsRead, counts_at};
+use sheet::rule::counts_at;
 use writer::copy_bits;
 
 // Has the comment of the rule at a bit no room in the form `to`?
@@ -50,7 +49,7 @@ fn move_title(form: Form, to: Form, sheet: &[u8], at: usize, out: &mut [u8], pla
     )
 }
 
-// The five counts that stand at a bit. They were read before, so the last arm is never taken.
+// The five counts that stand at a bit. They were read before, so the first return is never taken.
 fn move_counts(form: Form, to: Form, sheet: &[u8], at: usize, out: &mut [u8], place: usize) -> usize
     requires by_index { (n : Counts) × (next : ℕ) × ((counts (as_form form) sheet_limits).read (sheet_bits sheet.now) at ≡ got n next)
         × RoomFor (length out.old) place ((counts (as_form to) sheet_limits).write n) }
@@ -58,19 +57,16 @@ fn move_counts(form: Form, to: Form, sheet: &[u8], at: usize, out: &mut [u8], pl
     ensures { (n : Counts) (next : ℕ) → (counts (as_form form) sheet_limits).read (sheet_bits sheet.now) at ≡ got n next
         → Wrote out.old place ((counts (as_form to) sheet_limits).write n) out.new result }
 {
-    let counts = counts_at(form, sheet, at);
-    match counts {
-        CountsRead::Counts(years, monthdays, weeks, weekdays, spans, next) => {
-            let item_counts = [
-                u64_to_u16(years),
-                u64_to_u16(monthdays),
-                u64_to_u16(weeks),
-                u64_to_u16(weekdays),
-            ];
-            put_counts(to, out, place, &item_counts, spans)
-        }
-        CountsRead::Refused(code, refused) => place,
-    }
+    let Ok((counts, _)) = counts_at(form, sheet, at) else {
+        return place;
+    };
+    let item_counts = [
+        counts.years as u16,
+        counts.monthdays as u16,
+        counts.weeks as u16,
+        counts.weekdays as u16,
+    ];
+    put_counts(to, out, place, &item_counts, counts.spans)
 }
 
 // The rule that stands from `at` up to `end`; answers the place after it.

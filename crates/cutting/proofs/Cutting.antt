@@ -3,11 +3,11 @@
 use mathlib.Core.Path.{◌≡◌, refl, sym, ap, ◌∙◌, subst}
 use mathlib.Core.Bool.{Bool, true, false}
 use mathlib.Core.List.{List, [], ◌∷◌}
-use Prim.Native.Nat.{ℕ, zero, suc, ◌+◌, ◌*◌, ◌≤◌, ◌<◌}
+use Prim.Native.Nat.{ℕ, suc, ◌+◌, ◌*◌, ◌≤◌, ◌<◌}
 use native.Mathlib.Omega.{arith}
 use native.Mathlib.Nat.{mul-le-mul_right}
 use lib.Dec.{eqb}
-use lib.ListN.{length, get_or, take, set}
+use lib.ListN.{length, get_or, take}
 use lib.Seq.{take_all}
 use borrow.Author.Tests.{eqb-true, eqb-false}
 use Rattle.laws.proofs.Lists.{All-map, All-take}
@@ -33,17 +33,6 @@ use Rattle.paving_points.proofs.Few.{items-few, ranges-few, rules-roomy}
 use Rattle.cutting.specs.Cutting.{Placed, Rows}
 
 -- ## The start
-pub rows-placed : (rows : List ℕ) (places : ℕ) → length rows ≡ 4 → Placed places (set (set (set (set rows 0 0) 1 places) 2 (2 * places)) 3 (3 * places))
-rows-placed (a ∷ b ∷ c ∷ d ∷ rows) places e zero l = omega arith
-rows-placed (a ∷ b ∷ c ∷ d ∷ rows) places e (suc zero) l = omega arith
-rows-placed (a ∷ b ∷ c ∷ d ∷ rows) places e (suc (suc zero)) l = omega arith
-rows-placed (a ∷ b ∷ c ∷ d ∷ rows) places e (suc (suc (suc zero))) l = omega arith
-rows-placed (a ∷ b ∷ c ∷ d ∷ rows) places e (suc (suc (suc (suc i)))) l = absurd (omega arith)
-rows-placed [] places e i l = absurd (omega arith)
-rows-placed (a ∷ []) places e i l = absurd (omega arith)
-rows-placed (a ∷ b ∷ []) places e i l = absurd (omega arith)
-rows-placed (a ∷ b ∷ c ∷ []) places e i l = absurd (omega arith)
-
 -- both bounds of the four dimensions, as they are written
 pub bounds-cut : (rows : List ℕ) (places : ℕ) → Placed places rows → 2 ≤ places → (cuts sizes : List ℕ) → length sizes ≡ 4 → 4 * places ≤ length cuts
     → (t₃ t₂ t₁ t₀ : Rowed) → t₃ ≡ start_row rows 3 0 7 (rowed cuts sizes) → t₂ ≡ start_row rows 2 1 54 t₃ → t₁ ≡ start_row rows 1 1 13 t₂

@@ -14,14 +14,12 @@ fn run_end(marks: &[u8], base: usize, width: usize, column: usize) -> usize
     requires { (column ≤ width) × (base + width ≤ length marks.now) }
     ensures { result ≡ run_end (mark_at marks.now base) column (width - column) }
 {
-    let mut end = column;
-    while end < width {
+    for end in column..width {
         if marks[base + end] != 1 {
             return end;
         }
-        end += 1;
     }
-    end
+    width
 }
 
 // The first column from `column` on that is marked, or the width.
@@ -30,14 +28,12 @@ fn run_start(marks: &[u8], base: usize, width: usize, column: usize) -> usize
     ensures { (column ≤ result) × (result ≤ width) × (result < width → get_or marks.now (base + result) 0 ≡ 1)
         × (marks_from marks.now base width column ≡ marks_from marks.now base width result) }
 {
-    let mut start = column;
-    while start < width {
+    for start in column..width {
         if marks[base + start] == 1 {
             return start;
         }
-        start += 1;
     }
-    start
+    width
 }
 
 // Writes a run, from its first column up to `end`, excluded, as an item.
@@ -69,6 +65,7 @@ fn put_runs(
 {
     let mut count = 0;
     let mut start = run_start(marks, base, width, column);
+    // From run to run, not column by column: `for` is no plainer.
     while start < width {
         let end = run_end(marks, base, width, start + 1);
         put_run(cuts, row, start, end, ends, at + 2 * count);

@@ -5,11 +5,12 @@ use mathlib.Core.List.{List, ◌∷◌, ◌++◌}
 use Prim.Native.Nat.{ℕ, zero, suc, ◌+◌, ◌*◌, ◌-◌, ◌≤◌, ◌<◌}
 use native.Mathlib.Omega.{arith}
 use lib.Dec.{eqb}
-use lib.ListN.{length, get_or, set, take, replicate, length-replicate, length-set, get_or-append}
+use lib.ListN.{length, get_or, set, take, drop, replicate, length-append, length-drop, length-replicate, length-set, get_or-append}
 use lib.Seq.{get_or-take, get_or-append-add, get_or-set_same, get_or-set_other, length-take-le}
 use borrow.Author.Tests.{eqb-true, eqb-false}
 use Rattle.words.specs.Words.{part}
-use Rattle.day_book.specs.Book.{Kept, Book, Open}
+use Rattle.day_book.specs.Book.{Kept, Book, Open, Fetch}
+use borrow.Rule.Slice.PartMut.{put_mid}
 
 -- ## Words behind what is filled
 module _ (book : List ℕ) (filled : ℕ) (within : filled ≤ length book) (tail rest : List ℕ) where
@@ -85,6 +86,57 @@ module _ (book : List ℕ) (filled : ℕ) (within : filled ≤ length book) (tai
                 inside = omega (arith, from, many, old.inside);
                 words = ap₂ (part later) from many ∙ part-kept _ _ old.inside ∙ old.words;
               }
+
+-- ## A day folded behind what is filled
+module _ (W : ℕ → List ℕ) (notes book : List ℕ) (room filled number : ℕ) (opened : Open W notes book room filled) (tail : List ℕ) (sized : length tail ≡ length book - filled)
+    (count : ℕ) (short : count ≤ room) (read : part tail 0 count ≡ W number) where
+  abbrev rest : List ℕ
+  rest = drop (length book - filled) (drop filled book)
+
+  abbrev after : List ℕ
+  after = put_mid filled (length book - filled) book tail
+
+  within : filled ≤ length book
+  within = omega (arith, opened.roomy)
+
+  same_size : length after ≡ length book
+  same_size =
+      omega (
+        arith,
+        sized,
+        within,
+        length-append (take filled book) (tail ++ rest),
+        length-append tail rest,
+        length-take-le filled book within,
+        length-drop (length book - filled) (drop filled book),
+        length-drop filled book,
+      )
+
+  there : part after filled count ≡ W number
+  there = folded-there book filled within tail rest count (W number) (omega (arith, sized, short, opened.roomy)) read
+
+  pub day-folded : Fetch W notes after room number (record { from = filled; count = count; filled = filled })
+  day-folded = record {
+    inside = omega (arith, same_size, short, opened.roomy);
+    words = there;
+    opened = record {
+      held = still-held book filled within tail rest W notes opened.held;
+      roomy = omega (arith, same_size, opened.roomy);
+      few = omega (arith, same_size, opened.few);
+    };
+  }
+
+  pub day-noted : 2 * number + 1 < length notes → filled + count + room ≤ length after
+      → Fetch W (set (set notes (2 * number + 1 - 1) filled) (2 * number + 1) count) after room number (record { from = filled; count = count; filled = filled + count })
+  day-noted place more = record {
+    inside = omega (arith, same_size, short, opened.roomy);
+    words = there;
+    opened = record {
+      held = one-more-held book filled within tail rest W notes opened.held number count place there;
+      roomy = more;
+      few = omega (arith, same_size, opened.few);
+    };
+  }
 
 -- ## An empty book
 no-notes : (n k : ℕ) → get_or {A = ℕ} (replicate n 0) k 0 ≡ 0

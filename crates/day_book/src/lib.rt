@@ -8,7 +8,6 @@ ghost use Rattle.tables.specs.Days.{Ready, number_words};
 ghost use Rattle.day_book.specs.Book.{Open, Fetch};
 
 use box_day::fold_box;
-use casts::u16_to_usize;
 
 // Where a day's words stand, how many they are, and how much of the book is filled.
 #[derive(Clone, Copy)]
@@ -36,15 +35,12 @@ pub fn fetch(
         notes.new book.new room number result }
 {
     let noted = 2 * number + 1;
-    if noted < notes.len() {
-        let kept = u16_to_usize(notes[noted]);
-        if kept > 0 {
-            return Fetched {
-                from: u16_to_usize(notes[noted - 1]),
-                count: kept,
-                filled,
-            };
-        }
+    if noted < notes.len() && notes[noted] > 0 {
+        return Fetched {
+            from: usize::from(notes[noted - 1]),
+            count: usize::from(notes[noted]),
+            filled,
+        };
     }
     let count = fold_box(
         &mut book[filled..],
@@ -55,16 +51,14 @@ pub fn fetch(
         number - 1,
     );
     let next = filled + count;
-    if next + room <= book.len() {
-        if noted < notes.len() {
-            notes[noted - 1] = filled as u16;
-            notes[noted] = count as u16;
-            return Fetched {
-                from: filled,
-                count,
-                filled: next,
-            };
-        }
+    if next + room <= book.len() && noted < notes.len() {
+        notes[noted - 1] = filled as u16;
+        notes[noted] = count as u16;
+        return Fetched {
+            from: filled,
+            count,
+            filled: next,
+        };
     }
     Fetched {
         from: filled,

@@ -1,94 +1,57 @@
--- One lemma for each return of the functions that read a day's class from its flat form.
-use mathlib.Core.Path.{◌≡◌, refl, sym, ap, ap₂, ◌∙◌, subst}
-use mathlib.Core.List.{List, [], ◌∷◌}
-use mathlib.Core.Bool.{Bool, true, false, cond}
-use Prim.Native.Nat.{ℕ, zero, suc, ◌+◌, ◌-◌, ◌≤◌, ◌<◌}
-use native.Mathlib.Omega.{arith}
-use lib.ListN.{get_or}
+-- The class of a day, entry by entry of its words; and one lemma for each class.
+use Rattle.std.proofs.Common.{◌≡◌, refl, sym, ap, ◌∙◌, List, [], ◌∷◌, Bool, true, false, cond, ℕ, zero, suc, ◌≤◌, ◌<◌, length, get_or, drop, eqb, arith}
 use borrow.Author.Tests.{eq-eqb, ne_eqb}
 use Rattle.laws.specs.Lists.{every}
-use Rattle.definition.specs.Rule.{kind_number, Span}
+use Rattle.laws.proofs.Flags.{and-true}
+use Rattle.definition.specs.Rule.{kind_number}
 use Rattle.definition.specs.Day.{Entry, Day}
 use Rattle.definition.specs.Group.{day_class}
 use Rattle.codes.specs.Number.{state_coded}
 use Rattle.codes.proofs.Numbers.{kind-number}
-use Rattle.words.specs.Words.{part}
-use Rattle.words.proofs.Sets.{left-none}
 use Rattle.day_flat.specs.Day.{unflat_from, unflat, of_kind}
 
 -- after k spans the entries go on
-past-spans : (words : List ℕ) (at k r : ℕ) → (unflat_from k (part words at r)).1 ≡ unflat (part words (at + k) (r - k))
-unfolding part unflat_from
-past-spans words at zero r = let a : at ≡ at + 0 = omega arith in let b : r ≡ r - 0 = omega arith in ap₂ (λ i n. unflat (part words i n)) a b
-past-spans words at (suc k) zero = let b : 0 ≡ 0 - suc k = omega arith in ap (λ n. unflat (part words (at + suc k) n)) b
-past-spans words at (suc k) (suc r) =
-    let a : at + 1 + k ≡ at + suc k = omega arith in
-    let b : r - k ≡ suc r - suc k = omega arith in
-    past-spans words (at + 1) k r ∙ ap₂ (λ i n. unflat (part words i n)) a b
+past-spans : (k : ℕ) (ws : List ℕ) → (unflat_from k ws).1 ≡ unflat (drop k ws)
+unfolding unflat_from
+past-spans zero ws = refl
+past-spans (suc k) [] = refl
+past-spans (suc k) (w ∷ ws) = past-spans k ws
 
--- an entry with its spans, and the words after them
-entry-after : (words : List ℕ) (at r m : ℕ) → m ≡ get_or words (at + 1) 0
-    → unflat (part words at (suc (suc r)))
-    ≡ (state_coded (get_or words at 0), (unflat_from m (part words (at + 1 + 1) r)).0) ∷ unflat (part words (at + 1 + 1 + m) (r - m))
-unfolding part unflat_from
-entry-after words at r m e = rw (← e) (ap ((state_coded (get_or words at 0), (unflat_from m (part words (at + 1 + 1) r)).0) ∷◌) (past-spans words (at + 1 + 1) m r))
+-- the kind that a word stands for
+abbrev pub word_kind : ℕ → ℕ
+word_kind w = kind_number (state_coded w).kind
 
-module _ (words : List ℕ) (at n : ℕ) where
-  abbrev here : Day
-  here = unflat (part words at (n - at))
+module _ (kind : ℕ) where
+  pub kind-none : (words : List ℕ) → length words < 1 → true ≡ every (of_kind kind) (unflat words)
+  unfolding every unflat_from
+  kind-none [] h = refl
+  kind-none (w ∷ ws) h = absurd (omega arith)
 
-  alone : at < n → n - at ≤ 1 → here ≡ (state_coded (get_or words at 0), []) ∷ []
-  unfolding part unflat_from
-  alone h l = let k : n - at ≡ 1 = omega arith in ap (λ r. unflat (part words at r)) k
-
-  -- whatever holds of every day that begins with the state that stands here
-  first : (P : Day → Type 0) → at < n → ((spans : List Span) (d : Day) → P ((state_coded (get_or words at 0), spans) ∷ d)) → P here
-  first P h k = go (n - at) (λ z. omega arith)
-    where
-      go : (r : ℕ) → (r ≡ 0 → ⊥) → P (unflat (part words at r))
-      go zero z = absurd (z refl)
-      go (suc zero) z = unfold part unflat_from in k [] []
-      go (suc (suc r)) z =
-          unfold part unflat_from in
-          k (unflat_from (get_or words (at + 1) 0) (part words (at + 1 + 1) r)).0 (unflat_from (get_or words (at + 1) 0) (part words (at + 1 + 1) r)).1
-
-  module _ (kind k : ℕ) (e : k ≡ kind_number (state_coded (get_or words at 0)).kind) where
-    every_first : (spans : List Span) (d : Day) → k ≡ kind → every (of_kind kind) ((state_coded (get_or words at 0), spans) ∷ d) ≡ every (of_kind kind) d
-    unfolding every
-    every_first spans d f = rw (eq-eqb (kind_number (state_coded (get_or words at 0)).kind) kind (sym e ∙ f))
-
-    pub kind-more : 1 < n - at → k ≡ kind → (m : ℕ) → m ≡ get_or words (at + 1) 0 → (r : Bool)
-        → r ≡ every (of_kind kind) (unflat (part words (at + 2 + m) (n - (at + 2 + m))))
-        → r ≡ every (of_kind kind) here
-    kind-more h f m q r l =
-        let two : n - at ≡ suc (suc (n - at - 2)) = omega arith in
-        let place : at + 2 + m ≡ at + 1 + 1 + m = omega arith in
-        let left : n - (at + 2 + m) ≡ n - at - 2 - m = omega arith in
-        l ∙ ap₂ (λ i v. every (of_kind kind) (unflat (part words i v))) place left
-        ∙ sym
-        (ap (λ v. every (of_kind kind) (unflat (part words at v))) two ∙ ap (every (of_kind kind)) (entry-after words at (n - at - 2) m q) ∙ every_first
-        _ _ f)
-
-    pub kind-broken : 1 < n - at → k ≡ kind → (m : ℕ) → m ≡ get_or words (at + 1) 0 → n - at - 1 ≤ m → true ≡ every (of_kind kind) here
-    kind-broken h f m q l = kind-more h f m q true (ends (at + 2 + m) (n - (at + 2 + m)) (omega arith))
+  module _ (words : List ℕ) (k : ℕ) (e : k ≡ word_kind (get_or words 0 0)) where
+    pub kind-alone : 1 ≤ length words → length words < 2 → eqb k kind ≡ every (of_kind kind) (unflat words)
+    kind-alone h l = go words e h l
       where
-        ends : (i r : ℕ) → r ≡ 0 → true ≡ every (of_kind kind) (unflat (part words i r))
-        ends i r z = unfold part unflat_from every in sym (ap (λ v. every (of_kind kind) (unflat (part words i v))) z)
+        go : (words : List ℕ) → k ≡ word_kind (get_or words 0 0) → 1 ≤ length words → length words < 2 → eqb k kind ≡ every (of_kind kind) (unflat words)
+        go [] e h l = absurd (omega arith)
+        go (w ∷ []) e h l = unfold every unflat_from in rw e (sym (and-true (eqb (word_kind w) kind)))
+        go (w ∷ v ∷ ws) e h l = absurd (omega arith)
 
-    pub kind-alone : at < n → n - at ≤ 1 → k ≡ kind → true ≡ every (of_kind kind) here
-    unfolding every
-    kind-alone h l f = sym (ap (every (of_kind kind)) (alone h l) ∙ every_first [] [] f)
-
-    pub kind-breaks : at < n → (k ≡ kind → ⊥) → false ≡ every (of_kind kind) here
-    unfolding every
-    kind-breaks h f = first (λ d. false ≡ every (of_kind kind) d) h (λ spans d. sym (other spans d))
+    pub kind-more : 2 ≤ length words → k ≡ kind → every (of_kind kind) (unflat (drop (get_or words 1 0) (drop 2 words))) ≡ every (of_kind kind) (unflat words)
+    kind-more h f = go words e h
       where
-        other : (spans : List Span) (d : Day) → every (of_kind kind) ((state_coded (get_or words at 0), spans) ∷ d) ≡ false
-        other spans d = rw (ne_eqb (kind_number (state_coded (get_or words at 0)).kind) kind (λ q. f (e ∙ q)))
+        go : (words : List ℕ) → k ≡ word_kind (get_or words 0 0) → 2 ≤ length words
+            → every (of_kind kind) (unflat (drop (get_or words 1 0) (drop 2 words))) ≡ every (of_kind kind) (unflat words)
+        go [] e h = absurd (omega arith)
+        go (w ∷ []) e h = absurd (omega arith)
+        go (w ∷ n ∷ ws) e h = unfold every unflat_from in rw (eq-eqb (word_kind w) kind (sym e ∙ f)) (ap (every (of_kind kind)) (sym (past-spans n ws)))
 
-  pub kind-ends : (kind : ℕ) → n ≤ at → true ≡ every (of_kind kind) here
-  unfolding every part unflat_from
-  kind-ends kind h = sym (ap (λ r. every (of_kind kind) (unflat (part words at r))) (left-none at n h))
+    pub kind-other : 2 ≤ length words → (k ≡ kind → ⊥) → eqb k kind ≡ every (of_kind kind) (unflat words)
+    kind-other h f = go words e h
+      where
+        go : (words : List ℕ) → k ≡ word_kind (get_or words 0 0) → 2 ≤ length words → eqb k kind ≡ every (of_kind kind) (unflat words)
+        go [] e h = absurd (omega arith)
+        go (w ∷ []) e h = absurd (omega arith)
+        go (w ∷ n ∷ ws) e h = unfold every unflat_from in ne_eqb k kind f ∙ sym (rw (ne_eqb (word_kind w) kind (λ q. f (e ∙ q))) refl)
 
 -- ## The class, by the kind of the first entry and whether all have it
 module _ (e : Entry) (d : Day) where
@@ -108,29 +71,35 @@ module _ (e : Entry) (d : Day) where
   entry-unknown q = rw q
 
 -- k is the kind of the first entry
-module _ (words : List ℕ) (n : ℕ) (some : n ≡ 0 → ⊥) (k : ℕ) (e : k ≡ kind_number (state_coded (get_or words 0 0)).kind) where
-  -- whatever holds of every day that begins with the first word's state
-  first-day : (P : Day → Type 0) → ((spans : List Span) (d : Day) → P ((state_coded (get_or words 0 0), spans) ∷ d)) → P (unflat (part words 0 n))
-  first-day P h = let z : n - 0 ≡ n = omega arith in subst (λ r. P (unflat (part words 0 r))) z (first words 0 n P (omega arith) h)
+module _ (words : List ℕ) (some : 1 ≤ length words) (k : ℕ) (e : k ≡ word_kind (get_or words 0 0)) where
+  -- whatever holds of every day that begins with an entry of this kind
+  first-day : (P : Day → Type 0) → ((x : Entry) (d : Day) → kind_number x.0.kind ≡ k → P (x ∷ d)) → P (unflat words)
+  first-day P h = go words some e
+    where
+      go : (words : List ℕ) → 1 ≤ length words → k ≡ word_kind (get_or words 0 0) → P (unflat words)
+      go [] l e = absurd (omega arith)
+      go (w ∷ []) l e = unfold unflat_from in h (state_coded w, []) [] (sym e)
+      go (w ∷ n ∷ ws) l e = unfold unflat_from in h (state_coded w, (unflat_from n ws).0) (unflat_from n ws).1 (sym e)
 
-  pub class-closed : k ≡ 1 → 5 ≡ day_class (unflat (part words 0 n))
-  class-closed q = first-day (λ d. 5 ≡ day_class d) (λ spans d. entry_closed (state_coded (get_or words 0 0), spans) d (sym e ∙ q))
+  pub class-closed : k ≡ 1 → 5 ≡ day_class (unflat words)
+  class-closed q = first-day (λ d. 5 ≡ day_class d) (λ x d f. entry_closed x d (f ∙ q))
 
-  module _ (alike : Bool) (l : alike ≡ every (of_kind k) (unflat (part words 0 (n - 0)))) (v : Bool) (f : alike ≡ v) where
-    told : (j : ℕ) → k ≡ j → every (of_kind j) (unflat (part words 0 n)) ≡ v
-    told j q = let z : n - 0 ≡ n = omega arith in ap₂ (λ i r. every (of_kind i) (unflat (part words 0 r))) (sym q) (sym z) ∙ sym l ∙ f
+  module _ (alike : Bool) (l : alike ≡ every (of_kind k) (unflat words)) (v : Bool) (f : alike ≡ v) where
+    told : (j : ℕ) → k ≡ j → every (of_kind j) (unflat words) ≡ v
+    told j q = ap (λ i. every (of_kind i) (unflat words)) (sym q) ∙ sym l ∙ f
 
-    pub class-open : k ≡ 0 → cond v 1 2 ≡ day_class (unflat (part words 0 n))
+    pub class-open : k ≡ 0 → cond v 1 2 ≡ day_class (unflat words)
     class-open q =
         ap (λ b. cond b 1 2) (sym (told 0 q))
-        ∙ first-day (λ d. cond (every (of_kind 0) d) 1 2 ≡ day_class d) (λ spans d. entry-open (state_coded (get_or words 0 0), spans) d (sym e ∙ q))
+        ∙ first-day (λ d. cond (every (of_kind 0) d) 1 2 ≡ day_class d) (λ x d g. entry-open x d (g ∙ q))
 
-    pub class-unknown : (k ≡ 0 → ⊥) → (k ≡ 1 → ⊥) → cond v 3 4 ≡ day_class (unflat (part words 0 n))
+    pub class-unknown : (k ≡ 0 → ⊥) → (k ≡ 1 → ⊥) → cond v 3 4 ≡ day_class (unflat words)
     class-unknown o c =
         let q : k ≡ 2 = omega (arith, e, kind-number (get_or words 0 0)) in
         ap (λ b. cond b 3 4) (sym (told 2 q))
-        ∙ first-day (λ d. cond (every (of_kind 2) d) 3 4 ≡ day_class d) (λ spans d. entry-unknown (state_coded (get_or words 0 0), spans) d (sym e ∙ q))
+        ∙ first-day (λ d. cond (every (of_kind 2) d) 3 4 ≡ day_class d) (λ x d g. entry-unknown x d (g ∙ q))
 
-pub class-none : (words : List ℕ) (n : ℕ) → n ≡ 0 → 0 ≡ day_class (unflat (part words 0 n))
-unfolding day_class part unflat_from
-class-none words n e = sym (ap (λ r. day_class (unflat (part words 0 r))) e)
+pub class-none : (words : List ℕ) → length words < 1 → 0 ≡ day_class (unflat words)
+unfolding day_class unflat_from
+class-none [] e = refl
+class-none (w ∷ ws) e = absurd (omega arith)

@@ -1,44 +1,35 @@
 // The class of a day, from its flat form.
-ghost use Rattle.std.specs.Prelude.{◌≡◌, ◌-◌, ◌≤◌, length};
+ghost use Rattle.std.specs.Prelude.{◌≡◌};
 ghost use Rattle.laws.specs.Lists.{every};
 ghost use Rattle.definition.specs.Group.{day_class};
-ghost use Rattle.words.specs.Words.{part};
 ghost use Rattle.day_flat.specs.Day.{unflat, of_kind};
 
-use casts::u64_to_usize;
 use codes::kind_of;
 
-// Whether each entry from a word on has the kind.
-fn all_of_kind(words: &[u64], kind: u8, at: usize, n: usize) -> bool
-    requires { n ≤ length words.now }
-    ensures { result ≡ every (of_kind kind) (unflat (part words.now at (n - at))) }
+// Whether each entry has the kind.
+fn all_of_kind(words: &[u64], kind: u8) -> bool
+    ensures { result ≡ every (of_kind kind) (unflat words.now) }
 {
-    if at < n {
-        if kind_of(words[at]) == kind {
-            if 1 < n - at {
-                let spans = u64_to_usize(words[at + 1]);
-                if spans < n - at - 1 {
-                    return all_of_kind(words, kind, at + 2 + spans, n);
-                }
-                return true;
-            }
-            return true;
+    match words {
+        [] => true,
+        [state] => kind_of(*state) == kind,
+        [state, spans, rest @ ..] => {
+            let spans = *spans as usize;
+            kind_of(*state) == kind && (rest.len() <= spans || all_of_kind(&rest[spans..], kind))
         }
-        return false;
     }
-    true
 }
 
-// The class of the day that n words stand for: 1 all Open, 2 first Open, 3 all Unknown, 4 first Unknown, 5 any other, 0 the empty day.
-pub fn day_class(words: &[u64], n: usize) -> u8
-    requires { n ≤ length words.now }
-    ensures { result ≡ day_class (unflat (part words.now 0 n)) }
+// The class of the day that words stand for: 1 all Open, 2 first Open, 3 all Unknown, 4 first Unknown, 5 any other, 0 the empty day. The numbers are
+// the definition's, and stand in tables between the stages.
+pub fn day_class(words: &[u64]) -> u8
+    ensures { result ≡ day_class (unflat words.now) }
 {
-    if n == 0 {
+    let [first, ..] = words else {
         return 0;
-    }
-    let kind = kind_of(words[0]);
-    let alike = all_of_kind(words, kind, 0, n);
+    };
+    let kind = kind_of(*first);
+    let alike = all_of_kind(words, kind);
     match kind {
         0 => if alike { 1 } else { 2 },
         1 => 5,

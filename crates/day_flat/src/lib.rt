@@ -4,36 +4,24 @@
 
 pub mod class;
 
-ghost use Rattle.std.specs.Prelude.{◌≡◌, ◌≤◌, eqb, length};
+ghost use Rattle.std.specs.Prelude.{◌≡◌, eqb};
 ghost use Rattle.laws.specs.Tests.{same_list};
-ghost use Rattle.words.specs.Words.{part};
 ghost use Rattle.day_flat.specs.Day.{fingerprint_of};
 
-// Whether the first n words of two buffers are equal.
-pub fn same_words(a: &[u64], b: &[u64], n: usize) -> bool
-    requires { (n ≤ length a.now) × (n ≤ length b.now) }
-    ensures { result ≡ same_list eqb (part a.now 0 n) (part b.now 0 n) }
+// Whether two days' words are equal.
+pub fn same_words(a: &[u64], b: &[u64]) -> bool
+    ensures { result ≡ same_list eqb a.now b.now }
 {
-    let mut i: usize = 0;
-    while i < n {
-        if a[i] != b[i] {
-            return false;
-        }
-        i += 1;
-    }
-    true
+    a == b
 }
 
 // A number that equal words share.
-pub fn fingerprint(a: &[u64], n: usize) -> u64
-    requires { n ≤ length a.now }
-    ensures { result ≡ fingerprint_of 0 (part a.now 0 n) }
+pub fn fingerprint(words: &[u64]) -> u64
+    ensures { result ≡ fingerprint_of 0 words.now }
 {
-    let mut acc: u64 = 0;
-    let mut i: usize = 0;
-    while i < n {
-        acc = (acc * 1009 + a[i] % 1000003) % 1000003;
-        i += 1;
+    let mut mixed: u64 = 0;
+    for word in words {
+        mixed = (mixed * 1009 + *word % 1000003) % 1000003;
     }
-    acc
+    mixed
 }

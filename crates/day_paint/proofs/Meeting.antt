@@ -1,8 +1,8 @@
 -- Where a stroke meets a range of minutes, by the later start and the earlier end.
-use mathlib.Core.Path.{◌≡◌, refl, sym, ap, ◌∙◌}
+use mathlib.Core.Path.{◌≡◌, refl, sym, ap, ap₂, ◌∙◌}
 use mathlib.Core.List.{List}
 use mathlib.Core.Bool.{Bool, true, false, cond}
-use Prim.Native.Nat.{ℕ, zero, suc, ◌-◌, ◌≤◌, ◌<◌}
+use Prim.Native.Nat.{ℕ, zero, suc, ◌-◌, ◌≤◌, ◌<◌, min, max}
 use native.Mathlib.Omega.{arith}
 use lib.Dec.{ltb}
 use lib.ListN.{get_or}
@@ -18,10 +18,6 @@ later-up a s h = rw (lt-ltb a s h)
 pub later-own : (a s : ℕ) → s ≤ a → a ≡ later a s
 unfolding later
 later-own a s h = rw (le-ltb a s h)
-
-pub earlier-own : (e b : ℕ) → e < b → e ≡ earlier e b
-unfolding earlier
-earlier-own e b h = rw (lt-ltb e b h)
 
 pub earlier-down : (e b : ℕ) → b ≤ e → b ≡ earlier e b
 unfolding earlier
@@ -78,26 +74,9 @@ module _ (x a b : ℕ) where
   bounds : (a ≤ meets_from x a) × (stroke_start x ≤ meets_from x a) × (meets_up_to x b ≤ stroke_end x) × (meets_up_to x b ≤ b)
   bounds = omega (arith, later-bound a (stroke_start x), earlier-bound (stroke_end x) b)
 
-  -- it ended before, it begins after, or the range has no minutes
-  pub meets-past : stroke_end x ≤ a → meets x a b ≡ false
-  meets-past h = off (omega (arith, bounds))
-
-  pub meets-before : b ≤ stroke_start x → meets x a b ≡ false
-  meets-before h = off (omega (arith, bounds))
-
+  -- the range has no minutes
   pub meets-none : b ≤ a → meets x a b ≡ false
   meets-none h = off (omega (arith, bounds))
-
-  -- otherwise it meets it, unless it has no minutes itself
-  pub meets-in : a < b → a < stroke_end x → stroke_start x < b → ltb (stroke_start x) (stroke_end x) ≡ meets x a b
-  meets-in u h k = go (ltb (stroke_start x) (stroke_end x)) refl
-    where
-      go : (t : Bool) → ltb (stroke_start x) (stroke_end x) ≡ t → t ≡ meets x a b
-      go true e =
-          let s : stroke_start x < stroke_end x = ltb-true (stroke_start x) (stroke_end x) e in
-          sym (meets_at (later-or (λ v. v < meets_up_to x b) a (stroke_start x)
-          (λ l. earlier-or (λ v. a < v) (stroke_end x) b (λ m. h) (λ m. u)) (λ l. earlier-or (λ v. stroke_start x < v) (stroke_end x) b (λ m. s) (λ m. k))))
-      go false e = sym (off (omega (arith, ltb-false (stroke_start x) (stroke_end x) e, bounds)))
 
 -- ## The last stroke that meets a range
 module _ (q : List ℕ) (a b : ℕ) where
@@ -135,3 +114,24 @@ module _ (q : List ℕ) (a b : ℕ) where
   pub last_none : (i : ℕ) → i ≡ 0 → 0 ≡ last_meeting q i a b
   unfolding last_meeting
   last_none i e = ap (λ n. last_meeting q n a b) (sym e)
+
+-- as the library chooses the later and the earlier of two minutes
+pub max-later : (a b : ℕ) → max a b ≡ later a b
+unfolding later
+max-later a b = go (ltb a b) refl
+  where
+    go : (t : Bool) → ltb a b ≡ t → max a b ≡ cond t b a
+    go true e = omega (arith, ltb-true a b e)
+    go false e = omega (arith, ltb-false a b e)
+
+pub min-earlier : (a b : ℕ) → min a b ≡ earlier a b
+unfolding earlier
+min-earlier a b = go (ltb a b) refl
+  where
+    go : (t : Bool) → ltb a b ≡ t → min a b ≡ cond t a b
+    go true e = omega (arith, ltb-true a b e)
+    go false e = omega (arith, ltb-false a b e)
+
+pub meets-met : (x a b s e : ℕ) → s ≡ stroke_start x → e ≡ stroke_end x → ltb (max a s) (min e b) ≡ meets x a b
+unfolding meets
+meets-met x a b s e es ee = ap₂ ltb (max-later a s ∙ ap (later a) es) (min-earlier e b ∙ ap (λ v. earlier v b) ee)

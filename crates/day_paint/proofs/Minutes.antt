@@ -229,15 +229,6 @@ state-some strokes zero x d e = absurd (d refl)
 state-some strokes (suc j) x d e = let z : suc j - 1 ≡ j = omega arith in e ∙ ap (λ k. stroke_state (get_or strokes k 0)) z
 
 -- ## Minutes read as pieces
--- one minute more of the same number
-pub more-alike : (minutes : List ℕ) (number i next : ℕ) → ((m : ℕ) → i ≤ m → m < next → get_or minutes m 0 ≡ number) → get_or minutes next 0 ≡ number
-    → (m : ℕ) → i ≤ m → m < next + 1 → get_or minutes m 0 ≡ number
-more-alike minutes number i next g e m l u = go (eqb m next) refl
-  where
-    go : (t : Bool) → eqb m next ≡ t → get_or minutes m 0 ≡ number
-    go true q = ap (λ k. get_or minutes k 0) (eqb-true m next q) ∙ e
-    go false q = g m l (omega (arith, eqb-false m next q))
-
 module _ (strokes minutes starts₀ states₀ : List ℕ) where
   abbrev shown_at : ℕ → ℕ
   shown_at m = number_state strokes (get_or minutes m 0)
@@ -248,9 +239,6 @@ module _ (strokes minutes starts₀ states₀ : List ℕ) where
     pub up_to : from ≤ 1440
     pub room : from < 1440 → place ≤ changes minutes from
     pub most : place ≤ changes minutes 1439 + 1
-
-  pub reading-start : Reading starts₀ states₀ 0 0
-  reading-start = record { tiled = tiled-start starts₀ states₀ shown_at; up_to = omega arith; room = λ h. omega arith; most = omega arith }
 
   module _ (starts states : List ℕ) (place from : ℕ) (g : Reading starts states place from) where
     pub reading-room : from < 1440 → place ≤ changes minutes 1439

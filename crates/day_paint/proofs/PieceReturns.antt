@@ -41,7 +41,6 @@ module _ (cs vs : List ℕ) (k : ℕ) (cs₂ vs₂ : List ℕ) (r : ℕ) where
 pub record RangeOn (q : List ℕ) (i a b k : ℕ) (cs₀ vs₀ : List ℕ) (below minute place : ℕ) (cs vs : List ℕ) : Type 0 where
   pub fewer : below ≤ i
   pub room : (place + length (pieces q below minute b) ≤ length cs) × (place + length (pieces q below minute b) ≤ length vs)
-  pub lengths : (length cs ≡ length cs₀) × (length vs ≡ length vs₀)
   pub finishes : (cs₁ vs₁ : List ℕ) (r : ℕ) → Laid cs vs place cs₁ vs₁ r (pieces q below minute b) → Laid cs₀ vs₀ k cs₁ vs₁ r (pieces q i a b)
 
 module _ (q : List ℕ) (i a b k : ℕ) (cs₀ vs₀ : List ℕ) (below m place : ℕ) (cs vs : List ℕ) (on : RangeOn q i a b k cs₀ vs₀ below m place cs vs) where
@@ -65,7 +64,6 @@ module _ (q : List ℕ) (i a b k : ℕ) (cs₀ vs₀ : List ℕ) (below m place 
     goes_on fewer cs₁ vs₁ place₁ l f = record {
       fewer = fewer;
       room = (omega (arith, on.room, size, l.2, f.0), omega (arith, on.room, size, l.2, f.1));
-      lengths = (f.0 ∙ on.lengths.0, f.1 ∙ on.lengths.1);
       finishes = λ cs₂ vs₂ r t. done (L ++ pieces q below₁ m₁ b) e cs₂ vs₂ r (laid_more cs vs place cs₂ vs₂ r cs₁ vs₁ place₁ L (pieces q below₁ m₁ b) l t);
     }
 
@@ -122,6 +120,45 @@ module _ (q : List ℕ) (i a b k : ℕ) (cs₀ vs₀ : List ℕ) (below m place 
         pub own_on : (cs₁ vs₁ : List ℕ) (place₁ : ℕ) → Laid cs vs place cs₁ vs₁ place₁ ((m, u, S) ∷ []) → (length cs₁ ≡ length cs) × (length vs₁ ≡ length vs)
             → RangeOn q i a b k cs₀ vs₀ (j - 1) u place₁ cs₁ vs₁
         own_on = goes_on ((m, u, S) ∷ []) (j - 1) u own (omega (arith, fewer-still))
+
+  -- stroke t is the last that meets what is left
+  module _ (t : ℕ) (last : last_meeting q below m b ≡ t + 1) where
+    some : t + 1 ≡ 0 → ⊥
+    some e = omega arith
+
+    back : t + 1 - 1 ≡ t
+    back = omega arith
+
+    pub last-in : t < i
+    last-in = omega (arith, fewer-still (t + 1) (sym last))
+
+    module _ (s : ℕ) (es : s ≡ stroke_start (get_or q t 0)) where
+      es₁ : s ≡ stroke_start (get_or q (t + 1 - 1) 0)
+      es₁ = es ∙ ap (λ n. stroke_start (get_or q n 0)) (sym back)
+
+      pub range-left-room : m < s → (place + length (pieces q t m s) ≤ length cs) × (place + length (pieces q t m s) ≤ length vs)
+      range-left-room h =
+          subst (λ n. (place + length (pieces q n m s) ≤ length cs) × (place + length (pieces q n m s) ≤ length vs)) back (left-room (t + 1) (sym last) some s es₁ h)
+
+      pub range-left-on : m < s → (cs₁ vs₁ : List ℕ) (place₁ : ℕ) → Laid cs vs place cs₁ vs₁ place₁ (pieces q t m s) → (length cs₁ ≡ length cs) × (length vs₁ ≡ length vs)
+          → RangeOn q i a b k cs₀ vs₀ (t + 1) s place₁ cs₁ vs₁
+      range-left-on h cs₁ vs₁ place₁ l f =
+          left-on (t + 1) (sym last) some s es₁ h cs₁ vs₁ place₁ (subst (λ n. Laid cs vs place cs₁ vs₁ place₁ (pieces q n m s)) (sym back) l) f
+
+      module _ (h : s ≤ m) where
+        pub range-own-room : (place < length cs) × (place < length vs)
+        range-own-room = let room = own_room (t + 1) (sym last) some s es₁ h _ _ _ refl refl refl in (omega (arith, room.0), omega (arith, room.1))
+
+        module _ (S e u : ℕ) (e_s : S ≡ stroke_state (get_or q t 0)) (ee : e ≡ stroke_end (get_or q t 0)) (eu : u ≡ earlier e b) where
+          pub range-shows-on : m < u
+          range-shows-on = shows-on (t + 1) (sym last) some s es₁ h S e u (e_s ∙ ap (λ n. stroke_state (get_or q n 0)) (sym back))
+              (ee ∙ ap (λ n. stroke_end (get_or q n 0)) (sym back)) eu
+
+          pub range-own-on : (cs₁ vs₁ : List ℕ) (place₁ : ℕ) → Laid cs vs place cs₁ vs₁ place₁ ((m, u, S) ∷ []) → (length cs₁ ≡ length cs) × (length vs₁ ≡ length vs)
+              → RangeOn q i a b k cs₀ vs₀ t u place₁ cs₁ vs₁
+          range-own-on cs₁ vs₁ place₁ l f =
+              subst (λ n. RangeOn q i a b k cs₀ vs₀ n u place₁ cs₁ vs₁) back
+              (own_on (t + 1) (sym last) some s es₁ h S e u (e_s ∙ ap (λ n. stroke_state (get_or q n 0)) (sym back)) (ee ∙ ap (λ n. stroke_end (get_or q n 0)) (sym back)) eu cs₁ vs₁ place₁ l f)
 
 -- ## A day's pieces laid, with its end behind their starts
 pub day-laid : (q : List ℕ) (k : ℕ) (cs vs cs₁ vs₁ : List ℕ) (m : ℕ) → Laid cs vs 0 cs₁ vs₁ m (day_pieces q k)

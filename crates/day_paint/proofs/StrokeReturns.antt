@@ -60,10 +60,6 @@ module _ (xs ps : List ℕ) (q t : List ℕ) (k r i n : ℕ) where
   unfolding strokes_from
   list-ends h = none-laid q k _ (ap (strokes_from xs ps i) (left-none i n h))
 
-pub list-starts : (xs ps q : List ℕ) (n : ℕ) → Finishes q 0 (strokes_from xs ps 0 (n - 0)) q 0 (strokes_from xs ps 0 n)
-list-starts xs ps q n t r l =
-    let z : n ≡ n - 0 = omega arith in same-laid q t 0 r (strokes_from xs ps 0 n) (strokes_from xs ps 0 (n - 0)) (ap (strokes_from xs ps 0) z) l
-
 pub stroke-made : (state span w s e : ℕ) → w ≡ state → s ≡ span / 8589934592 → e ≡ span / 16384 % 524288 → w * 4194304 + s * 2048 + e ≡ stroke_number state span
 unfolding stroke_number
 stroke-made state span w s e h k l = rw (h, k, l)

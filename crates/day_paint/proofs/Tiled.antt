@@ -11,7 +11,8 @@ use borrow.Author.Tests.{ltb-true, ltb-false}
 use Rattle.laws.proofs.Stores.{sets-append}
 use Rattle.codes.specs.Number.{closed_number}
 use Rattle.words.specs.Words.{part}
-use Rattle.words.proofs.Sets.{part-sets}
+use Rattle.words.proofs.Sets.{part-sets, part-taken}
+use Rattle.std.proofs.lemmas.List.{take_all}
 use Rattle.day_paint.specs.Stroke.{shown}
 use Rattle.day_paint.specs.Piece.{Piece, piece_start, piece_state, day_pieces, Tiles, DayLaid}
 use Rattle.day_paint.proofs.MeanPiece.{tiles-append, tiles-same, pieces-tile}
@@ -32,6 +33,13 @@ day-read f P tile starts₀ starts states₀ states r e g c room size =
       states-read = ap₂ (λ v n. part v 0 n) g s ∙ part-sets states₀ 0 S (omega arith);
       counted = c;
     }
+
+-- the whole of some strokes
+pub part-whole : (s : List ℕ) → part s 0 (length s) ≡ s
+part-whole s = sym (part-taken s 0 (length s) (omega arith)) ∙ take_all (length s) s (omega arith)
+
+pub day-whole : (s starts states : List ℕ) (r : ℕ) → DayLaid (shown closed_number (part s 0 (length s))) starts states r → DayLaid (shown closed_number s) starts states r
+day-whole s starts states r = subst (λ q. DayLaid (shown closed_number q) starts states r) (part-whole s)
 
 -- pieces found from the last stroke back
 pub day-pieces : (strokes : List ℕ) (k : ℕ) (starts₀ starts states₀ states : List ℕ) (r : ℕ)

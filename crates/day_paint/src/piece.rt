@@ -1,9 +1,9 @@
 // A day as pieces of one state, in rising order. Strokes are painted one over another, so they are looked at from the last one back: where a
 // stroke shows, those before it are not looked at, and no cut has to be sorted.
-ghost use Rattle.std.specs.Prelude.{◌≡◌, [], ◌∷◌, ◌++◌, map, ◌+◌, ◌*◌, ◌<◌, ◌≤◌, length, set};
+ghost use Rattle.std.specs.Prelude.{◌≡◌, [], ◌∷◌, ◌++◌, map, ◌+◌, ◌*◌, ◌<◌, ◌≤◌, length, set, MatchOption};
 ghost use Rattle.std.proofs.lemmas.List.Edits.{sets};
 ghost use Rattle.day_paint.specs.Stroke.{stroke_state, stroke_start, stroke_end};
-ghost use Rattle.day_paint.specs.Piece.{piece_start, piece_state, earlier, meets, last_meeting, pieces, day_pieces};
+ghost use Rattle.day_paint.specs.Piece.{piece_start, piece_state, meets, last_meeting, pieces, day_pieces};
 
 use crate::{START_UNIT, STATE_UNIT};
 use codes::CLOSED;
@@ -32,42 +32,24 @@ pub fn stroke_end(x: u64) -> u64
     x % START_UNIT
 }
 
-// The earlier of two minutes.
-pub fn earlier_of(a: u64, b: u64) -> u64
-    ensures { result ≡ earlier a b }
-{
-    if a < b { a } else { b }
-}
-
 // Whether a stroke meets the range from a up to b.
 fn meets_range(x: u64, a: u64, b: u64) -> bool
-    requires { a < b }
     ensures { result ≡ meets x a b }
 {
-    let end = stroke_end(x);
-    if end <= a {
-        return false;
-    }
-    let start = stroke_start(x);
-    if b <= start {
-        return false;
-    }
-    start < end
+    a.max(stroke_start(x)) < stroke_end(x).min(b)
 }
 
-// Which of the first i strokes is the last that meets a range, counted from 1; 0 where none does.
-fn last_meeting(strokes: &[u64], i: usize, a: u64, b: u64) -> usize
-    requires { (i ≤ length strokes.now) × (a < b) }
-    ensures { result ≡ last_meeting strokes.now i a b }
+// The last of the first i strokes that meets a range.
+fn last_meeting(strokes: &[u64], i: usize, a: u64, b: u64) -> Option<usize>
+    requires { i ≤ length strokes.now }
+    ensures { MatchOption result (last_meeting strokes.now i a b ≡ 0) (λ last. last_meeting strokes.now i a b ≡ last + 1) }
 {
-    let mut next = i;
-    while next > 0 {
-        if meets_range(strokes[next - 1], a, b) {
-            return next;
+    for next in (0..i).rev() {
+        if meets_range(strokes[next], a, b) {
+            return Some(next);
         }
-        next -= 1;
     }
-    0
+    None
 }
 
 // Writes a piece's start and its state; answers the place after it.
@@ -106,33 +88,34 @@ fn write_range(
     let mut place = at;
     let mut below = i;
     let mut from = a;
+    // Each turn takes what one stroke shows, so no `for` counts the minutes.
     while from < b {
-        below = last_meeting(strokes, below, from, b);
-        if below == 0 {
+        let Some(last) = last_meeting(strokes, below, from, b) else {
             return put_piece(starts, states, place, from, CLOSED);
-        }
-        let x = strokes[below - 1];
+        };
+        let x = strokes[last];
         let start = stroke_start(x);
         if from < start {
-            place = write_range(starts, states, place, strokes, below - 1, from, start);
+            place = write_range(starts, states, place, strokes, last, from, start);
+            below = last + 1;
             from = start;
             continue;
         }
         place = put_piece(starts, states, place, from, stroke_state(x));
-        below -= 1;
-        from = earlier_of(stroke_end(x), b);
+        below = last;
+        from = stroke_end(x).min(b);
     }
     place
 }
 
-// Writes the pieces of a day under k strokes, their starts with the day's end behind them, and their states; answers how many there are.
-pub fn write_pieces(starts: &mut [u64], states: &mut [u64], strokes: &[u64], k: usize) -> usize
-    requires { (k ≤ length strokes.now) × (2 * k + 2 ≤ length starts.old) × (2 * k + 1 ≤ length states.old) }
-    ensures { (starts.new ≡ sets starts.old 0 (map piece_start (day_pieces strokes.now k) ++ 1440 ∷ []))
-        × (states.new ≡ sets states.old 0 (map piece_state (day_pieces strokes.now k)))
-        × (result ≡ length (day_pieces strokes.now k)) × (result ≤ 2 * k + 1) }
+// Writes the pieces of a day under its strokes, their starts with the day's end behind them, and their states; answers how many there are.
+pub fn write_pieces(starts: &mut [u64], states: &mut [u64], strokes: &[u64]) -> usize
+    requires { (2 * length strokes.now + 2 ≤ length starts.old) × (2 * length strokes.now + 1 ≤ length states.old) }
+    ensures { (starts.new ≡ sets starts.old 0 (map piece_start (day_pieces strokes.now (length strokes.now)) ++ 1440 ∷ []))
+        × (states.new ≡ sets states.old 0 (map piece_state (day_pieces strokes.now (length strokes.now))))
+        × (result ≡ length (day_pieces strokes.now (length strokes.now))) × (result ≤ 2 * length strokes.now + 1) }
 {
-    let m = write_range(starts, states, 0, strokes, k, 0, DAY_END);
+    let m = write_range(starts, states, 0, strokes, strokes.len(), 0, DAY_END);
     starts[m] = DAY_END;
     m
 }

@@ -1,8 +1,7 @@
 // The pieces of a day whose strokes rise: each begins where the one before it ends, or later. Then no stroke covers another, and the pieces are
 // the strokes with the gaps between them. Rests on piece.rt for what a stroke is.
-ghost use Rattle.std.specs.Prelude.{◌≡◌, ◌+◌, ◌*◌, ◌<◌, ◌≤◌, length, set};
+ghost use Rattle.std.specs.Prelude.{◌≡◌, ◌+◌, ◌*◌, ◌<◌, ◌≤◌, length, set, IfSome};
 ghost use Rattle.codes.specs.Number.{closed_number};
-ghost use Rattle.words.specs.Words.{part};
 ghost use Rattle.day_paint.specs.Stroke.{shown};
 ghost use Rattle.day_paint.specs.Piece.{DayLaid};
 
@@ -21,34 +20,25 @@ fn put_gap(starts: &mut [u64], states: &mut [u64], place: usize, a: u64, b: u64)
     place
 }
 
-// Writes the pieces of a day under k strokes that rise, their starts with the day's end behind them, and their states; answers how many there
-// are, or 0 where the strokes don't rise.
-pub fn write_rising(starts: &mut [u64], states: &mut [u64], strokes: &[u64], k: usize) -> usize
-    requires { (k < 65536) × (k ≤ length strokes.now) × (2 * k + 2 ≤ length starts.old) × (2 * k + 1 ≤ length states.old) }
-    ensures { 0 < result → DayLaid (shown closed_number (part strokes.now 0 k)) starts.new states.new result × (result ≤ 2 * k + 1) }
+// Writes the pieces of a day under strokes that rise, their starts with the day's end behind them, and their states; answers how many there are, or
+// nothing where the strokes don't rise.
+pub fn write_rising(starts: &mut [u64], states: &mut [u64], strokes: &[u64]) -> Option<usize>
+    requires { (2 * length strokes.now + 2 ≤ length starts.old) × (2 * length strokes.now + 1 ≤ length states.old) }
+    ensures { IfSome result (λ count. DayLaid (shown closed_number strokes.now) starts.new states.new count × (count ≤ 2 * length strokes.now + 1)) }
 {
     let mut place: usize = 0;
     let mut from: u64 = 0;
-    let mut i: usize = 0;
-    while i < k {
-        let x = strokes[i];
-        let start = stroke_start(x);
-        let end = stroke_end(x);
-        if start < from {
-            return 0;
-        }
-        if end <= start {
-            return 0;
-        }
-        if DAY_END < end {
-            return 0;
+    for x in strokes {
+        let start = stroke_start(*x);
+        let end = stroke_end(*x);
+        if start < from || end <= start || DAY_END < end {
+            return None;
         }
         let next = put_gap(starts, states, place, from, start);
-        place = put_piece(starts, states, next, start, stroke_state(x));
+        place = put_piece(starts, states, next, start, stroke_state(*x));
         from = end;
-        i += 1;
     }
     let last = put_gap(starts, states, place, from, DAY_END);
     starts[last] = DAY_END;
-    last
+    Some(last)
 }

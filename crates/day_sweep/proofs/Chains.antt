@@ -66,13 +66,6 @@ module _ (cells : List ℕ) (n : ℕ) where
               (λ j d l f. g.links j (omega arith) f);
         }
 
-    -- in the code's numbers
-    pub linked_on : (b p q : ℕ) → b ≡ bucket → p ≡ get_or heads b 0 → q ≡ i → Linking (set heads b q) (set chain i p) i
-    linked_on b p q e f o =
-        subst (λ v. Linking (set heads v q) (set chain i p) i) (sym e)
-        (subst (λ v. Linking (set heads bucket v) (set chain i p) i) (sym o)
-        (subst (λ v. Linking (set heads bucket i) (set chain i v) i) (sym (f ∙ ap (λ v. get_or heads v 0) e)) linking-on))
-
   pub linking-ends : (heads chain : List ℕ) (i : ℕ) → i ≤ 0 → Linking heads chain i → Chained chain cells n
   linking-ends heads chain i z g = (cells, record { links = λ j h. g.links j (omega arith) h; kept = λ k h d. refl })
 

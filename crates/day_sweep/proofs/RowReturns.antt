@@ -39,15 +39,6 @@ module _ (cs : List ℕ) (class n : ℕ) (s₀ : List ℕ) (at : ℕ) (vs₀ : L
     pub placed : place + length (class_words cs class vs i (n - i)) ≡ at + length (class_words cs class vs₀ 0 n)
     pub left : class_left class vs i (n - i) ≡ class_left class vs₀ 0 n
 
-  pub sweeping-start : Sweeping s₀ at vs₀ 0
-  sweeping-start =
-      let z : n - 0 ≡ n = omega arith in
-      record {
-        laid = ap (λ k. sets s₀ at (class_words cs class vs₀ 0 k)) z;
-        placed = ap (λ k. at + length (class_words cs class vs₀ 0 k)) z;
-        left = ap (class_left class vs₀ 0) z;
-      }
-
   module _ (s : List ℕ) (place : ℕ) (vs : List ℕ) (i : ℕ) (g : Sweeping s place vs i) where
     pub sweeping-ends : n ≤ i → Swept s₀ s at place (class_words cs class vs₀ 0 n) vs (class_left class vs₀ 0 n)
     unfolding class_words class_left
@@ -161,9 +152,6 @@ module _ (cs vs₀ : List ℕ) (n : ℕ) (s₀ : List ℕ) (class place : ℕ) (
   }
 
 -- ## Whether all cells are plain Closed, cell by cell
-pub closed-start : (vs : List ℕ) (n : ℕ) → all_closed vs 0 (n - 0) ≡ all_closed vs 0 n
-closed-start vs n = let z : n - 0 ≡ n = omega arith in ap (all_closed vs 0) z
-
 module _ (vs : List ℕ) (i n : ℕ) where
   next : i < n → all_closed vs i (n - i) ≡ eqb closed_number (get_or vs i 0) && all_closed vs (i + 1) (n - (i + 1))
   unfolding every part

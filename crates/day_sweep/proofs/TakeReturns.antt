@@ -38,6 +38,13 @@ module _ (vs₀ : List ℕ) (S i n : ℕ) where
     pub emptying-next : get_or vs next 0 ≡ get_or vs₀ next 0
     emptying-next = ap (λ v. get_or v next 0) g.cells ∙ clear_above vs₀ S i (next - i) next (omega (arith, g.from))
 
+    -- up to the end; m is how many intervals there are, as the code counts them
+    pub emptying-done : n ≤ next → (m : ℕ) → m ≡ n
+        → (i ≤ m) × (m ≤ n) × (vs ≡ clear_from vs₀ S i (m - i)) × ((k : ℕ) → i ≤ k → k < m → get_or vs₀ k 0 ≡ S) × (m < n → get_or vs₀ m 0 ≡ S → ⊥)
+    emptying-done h m e =
+        let z : next ≡ m = omega (arith, g.up_to) in
+        (omega (arith, g.from, g.up_to), omega arith, g.cells ∙ ap (λ k. clear_from vs₀ S i (k - i)) z, λ k l u. g.own k l (omega arith), λ l. absurd (omega arith))
+
     pub emptying-on : next < n → get_or vs next 0 ≡ S → Emptying (set vs next closed_number) (next + 1)
     unfolding clear_from
     emptying-on h e =

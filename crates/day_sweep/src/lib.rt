@@ -28,21 +28,19 @@ fn put_run(out: &mut [u64], at: usize, a: u64, c: u64) -> usize
 }
 
 // Empties the intervals of a state from i on, as far as they follow one another; answers the interval after them.
-fn clear_run(interval_states: &mut [u64], s: u64, i: usize, n: usize) -> usize
-    requires { (i ≤ n) × (n ≤ length interval_states.old) }
-    ensures { (i ≤ result) × (result ≤ n) × (interval_states.new ≡ clear_from interval_states.old s i (result - i))
+fn clear_run(interval_states: &mut [u64], s: u64, i: usize) -> usize
+    requires { i ≤ length interval_states.old }
+    ensures { (i ≤ result) × (result ≤ length interval_states.old) × (interval_states.new ≡ clear_from interval_states.old s i (result - i))
         × ((k : ℕ) → i ≤ k → k < result → get_or interval_states.old k 0 ≡ s)
-        × (result < n → get_or interval_states.old result 0 ≡ s → ⊥) }
+        × (result < length interval_states.old → get_or interval_states.old result 0 ≡ s → ⊥) }
 {
-    let mut next = i;
-    while next < n {
+    for next in i..interval_states.len() {
         if interval_states[next] != s {
             return next;
         }
         interval_states[next] = CLOSED;
-        next += 1;
     }
-    next
+    interval_states.len()
 }
 
 // Writes the runs of a state, whose first interval is j, and empties its intervals; answers the place after them.
@@ -54,22 +52,23 @@ fn take_runs(
     interval_states: &mut [u64],
     s: u64,
     j: usize,
-    n: usize,
 ) -> usize
-    requires j_lt_n { (j < n) × (at + n < word_limit) × (n ≤ length chain.now) × (n < length minute_cuts.now) × (n ≤ length interval_states.old) }
-    requires by_index { (k : ℕ) → k ≤ n → get_or minute_cuts.now k 0 < time_limit }
-    requires j_value { (get_or interval_states.old j 0 ≡ s) × (s ≡ closed_number → ⊥) × Chained chain.now interval_states.old n }
+    requires j_in_bounds { (j < length interval_states.old) × (at + length interval_states.old < word_limit)
+        × (length interval_states.old ≤ length chain.now) × (length interval_states.old < length minute_cuts.now) }
+    requires by_index { (k : ℕ) → k ≤ length interval_states.old → get_or minute_cuts.now k 0 < time_limit }
+    requires j_value { (get_or interval_states.old j 0 ≡ s) × (s ≡ closed_number → ⊥) × Chained chain.now interval_states.old (length interval_states.old) }
     ensures { (out.new
-        ≡ sets out.old at (runs_from minute_cuts.now interval_states.old s (get_or minute_cuts.now j 0) j (n - j)))
-        × (result ≡ at + length (runs_from minute_cuts.now interval_states.old s (get_or minute_cuts.now j 0) j (n - j)))
-        × (interval_states.new ≡ clear_from interval_states.old s j (n - j)) × (result ≤ at + n) }
+        ≡ sets out.old at (runs_from minute_cuts.now interval_states.old s (get_or minute_cuts.now j 0) j (length interval_states.old - j)))
+        × (result ≡ at + length (runs_from minute_cuts.now interval_states.old s (get_or minute_cuts.now j 0) j (length interval_states.old - j)))
+        × (interval_states.new ≡ clear_from interval_states.old s j (length interval_states.old - j)) × (result ≤ at + length interval_states.old) }
 {
     let mut i = j;
     let mut place = at;
-    while i < n {
-        let end = clear_run(interval_states, s, i, n);
+    // Each turn takes a run and goes on by the chain, so no `for` counts `i`.
+    while i < interval_states.len() {
+        let end = clear_run(interval_states, s, i);
         place = put_run(out, place, minute_cuts[i], minute_cuts[end]);
-        i = next_of(interval_states, chain, s, end - 1, n);
+        i = next_of(interval_states, chain, s, end - 1);
     }
     place
 }
@@ -83,17 +82,17 @@ fn take_state(
     interval_states: &mut [u64],
     s: u64,
     i: usize,
-    n: usize,
 ) -> usize
-    requires i_lt_n { (i < n) × (at + 2 + n < word_limit) × (n ≤ length chain.now) × (n < length minute_cuts.now) × (n ≤ length interval_states.old) }
-    requires by_index { (k : ℕ) → k ≤ n → get_or minute_cuts.now k 0 < time_limit }
-    requires i_value { (get_or interval_states.old i 0 ≡ s) × (s ≡ closed_number → ⊥) × Chained chain.now interval_states.old n }
+    requires i_in_bounds { (i < length interval_states.old) × (at + 2 + length interval_states.old < word_limit)
+        × (length interval_states.old ≤ length chain.now) × (length interval_states.old < length minute_cuts.now) }
+    requires by_index { (k : ℕ) → k ≤ length interval_states.old → get_or minute_cuts.now k 0 < time_limit }
+    requires i_value { (get_or interval_states.old i 0 ≡ s) × (s ≡ closed_number → ⊥) × Chained chain.now interval_states.old (length interval_states.old) }
     ensures { (out.new
-        ≡ sets out.old at (entry_words s (runs_from minute_cuts.now interval_states.old s (get_or minute_cuts.now i 0) i (n - i))))
-        × (result ≡ at + 2 + length (runs_from minute_cuts.now interval_states.old s (get_or minute_cuts.now i 0) i (n - i)))
-        × (interval_states.new ≡ clear_from interval_states.old s i (n - i)) × (result ≤ at + 2 + n) }
+        ≡ sets out.old at (entry_words s (runs_from minute_cuts.now interval_states.old s (get_or minute_cuts.now i 0) i (length interval_states.old - i))))
+        × (result ≡ at + 2 + length (runs_from minute_cuts.now interval_states.old s (get_or minute_cuts.now i 0) i (length interval_states.old - i)))
+        × (interval_states.new ≡ clear_from interval_states.old s i (length interval_states.old - i)) × (result ≤ at + 2 + length interval_states.old) }
 {
-    let next = take_runs(out, at + 2, chain, minute_cuts, interval_states, s, i, n);
+    let next = take_runs(out, at + 2, chain, minute_cuts, interval_states, s, i);
     write_head(out, at, s, next - (at + 2));
     next
 }
@@ -106,42 +105,34 @@ fn sweep_class(
     minute_cuts: &[u64],
     interval_states: &mut [u64],
     class: u8,
-    n: usize,
 ) -> usize
-    requires le_class { (1 ≤ class) × (n ≤ interval_limit) × (at + n * entry_limit < word_limit) }
-    requires n_in_bounds { (n ≤ length chain.now) × (n < length minute_cuts.now) × (n ≤ length interval_states.old) }
-    requires by_index { (k : ℕ) → k ≤ n → get_or minute_cuts.now k 0 < time_limit }
-    requires chained { Chained chain.now interval_states.old n }
-    ensures { (out.new ≡ sets out.old at (class_words minute_cuts.now class interval_states.old 0 n))
-        × (result ≡ at + length (class_words minute_cuts.now class interval_states.old 0 n))
-        × (interval_states.new ≡ class_left class interval_states.old 0 n) × (result ≤ at + n * entry_limit)
-        × Chained chain.now interval_states.new n }
+    requires le_class { (1 ≤ class) × (length interval_states.old ≤ interval_limit) × (at + length interval_states.old * entry_limit < word_limit) }
+    requires in_bounds { (length interval_states.old ≤ length chain.now) × (length interval_states.old < length minute_cuts.now) }
+    requires by_index { (k : ℕ) → k ≤ length interval_states.old → get_or minute_cuts.now k 0 < time_limit }
+    requires chained { Chained chain.now interval_states.old (length interval_states.old) }
+    ensures { (out.new ≡ sets out.old at (class_words minute_cuts.now class interval_states.old 0 (length interval_states.old)))
+        × (result ≡ at + length (class_words minute_cuts.now class interval_states.old 0 (length interval_states.old)))
+        × (interval_states.new ≡ class_left class interval_states.old 0 (length interval_states.old))
+        × (result ≤ at + length interval_states.old * entry_limit) × Chained chain.now interval_states.new (length interval_states.old) }
 {
-    let mut i: usize = 0;
     let mut place = at;
-    while i < n {
+    for i in 0..interval_states.len() {
         let s = interval_states[i];
-        if state_class(s) != class {
-            i += 1;
-            continue;
+        if state_class(s) == class {
+            place = take_state(out, place, chain, minute_cuts, interval_states, s, i);
         }
-        place = take_state(out, place, chain, minute_cuts, interval_states, s, i, n);
-        i += 1;
     }
     place
 }
 
-// Whether n intervals are all plain Closed, as emptied ones are: then no class has words.
-fn all_closed(interval_states: &[u64], n: usize) -> bool
-    requires { n ≤ length interval_states.now }
-    ensures { result ≡ all_closed interval_states.now 0 n }
+// Whether all intervals are plain Closed, as emptied ones are: then no class has words.
+fn all_closed(interval_states: &[u64]) -> bool
+    ensures { result ≡ all_closed interval_states.now 0 (length interval_states.now) }
 {
-    let mut i: usize = 0;
-    while i < n {
-        if interval_states[i] != CLOSED {
+    for state in interval_states {
+        if *state != CLOSED {
             return false;
         }
-        i += 1;
     }
     true
 }
@@ -152,40 +143,38 @@ fn sweep_chained(
     chain: &[u64],
     minute_cuts: &[u64],
     interval_states: &mut [u64],
-    n: usize,
 ) -> usize
-    requires n_lt_interval_limit { (n < interval_limit) × (n ≤ length chain.now) × (n < length minute_cuts.now) × (n ≤ length interval_states.old) }
-    requires by_index { (k : ℕ) → k ≤ n → get_or minute_cuts.now k 0 < time_limit }
-    requires chained { Chained chain.now interval_states.old n }
-    ensures { (out.new ≡ sets out.old 0 (classes_words minute_cuts.now n 1 interval_states.old 5))
-        × (result ≡ length (classes_words minute_cuts.now n 1 interval_states.old 5)) × (result < word_limit) }
+    requires in_bounds { (length interval_states.old < interval_limit) × (length interval_states.old ≤ length chain.now)
+        × (length interval_states.old < length minute_cuts.now) }
+    requires by_index { (k : ℕ) → k ≤ length interval_states.old → get_or minute_cuts.now k 0 < time_limit }
+    requires chained { Chained chain.now interval_states.old (length interval_states.old) }
+    ensures { (out.new ≡ sets out.old 0 (classes_words minute_cuts.now (length interval_states.old) 1 interval_states.old 5))
+        × (result ≡ length (classes_words minute_cuts.now (length interval_states.old) 1 interval_states.old 5)) × (result < word_limit) }
 {
-    let mut class: u8 = 1;
     let mut place: usize = 0;
-    while class < 6 {
-        if all_closed(interval_states, n) {
+    for class in 1..6u8 {
+        if all_closed(interval_states) {
             return place;
         }
-        place = sweep_class(out, place, chain, minute_cuts, interval_states, class, n);
-        class += 1;
+        place = sweep_class(out, place, chain, minute_cuts, interval_states, class);
     }
     place
 }
 
-// Writes the painted states, class by class; answers how many words they are. A buffer takes the chain.
+// Writes the painted states of a day's intervals, class by class; answers how many words they are. A buffer takes the chain.
 pub fn sweep_classes(
     out: &mut [u64],
     buf: &mut [u64],
     minute_cuts: &[u64],
     interval_states: &mut [u64],
-    n: usize,
 ) -> usize
-    requires n_lt_interval_limit { (n < interval_limit) × (n < length buf.old) × (n < length minute_cuts.now) × (n ≤ length interval_states.old) }
-    requires by_index { (k : ℕ) → k ≤ n → get_or minute_cuts.now k 0 < time_limit }
-    ensures { (out.new ≡ sets out.old 0 (classes_words minute_cuts.now n 1 interval_states.old 5))
-        × (result ≡ length (classes_words minute_cuts.now n 1 interval_states.old 5)) × (result < word_limit) }
+    requires in_bounds { (length interval_states.old < interval_limit) × (length interval_states.old < length buf.old)
+        × (length interval_states.old < length minute_cuts.now) }
+    requires by_index { (k : ℕ) → k ≤ length interval_states.old → get_or minute_cuts.now k 0 < time_limit }
+    ensures { (out.new ≡ sets out.old 0 (classes_words minute_cuts.now (length interval_states.old) 1 interval_states.old 5))
+        × (result ≡ length (classes_words minute_cuts.now (length interval_states.old) 1 interval_states.old 5)) × (result < word_limit) }
 {
     let mut heads = bare_heads();
-    link(buf, &mut heads, interval_states, n);
-    sweep_chained(out, buf, minute_cuts, interval_states, n)
+    link(buf, &mut heads, interval_states);
+    sweep_chained(out, buf, minute_cuts, interval_states)
 }

@@ -22,10 +22,10 @@ use Rattle.item_writer.specs.Written.{years_from, weeks_from, days_from}
 use Rattle.rule_writer.proofs.Rows.{row-length}
 use Rattle.tables.specs.Days.{Carried}
 use Rattle.tables.specs.Items.{FewItems, row_place, row, over_items, rows_below}
-use Rattle.day_writer.specs.Rules.{Countable, many_counted, entry_rules, day_in}
+use Rattle.day_writer.specs.Rules.{Countable, many_counted, entry_rules, day_in, Whole}
 use Rattle.tables.specs.Pages.{day_rules}
-use Rattle.day_writer.proofs.Entries.{Step}
-use Rattle.day_writer.proofs.Laid.{entries-day}
+use Rattle.day_writer.proofs.Entries.{this_entry, entry_left}
+use Rattle.day_writer.proofs.Laid.{entries-day, left_rules}
 
 -- ## Sort by sort
 module _ (most : ℕ) (counts : List ℕ) where
@@ -118,8 +118,18 @@ module _ (form : Form) (ends counts : List ℕ) (inside : row_place counts 4 ≤
     none-counted l = day-counted ∙ ap (λ b. b && many_counted form counts) (le-ltb 0 rules l)
 
   -- entry by entry, in words
-  pub entry-countable : (operator : ℕ) (words : List ℕ) (at n many : ℕ) → Step form words at n many → Countable form (entry_rules operator E (day_in words at n))
-      → FewItems form counts × Countable form (entry_rules 1 E (day_in words (at + 2 + many) (n - 2 - many)))
-  unfolding entry_rules any_of
-  entry-countable operator words at n many s h =
-      let k = split-or _ _ (sym (ap (λ d. any_of (many_items form) (entry_rules operator E d)) s.entry) ∙ h) in (few-counted _ k.0, k.1)
+  module _ (operator : ℕ) (words : List ℕ) (at : ℕ) (l : at < length words) (w : Whole form words at (length words - at))
+      (h : Countable form (left_rules form ends counts words operator at)) where
+    left-counted : FewItems form counts
+        × Countable form (entry_rules 1 E (day_in words (at + 2 + get_or words (at + 1) 0) (length words - at - 2 - get_or words (at + 1) 0)))
+    unfolding entry_rules any_of
+    left-counted =
+        let k = split-or _ _ (sym (ap (λ d. any_of (many_items form) (entry_rules operator E d)) (this_entry form words at l w).entry) ∙ h) in (few-counted _ k.0, k.1)
+
+    pub left-few : FewItems form counts
+    left-few = left-counted.0
+
+    pub left-countable : Countable form (left_rules form ends counts words 1 (at + 2 + get_or words (at + 1) 0))
+    left-countable =
+        ap (λ n. any_of (many_items form) (entry_rules 1 E (day_in words (at + 2 + get_or words (at + 1) 0) n))) (sym (entry_left form words at l w))
+        ∙ left-counted.1

@@ -3,7 +3,8 @@ use mathlib.Core.Path.{◌≡◌, refl, sym, ap, ap₂, ◌∙◌, subst}
 use mathlib.Core.List.{List, [], ◌∷◌, ◌++◌, map}
 use Prim.Native.Nat.{ℕ, zero, suc, ◌+◌, ◌-◌, ◌≤◌, ◌<◌, ◌^◌}
 use native.Mathlib.Omega.{arith}
-use lib.ListN.{length, drop, get_or}
+use lib.ListN.{length, take, drop, get_or, length-drop}
+use lib.Seq.{length-take-le}
 use Rattle.laws.specs.Lists.{All}
 use Rattle.definition.specs.Rule.{Span}
 use Rattle.definition.specs.Sheet.{Form}
@@ -122,3 +123,32 @@ module _ (form : Form) (words : List ℕ) (at : ℕ) where
   step zero many some e w = absurd (some refl)
   step (suc zero) many some e w = absurd (let z : 1 ≡ 2 = ap length w.flatly in omega (arith, z))
   step (suc (suc n)) many some e w = subst (Step form words at (suc (suc n))) (sym e) (two-words n w)
+
+-- ## From entry to entry
+module _ (form : Form) (words : List ℕ) (at : ℕ) (l : at < length words) (w : Whole form words at (length words - at)) where
+  -- the entry's spans, as a slice
+  abbrev many : ℕ
+  many = get_or words (at + 1) 0
+
+  pub this_entry : Step form words at (length words - at) many
+  this_entry = step form words at (length words - at) many (λ z. omega arith) refl w
+
+  pub entry_ends : at + 2 + many ≤ length words
+  entry_ends = omega (arith, this_entry.within)
+
+  -- the slice of the entry's spans
+  abbrev pub span_words : List ℕ
+  span_words = take (at + 2 + many - (at + 2)) (drop (at + 2) words)
+
+  pub entry_spans : map span_at span_words ≡ spans_at words (at + 2) many
+  unfolding spans_at
+  entry_spans = let n : at + 2 + many - (at + 2) ≡ many = omega arith in ap (λ k. map span_at (take k (drop (at + 2) words))) n
+
+  pub few_words : length span_words < 2 ^ 10
+  few_words = omega (arith, length-take-le (at + 2 + many - (at + 2)) (drop (at + 2) words) (omega (arith, length-drop (at + 2) words, entry_ends)), this_entry.few)
+
+  pub entry_left : length words - at - 2 - many ≡ length words - (at + 2 + many)
+  entry_left = omega arith
+
+  pub whole-behind : Whole form words (at + 2 + many) (length words - (at + 2 + many))
+  whole-behind = subst (Whole form words (at + 2 + many)) entry_left this_entry.behind

@@ -1,5 +1,5 @@
 -- One lemma for each return of draining one rule, and how a rule stops: by its parts, or as a Fallback.
-use mathlib.Core.Path.{◌≡◌, refl, sym, ap, ap₂, ◌∙◌, subst}
+use mathlib.Core.Path.{◌≡◌, refl, sym, ap, ap₂, ◌∙◌}
 use mathlib.Core.List.{List, map}
 use mathlib.Core.Option.{none, some}
 use mathlib.Core.Bool.{Bool, true, false, ◌&&◌, ◌||◌, not, cond}
@@ -25,10 +25,8 @@ use Rattle.forms.specs.Form.{Narrow}
 use Rattle.sheet.specs.Begin.{rule_read_at, Readable}
 use Rattle.sheet.proofs.Titles.{title-same}
 use Rattle.codes.specs.Number.{state_number, state_of, span_number}
-use Rattle.canonical_date.specs.declared.days.Days.{Days}
-use Rattle.canonical_date.specs.declared.days.Days.TheVariants.{Spans, Stops}
 use Rattle.canonical_date.specs.Rule.{days_stop}
-use Rattle.canonical_date.specs.Found.{SpansRead, Loads, Found}
+use Rattle.canonical_date.specs.Found.{SpansRead}
 use Rattle.canonical_date.proofs.ItemFacts.{some-other}
 use Rattle.canonical_date.proofs.DayRows.{count-few}
 use Rattle.draining.specs.Span.{span_numbers, spans_stop}
@@ -75,13 +73,6 @@ module _ (sheet : List ℕ) (b : Bytes sheet) (r : Rule) (n q : ℕ) (w : SpansR
   load-passes e =
       let g : any_of span_stops r.spans ≡ false = sym (spans-meaning sheet b n q r.spans w.end w.read).0 ∙ sym k ∙ e in
       (ap some w.many ∙ sym (rw (f, g)), numbers)
-
--- what was found, once its case is known
-pub found-loads : (s : List ℕ) (r : Rule) (v : Days) (n q : ℕ) → v ≡ Spans n q → Found s r v → Loads s r n q
-found-loads s r v n q e h = subst (Found s r) e h
-
-pub found-stops : (s : List ℕ) (r : Rule) (v : Days) → v ≡ Stops → Found s r v → days_stop r ≡ true
-found-stops s r v e h = subst (Found s r) e h
 
 -- ## A rule's title
 module _ (form : Form) (s : List ℕ) (p : ℕ) (readable : Readable form s p) where

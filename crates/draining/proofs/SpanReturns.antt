@@ -9,32 +9,33 @@ use lib.Dec.{eqb}
 use lib.ListN.{set}
 use lib.Seq.{sets}
 use Rattle.definition.specs.Field.{Read, got, refused}
-use Rattle.definition.specs.Rule.{Time, Span, repeats_key}
-use Rattle.definition.specs.Sheet.{span_of, span}
+use Rattle.definition.specs.Rule.{Span, repeats_key}
+use Rattle.definition.specs.Sheet.{span}
 use Rattle.definition.specs.Stop.{span_stops}
 use Rattle.definition.proofs.Lengths.{span-short}
-use Rattle.item.specs.Answer.{repeats_from}
 use Rattle.codes.specs.Number.{time_number, parts_number, span_number, span_at}
 use Rattle.canonical_date.proofs.ItemFacts.{some-other}
 use Rattle.draining.specs.Span.{numbered, number_at, span_numbers, spans_stop}
 
 -- ## A span's number
-pub repeats-back : (r : ℕ) → repeats_key (repeats_from r) ≡ r
-repeats-back zero = refl
-repeats-back (suc n) = refl
-
 pub bit_below : (t : Bool) (o : ℕ) → o ≡ cond t 1 0 → o < 2
 bit_below true o e = omega arith
 bit_below false o e = omega arith
 
+-- a bit is 0 or 1
+pub bit-same : (v : ℕ) → v < 2 → v ≡ cond (eqb v 1) 1 0
+bit-same zero h = refl
+bit-same (suc zero) h = refl
+bit-same (suc (suc n)) h = absurd (omega arith)
+
 module _ (s : List ℕ) (p : ℕ) where
-  pub number-goes : (a b : Time) (o r q f l i n : ℕ) → span.read s p ≡ got (span_of (a, (b, (o, repeats_from r)))) q → f ≡ time_number a → l ≡ time_number b → i ≡ cond (eqb o 1) 1 0
-      → n ≡ parts_number f l i r → some (n, q) ≡ number_at s p
+  pub number-goes : (x : Span) (q f l i r n : ℕ) → span.read s p ≡ got x q → f ≡ time_number x.start → l ≡ time_number x.end → i ≡ cond x.open_end 1 0
+      → r ≡ repeats_key x.repeats → n ≡ parts_number f l i r → some (n, q) ≡ number_at s p
   unfolding number_at span_number
-  number-goes a b o r q f l i n e hf hl hi hn = sym (rw e (ap (λ v. some (v, q)) (sym (hn ∙ parts))))
+  number-goes x q f l i r n e hf hl hi hr hn = sym (rw e (ap (λ v. some (v, q)) (sym (hn ∙ parts))))
     where
-      parts : parts_number f l i r ≡ parts_number (time_number a) (time_number b) (cond (eqb o 1) 1 0) (repeats_key (repeats_from r))
-      parts = rw (repeats-back r, ← hf, ← hl, ← hi)
+      parts : parts_number f l i r ≡ parts_number (time_number x.start) (time_number x.end) (cond x.open_end 1 0) (repeats_key x.repeats)
+      parts = rw (← hf, ← hl, ← hi, ← hr) refl
 
   pub number-stops : (c q : ℕ) → span.read s p ≡ refused c q → none ≡ number_at s p
   unfolding number_at

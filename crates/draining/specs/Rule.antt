@@ -1,5 +1,6 @@
 -- A rule in the tables: its state, how many spans it has, these from sixteen times its number on, and whether it replaces.
-use Rattle.std.specs.Prelude.{◌≡◌, List, [], ◌∷◌, map, Bool, ◌||◌, cond, ℕ, ◌*◌, length, set}
+use Rattle.std.specs.Prelude.{◌≡◌, List, [], ◌∷◌, map, Bool, ◌||◌, cond, ℕ, ◌*◌, length, set, Some, None}
+use Rattle.std.specs.Prelude as std
 use Rattle.std.proofs.Math.Option.{Option, none, some}
 use Rattle.std.proofs.lemmas.List.Edits.{sets}
 use Rattle.laws.specs.Lists.{any_of}
@@ -8,8 +9,6 @@ use Rattle.definition.specs.Stop.{is_fallback, span_stops, stops}
 use Rattle.definition.specs.Point.{replaces}
 use Rattle.canonical_date.specs.Rule.{days_stop}
 use Rattle.codes.specs.Number.{state_number, span_number}
-use Rattle.draining.specs.declared.rule.Load.{Load}
-use Rattle.draining.specs.declared.rule.Load.TheVariants.{Spans, Stops}
 
 -- the spans before the first that may reach tomorrow
 unfoldable pub today : List Span → List Span
@@ -24,9 +23,9 @@ loaded_spans r = cond (days_stop r) [] (today r.spans)
 abbrev pub parts_stop : Rule → Bool
 parts_stop r = days_stop r || any_of span_stops r.spans
 
-abbrev pub load_of : Load → Option ℕ
-load_of (Spans n) = some n
-load_of Stops = none
+abbrev pub load_of : std.Option ℕ → Option ℕ
+load_of (Some n) = some n
+load_of None = none
 
 abbrev pub replace_number : Rule → ℕ
 replace_number r = cond (replaces r) 1 0

@@ -1,22 +1,21 @@
 -- A rule's spans as numbers, one behind the other, up to the first that may reach tomorrow.
-use Rattle.std.specs.Prelude.{List, [], ◌∷◌, Bool, true, false, cond, ℕ, zero, suc}
+use Rattle.std.specs.Prelude.{List, [], ◌∷◌, Bool, true, false, cond, ℕ, zero, suc, Some, None}
+use Rattle.std.specs.Prelude as std
 use Rattle.std.proofs.Math.Option.{Option, none, some}
 use Rattle.definition.specs.Field.{Read, got, refused}
 use Rattle.definition.specs.Rule.{Span}
 use Rattle.definition.specs.Sheet.{span}
 use Rattle.definition.specs.Stop.{span_stops}
 use Rattle.codes.specs.Number.{span_number, span_at}
-use Rattle.draining.specs.declared.span.NumberRead.{NumberRead}
-use Rattle.draining.specs.declared.span.NumberRead.TheVariants as number_read
 
 -- a span's number and the bit after it
 abbrev pub numbered : Read Span → Option (ℕ × ℕ)
 numbered (got x q) = some (span_number x, q)
 numbered (refused c p) = none
 
-abbrev pub number_of : NumberRead → Option (ℕ × ℕ)
-number_of (number_read.Span n q) = some (n, q)
-number_of number_read.Refused = none
+abbrev pub number_of : std.Option (ℕ × ℕ) → Option (ℕ × ℕ)
+number_of (Some (n, q)) = some (n, q)
+number_of None = none
 
 unfoldable pub number_at : List ℕ → ℕ → Option (ℕ × ℕ)
 number_at s p = numbered (span.read s p)

@@ -42,13 +42,8 @@ pub fn drain(
         × Tabled states.new span_counts.new spans.new replacing.new range_counts.new ranges.new
         (drained (rules_from (as_form form) (sheet_bits sheet.now) begins.now 0 count)) }
 {
-    let mut i: usize = 0;
-    while i < count {
+    for i in 0..count {
         let at = begins[i];
-        let first = i * 256;
-        let end = first + 256;
-        let from = i * 4;
-        let to = from + 4;
         if crate::rule::drain_rule(
             form,
             sheet,
@@ -58,15 +53,14 @@ pub fn drain(
             span_counts,
             spans,
             replacing,
-            &mut range_counts[from..to],
-            &mut ranges[first..end],
+            &mut range_counts[i * 4..i * 4 + 4],
+            &mut ranges[i * 256..i * 256 + 256],
         ) {
             return Drained {
                 rules: i,
                 why: stopping::rule::reason_at(form, sheet, at),
             };
         }
-        i += 1;
     }
     Drained {
         rules: count,

@@ -10,20 +10,13 @@ ghost use Rattle.canonical_date.specs.Days.{days_loaded};
 ghost use Rattle.codes.specs.Number.{span_number};
 ghost use Rattle.draining.specs.Rule.{loaded_spans, parts_stop, load_of, SetRule, DrainedRule};
 
-use canonical_date::days::Days;
-use casts::u64_to_u8;
+use crate::span::load_spans;
+use canonical_date::days::rule_ranges;
 use codes::title::{is_fallback, replace_number, state_number};
 use forms::Form;
-use sheet::rule::TitleRead;
+use sheet::rule::title_at;
 
-// How many spans a rule has; or an item or a span stops it.
-#[derive(Clone, Copy)]
-pub enum Load {
-    Spans(u64),
-    Stops,
-}
-
-// A rule's ranges, and its spans in their row of the table.
+// A rule's ranges, and its spans in their row of the table. Answers how many spans it has, or nothing where an item or a span stops it.
 fn load_rule(
     form: Form,
     sheet: &[u8],
@@ -32,7 +25,7 @@ fn load_rule(
     spans: &mut [u64],
     ranges: &mut [u16],
     range_counts: &mut [u16],
-) -> Load
+) -> Option<u64>
     requires readable { Readable (as_form form) (sheet_bits sheet.now) at }
     requires at_bound { (at < 2 ^ 25) × (rule * 16 + 16 ≤ length spans.old) × (256 ≤ length ranges.old) × (4 ≤ length range_counts.old) }
     ensures { (load_of result ≡ cond (parts_stop (rule_read_at (as_form form) (sheet_bits sheet.now) at)) none (some (length (rule_read_at (as_form form) (sheet_bits sheet.now) at).spans)))
@@ -40,19 +33,15 @@ fn load_rule(
         × (ranges.new ≡ (days_loaded (as_form form) (sheet_bits sheet.now) at ranges.old range_counts.old).ranges)
         × (range_counts.new ≡ (days_loaded (as_form form) (sheet_bits sheet.now) at ranges.old range_counts.old).counts) }
 {
-    let days = canonical_date::days::rule_ranges(form, sheet, at, ranges, range_counts);
-    match days {
-        Days::Spans(count, place) => {
-            if crate::span::load_spans(sheet, place, count, spans, rule * 16) {
-                return Load::Stops;
-            }
-            Load::Spans(count)
-        }
-        Days::Stops => Load::Stops,
+    let found = rule_ranges(form, sheet, at, ranges, range_counts)?;
+    if load_spans(sheet, found.at, found.count, spans, rule * 16) {
+        return None;
     }
+    Some(found.count)
 }
 
-// A rule's state, its number of spans and whether it replaces, in the tables; unless it is a Fallback.
+// A rule's state, its number of spans and whether it replaces, in the tables; unless it is a Fallback, which stops. The title was read before, so the
+// first return is never taken.
 fn set_rule(
     form: Form,
     sheet: &[u8],
@@ -68,19 +57,16 @@ fn set_rule(
     ensures { SetRule (rule_read_at (as_form form) (sheet_bits sheet.now) at) rule count states.old span_counts.old replacing.old
         states.new span_counts.new replacing.new result }
 {
-    let title = sheet::rule::title_at(form, sheet, at);
-    match title {
-        TitleRead::Title(operator, kind, comment, next) => {
-            if is_fallback(operator) {
-                return true;
-            }
-            states[rule] = state_number(kind, comment);
-            span_counts[rule] = u64_to_u8(count);
-            replacing[rule] = replace_number(operator, kind);
-            false
-        }
-        TitleRead::Refused(code, place) => true,
+    let Ok((title, _)) = title_at(form, sheet, at) else {
+        return true;
+    };
+    if is_fallback(title.operator) {
+        return true;
     }
+    states[rule] = state_number(title.kind, title.comment);
+    span_counts[rule] = count as u8;
+    replacing[rule] = replace_number(title.operator, title.kind);
+    false
 }
 
 // Drains the rule at a bit into the tables; or answers that it stops.
@@ -105,18 +91,8 @@ pub fn drain_rule(
         × (ranges.new ≡ (days_loaded (as_form form) (sheet_bits sheet.now) at ranges.old range_counts.old).ranges)
         × (range_counts.new ≡ (days_loaded (as_form form) (sheet_bits sheet.now) at ranges.old range_counts.old).counts) }
 {
-    let load = load_rule(form, sheet, at, rule, spans, ranges, range_counts);
-    match load {
-        Load::Spans(count) => set_rule(
-            form,
-            sheet,
-            at,
-            rule,
-            count,
-            states,
-            span_counts,
-            replacing,
-        ),
-        Load::Stops => true,
-    }
+    let Some(count) = load_rule(form, sheet, at, rule, spans, ranges, range_counts) else {
+        return true;
+    };
+    set_rule(form, sheet, at, rule, count, states, span_counts, replacing)
 }

@@ -12,7 +12,7 @@ ghost use Rattle.draw_rule.specs.Update.{Lawful, covered_box};
 
 use list_store::Drawn;
 use runs::find_runs;
-use walk::draw_weekdays;
+use walk::{Plan, draw_weekdays};
 
 // A table for the runs of all dimensions.
 fn no_runs() -> [u16; 256]
@@ -43,22 +43,17 @@ pub fn draw_rule(
 {
     let mut runs = no_runs();
     find_runs(&mut runs, sizes, range_counts, row_starts, cuts, ranges);
-    let none = Drawn {
-        used: used,
-        overflowed: false,
-    };
-    draw_weekdays(
-        cells,
-        lists,
-        memo,
+    let plan = Plan {
         sizes,
         range_counts,
-        &runs,
+        runs: &runs,
         rule,
         replaces,
+        before: used,
+    };
+    let none = Drawn {
         used,
-        none,
-        0,
-        1,
-    )
+        overflowed: false,
+    };
+    draw_weekdays(cells, lists, memo, plan, none, 0, 1)
 }

@@ -6,7 +6,6 @@ ghost use Rattle.tables.specs.Sizes.{range_places};
 ghost use Rattle.draw_rule.specs.Update.{Lawful};
 ghost use Rattle.draw_rule.specs.Runs.{Placed, RunsUpTo};
 
-use casts::u16_to_usize;
 use tables::RANGE_PLACES;
 use tables::search::place_in;
 
@@ -38,11 +37,10 @@ fn find_row(
     requires runs_up_to { RunsUpTo sizes.now range_counts.now row_starts.now cuts.now ranges.now runs.old dimension }
     ensures { RunsUpTo sizes.now range_counts.now row_starts.now cuts.now ranges.now runs.new (dimension + 1) }
 {
-    let count = u16_to_usize(range_counts[dimension]);
-    let first = u16_to_usize(row_starts[dimension]);
-    let end = first + u16_to_usize(sizes[dimension]);
-    let mut range: usize = 0;
-    while range < count {
+    let count = usize::from(range_counts[dimension]);
+    let first = usize::from(row_starts[dimension]);
+    let end = first + usize::from(sizes[dimension]);
+    for range in 0..count {
         find_run(
             runs,
             cuts,
@@ -51,7 +49,6 @@ fn find_row(
             end,
             dimension * RANGE_PLACES + 2 * range,
         );
-        range += 1;
     }
 }
 
@@ -68,8 +65,7 @@ pub fn find_runs(
     requires in_bounds { (4 ≤ length sizes.now) × (4 * range_places ≤ length runs.old) }
     ensures { RunsUpTo sizes.now range_counts.now row_starts.now cuts.now ranges.now runs.new 4 }
 {
-    let mut dimension: usize = 0;
-    while dimension < 4 {
+    for dimension in 0..4 {
         find_row(
             runs,
             sizes,
@@ -79,6 +75,5 @@ pub fn find_runs(
             ranges,
             dimension,
         );
-        dimension += 1;
     }
 }

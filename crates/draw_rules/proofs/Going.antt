@@ -9,7 +9,6 @@ use lib.Dec.{eqb, ltb}
 use lib.ListN.{length, get_or}
 use borrow.Author.Count.{below_more}
 use borrow.Author.Tests.{ltb-false}
-use Rattle.definition.specs.Field.{long_list, many_lists}
 use Rattle.definition.specs.Rule.{Rule}
 use Rattle.definition.specs.Sheet.{sheet_limits}
 use Rattle.definition.specs.Lists.{indexes_from}
@@ -23,7 +22,8 @@ use Rattle.tables.specs.Sizes.{held_limit}
 use Rattle.tables.specs.Ranges.{table_row}
 use Rattle.tables.specs.Cuts.{ToList}
 use Rattle.tables.specs.Lists.{named, shown, Store, Stored}
-use Rattle.draw_rules.specs.declared.Listed.TheVariants.{Held, Refused}
+use Rattle.std.specs.Prelude.{Ok, Err}
+use Rattle.answers.specs.declared.refusal.Reason.TheVariants.{LongList, ManyLists}
 use Rattle.draw_rules.specs.Listing.{Places, Settled, Listing}
 use Rattle.draw_rules.proofs.Settling.{kept-few}
 use Rattle.draw_rules.proofs.Stepping.{long-told, many-told, stored_next, stored_moved}
@@ -88,7 +88,7 @@ module _ (replacing counts ranges rows sizes table : List ℕ) (n : ℕ) (cells 
 
     -- 6
     pub going-long : over ≡ true → (cells'' lists'' : List ℕ) (rs : List Rule) → ToList replacing counts ranges rows sizes table n rs
-        → Listing rows sizes table cells'' lists'' rs (Refused long_list k)
+        → Listing rows sizes table cells'' lists'' rs (Err record { reason = LongList; place = k })
     unfolding Listing
     going-long e cells'' lists'' rs t =
         first-long sheet_limits rs k (omega (arith, t.0.0.many)) (going rs t).1
@@ -106,7 +106,7 @@ module _ (replacing counts ranges rows sizes table : List ℕ) (n : ℕ) (cells 
 
       -- 14
       pub going-many : ltb held_limit kept ≡ true → (rs : List Rule) → ToList replacing counts ranges rows sizes table n rs
-          → Listing rows sizes table cells'' lists'' rs (Refused many_lists k)
+          → Listing rows sizes table cells'' lists'' rs (Err record { reason = ManyLists; place = k })
       unfolding Listing
       going-many e rs t = first-many sheet_limits rs k (omega (arith, t.0.0.many)) (going rs t).1 (not-long rs t) (sym (told rs t) ∙ e)
 
@@ -123,7 +123,7 @@ module _ (replacing counts ranges rows sizes table : List ℕ) (n : ℕ) (cells 
 pub going_end : (replacing counts ranges rows sizes table : List ℕ) (n : ℕ) (cells lists memo : List ℕ) (most used k : ℕ) → Places (length cells) (length lists) (length memo) most sizes
     → Going replacing counts ranges rows sizes table n cells lists used k → n ≤ k → k ≤ n
     → (cells' lists' memo' : List ℕ) (kept : ℕ) → length cells' ≡ length cells → Reclaimed cells lists cells' lists' memo' used kept
-    → (rs : List Rule) → ToList replacing counts ranges rows sizes table n rs → Listing rows sizes table cells' lists' rs (Held kept)
+    → (rs : List Rule) → ToList replacing counts ranges rows sizes table n rs → Listing rows sizes table cells' lists' rs (Ok kept)
 unfolding Listing
 going_end replacing counts ranges rows sizes table n cells lists memo most used k places going l m cells' lists' memo' kept same r rs t =
     let all : k ≡ length rs = omega (arith, t.0.0.many) in

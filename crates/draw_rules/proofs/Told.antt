@@ -9,16 +9,17 @@ use Rattle.definition.specs.Rule.{Rule}
 use Rattle.definition.specs.Sheet.{sheet_limits}
 use Rattle.definition.specs.Lists.{first_refused}
 use Rattle.tables.specs.Lists.{BoxLists}
-use Rattle.draw_rules.specs.declared.Listed.{Listed}
-use Rattle.draw_rules.specs.declared.Listed.TheVariants.{Held, Refused}
+use Rattle.std.specs.Prelude.{Result, Ok, Err}
+use Rattle.answers.specs.Refusal.{code_of}
+use Rattle.answers.specs.declared.refusal.Refusal.{Refusal}
 use Rattle.draw_rules.specs.Listing.{NoLists, Listing}
 
-module _ (rows sizes table cells lists : List ℕ) (rs : List Rule) (listed : Listed) (told : Listing rows sizes table cells lists rs listed) where
-  pub listing-refused : (c k : ℕ) → listed ≡ Refused c k → first_refused sheet_limits rs ≡ some (c, k)
+module _ (rows sizes table cells lists : List ℕ) (rs : List Rule) (listed : Result ℕ Refusal) (told : Listing rows sizes table cells lists rs listed) where
+  pub listing-refused : (r : Refusal) → listed ≡ Err r → first_refused sheet_limits rs ≡ some (code_of r.reason, r.place)
   unfolding Listing
-  listing-refused c k e = subst (Listing rows sizes table cells lists rs) e told
+  listing-refused r e = subst (Listing rows sizes table cells lists rs) e told
 
-  pub listing-held : (used : ℕ) → listed ≡ Held used → (first_refused sheet_limits rs ≡ none) × BoxLists rows sizes table cells lists used rs
+  pub listing-held : (used : ℕ) → listed ≡ Ok used → (first_refused sheet_limits rs ≡ none) × BoxLists rows sizes table cells lists used rs
   unfolding Listing
   listing-held used e = subst (Listing rows sizes table cells lists rs) e told
 

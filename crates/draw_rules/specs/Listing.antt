@@ -1,5 +1,5 @@
 -- What `draw_rules` requires, and what it answers: the refusal that is met first, or a list for each box.
-use Rattle.std.specs.Prelude.{◌≡◌, List, map, ℕ, ◌+◌, ◌-◌, ◌*◌, ◌/◌, ◌≤◌, ◌<◌, ltb, length, get_or}
+use Rattle.std.specs.Prelude.{◌≡◌, List, Result, Ok, Err, map, ℕ, ◌+◌, ◌-◌, ◌*◌, ◌/◌, ◌≤◌, ◌<◌, ltb, length, get_or}
 use Rattle.std.proofs.Math.Option.{none, some}
 use Rattle.laws.specs.Lists.{from}
 use Rattle.definition.specs.Rule.{Rule}
@@ -8,8 +8,8 @@ use Rattle.definition.specs.Lists.{distinct_lists, first_refused}
 use Rattle.paving.specs.Grid.{size_of}
 use Rattle.tables.specs.Sizes.{list_places, held_limit}
 use Rattle.tables.specs.Lists.{list_of, shown, Store, BoxLists}
-use Rattle.draw_rules.specs.declared.Listed.{Listed}
-use Rattle.draw_rules.specs.declared.Listed.TheVariants.{Held, Refused}
+use Rattle.answers.specs.Refusal.{code_of}
+use Rattle.answers.specs.declared.refusal.Refusal.{Refusal}
 
 -- as many lists as can stand over so many boxes are no more than `most`: each box holds one, and no rule may leave more than the limit
 abbrev pub Enough : ℕ → ℕ → Type 0
@@ -42,6 +42,6 @@ pub record Settled (cells lists cells' lists' memo' : List ℕ) (most used kept 
   pub memoed : (k : ℕ) → get_or memo' k 0 ≤ kept
 
 -- THE ANSWER about rules rs
-unfoldable pub Listing : (rows sizes table cells lists : List ℕ) → List Rule → Listed → Type 0
-Listing rows sizes table cells lists rs (Held used) = (first_refused sheet_limits rs ≡ none) × BoxLists rows sizes table cells lists used rs
-Listing rows sizes table cells lists rs (Refused c p) = first_refused sheet_limits rs ≡ some (c, p)
+unfoldable pub Listing : (rows sizes table cells lists : List ℕ) → List Rule → Result ℕ Refusal → Type 0
+Listing rows sizes table cells lists rs (Ok used) = (first_refused sheet_limits rs ≡ none) × BoxLists rows sizes table cells lists used rs
+Listing rows sizes table cells lists rs (Err r) = first_refused sheet_limits rs ≡ some (code_of r.reason, r.place)

@@ -7,6 +7,7 @@ use native.Mathlib.Omega.{arith}
 use lib.ListN.{length, take, drop, get_or, take-append-drop}
 use lib.Seq.{take_at, drop_at, drop-cons, length-take-le}
 use lib.Pow.{pow_mono}
+use Rattle.std.proofs.lemmas.List.{length-take, get_or-take, get_or-drop}
 use Rattle.laws.proofs.Lists.{All-at}
 use Rattle.laws.proofs.Spread.{flat_map-append}
 use Rattle.definition.specs.Field.{bits, number, sheet_bits, bytes_for, field_at}
@@ -48,15 +49,31 @@ module _ (s : List ℕ) (o : Bytes s) where
       lt_of_lt_of_le (field_below (sheet_bits s) (sheet-bits s o) (8 * first) (8 * count) (omega (arith, length-sheet_bits s)))
       (pow_mono {i = 8 * count} {j = 8 * most} (omega arith))
 
-  -- one byte more
+  -- one byte more: of so many bytes, or up to an index
+  pub bytes-next : (first count : ℕ) → first + count < length s
+      → field_at (sheet_bits s) (8 * first) (8 * (count + 1)) ≡ field_at (sheet_bits s) (8 * first) (8 * count) * 256 + get_or s (first + count) 0
+  bytes-next first count h =
+      let n : 8 * (count + 1) ≡ 8 * count + 8 = omega arith in
+      let p : 8 * first + 8 * count ≡ 8 * (first + count) = omega arith in
+      ap (field_at (sheet_bits s) (8 * first)) n
+      ∙ field-parts (sheet_bits s) (sheet-bits s o) (8 * first) (8 * count) 8 (omega (arith, length-sheet_bits s))
+      ∙ ap (field_at (sheet_bits s) (8 * first) (8 * count) * 256 +◌) (ap (λ q. field_at (sheet_bits s) q 8) p ∙ byte-field (first + count) h)
+
   pub bytes-more : (first index : ℕ) → first ≤ index → index < length s
       → field_at (sheet_bits s) (8 * first) (8 * (index + 1 - first)) ≡ field_at (sheet_bits s) (8 * first) (8 * (index - first)) * 256 + get_or s index 0
   bytes-more first index l h =
-      let n : 8 * (index + 1 - first) ≡ 8 * (index - first) + 8 = omega arith in
-      let p : 8 * first + 8 * (index - first) ≡ 8 * index = omega arith in
-      ap (field_at (sheet_bits s) (8 * first)) n
-      ∙ field-parts (sheet_bits s) (sheet-bits s o) (8 * first) (8 * (index - first)) 8 (omega (arith, length-sheet_bits s))
-      ∙ ap (field_at (sheet_bits s) (8 * first) (8 * (index - first)) * 256 +◌) (ap (λ q. field_at (sheet_bits s) q 8) p ∙ byte-field index h)
+      let n : index + 1 - first ≡ index - first + 1 = omega arith in
+      let i : first + (index - first) ≡ index = omega arith in
+      ap (λ k. field_at (sheet_bits s) (8 * first) (8 * k)) n ∙ bytes-next first (index - first) (omega arith)
+      ∙ ap (λ j. field_at (sheet_bits s) (8 * first) (8 * (index - first)) * 256 + get_or s j 0) i
+
+-- the bytes of a part of a sheet: where they stand, and what they are
+module _ (s : List ℕ) (first past k : ℕ) (h : k < length (take (past - first) (drop first s))) where
+  pub part-place : first + k < past
+  part-place = omega (arith, length-take (past - first) (drop first s))
+
+  pub part-byte : get_or (take (past - first) (drop first s)) k 0 ≡ get_or s (first + k) 0
+  part-byte = get_or-take (past - first) (drop first s) k 0 (omega (arith, part-place)) ∙ get_or-drop first s k 0
 
 -- ## The bytes that a field spans
 module _ (at width : ℕ) where

@@ -8,25 +8,9 @@ use lib.Dec.{leb, ltb}
 use lib.ListN.{length}
 use borrow.Author.Tests.{le-leb, lt-leb, ltb-true}
 use Rattle.laws.proofs.Flags.{split-and}
-use Rattle.definition.specs.Field.{sheet_bits, field_at, Read, got, refused, past_end, read_field, field, plain}
+use Rattle.definition.specs.Field.{sheet_bits, field_at, got, refused, past_end, read_field, field, plain}
 use Rattle.definition.proofs.Bits.{Bytes, sheet-bits, length-sheet_bits}
-use Rattle.definition.proofs.Reading.{field_end}
 use Rattle.definition.proofs.Faithful.{clash, field-faithful}
-use Rattle.field.specs.declared.Taken.{Taken}
-use Rattle.field.specs.declared.Taken.TheVariants.{Value, Refused}
-use Rattle.field.specs.Answer.{as_read}
-
--- what an answer says, once its case is known
-pub took : {r : Read ℕ} (t : Taken) (v n : ℕ) → as_read t ≡ r → t ≡ Value v n → r ≡ got v n
-took t v n e k = sym e ∙ ap as_read k
-
-pub stopped : {r : Read ℕ} (t : Taken) (c p : ℕ) → as_read t ≡ r → t ≡ Refused c p → r ≡ refused c p
-stopped t c p e k = sym e ∙ ap as_read k
-
--- the bit behind a field that was taken
-pub took-end : (c : ℕ) (ok : ℕ → Bool) (w : ℕ) (s : List ℕ) (p : ℕ) {t : Taken} {v n : ℕ} → as_read t ≡ (field c ok w).read s p → t ≡ Value v n
-    → n ≡ p + w
-took-end c ok w s p {t} {v} {n} e k = field_end c ok w s p v n (took t v n e k)
 
 -- ## A field of any value
 module _ (sheet : List ℕ) (at w : ℕ) where
@@ -56,7 +40,7 @@ module _ (c : ℕ) (ok : ℕ → Bool) (w : ℕ) (s : List ℕ) (p : ℕ) where
           pick true q x z = rw (l, q, read_field) (ap₂ got x z)
           pick false q x z = rw (l, q, read_field)
 
-  tested-refused : (d q : ℕ) → (plain w).read s p ≡ refused d q → (field c ok w).read s p ≡ refused d q
+  pub tested-refused : (d q : ℕ) → (plain w).read s p ≡ refused d q → (field c ok w).read s p ≡ refused d q
   unfolding field read_field
   tested-refused d q e = go (leb (p + w) (length s)) refl
     where
@@ -64,16 +48,12 @@ module _ (c : ℕ) (ok : ℕ → Bool) (w : ℕ) (s : List ℕ) (p : ℕ) where
       go false l = rw (l, read_field) (rw (l, read_field) at e)
       go true l = clash d q (field_at s p w) (p + w) (sym (rw (l, read_field) at e))
 
-  -- one lemma for each of the three returns of a function that takes a field and tests it
-  module _ (t : Taken) (e : as_read t ≡ (plain w).read s p) where
-    pub test-passed : (v n : ℕ) → t ≡ Value v n → ok v ≡ true → got v n ≡ (field c ok w).read s p
-    test-passed v n q k = sym (tested-got v n (took t v n e q) true k)
+  -- one lemma for each return of a function that takes a field and tests it; where no field is taken, `tested-refused`
+  pub test-passed : {v n : ℕ} → got v n ≡ (plain w).read s p → ok v ≡ true → got v n ≡ (field c ok w).read s p
+  test-passed {v} {n} e k = sym (tested-got v n (sym e) true k)
 
-    pub test-failed : (v n : ℕ) → t ≡ Value v n → ok v ≡ false → refused c p ≡ (field c ok w).read s p
-    test-failed v n q k = sym (tested-got v n (took t v n e q) false k)
-
-    pub still-refused : (d q : ℕ) → t ≡ Refused d q → as_read t ≡ (field c ok w).read s p
-    still-refused d q k = ap as_read k ∙ sym (tested-refused d q (stopped t d q e k))
+  pub test-failed : {v n : ℕ} → got v n ≡ (plain w).read s p → ok v ≡ false → refused c p ≡ (field c ok w).read s p
+  test-failed {v} {n} e k = sym (tested-got v n (sym e) false k)
 
 -- a value that was read fits its width
 pub value-below : (sheet : List ℕ) → Bytes sheet → (c : ℕ) (ok : ℕ → Bool) (w at v n : ℕ) → (field c ok w).read (sheet_bits sheet) at ≡ got v n → v < 2 ^ w

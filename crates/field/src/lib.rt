@@ -3,26 +3,22 @@
 // loads them at once, and no item of a sheet has more bits. Positions stay below `2 ^ 32`: the crates above show that no lawful sheet reaches further.
 #![tactic(auto)]
 
+pub mod bounds;
 pub mod width;
 
-ghost use Rattle.std.specs.Prelude.{◌≡◌, ◌+◌, ◌*◌, ◌-◌, ◌/◌, ◌%◌, ◌≤◌, ◌<◌, ◌^◌, length};
+ghost use Rattle.std.specs.Prelude.{◌≡◌, Bool, ℕ, ◌+◌, ◌*◌, ◌-◌, ◌/◌, ◌%◌, ◌≤◌, ◌<◌, ◌^◌, length};
 ghost use Rattle.grid.specs.Cut.{holds};
-ghost use Rattle.definition.specs.Field.{Layout, sheet_bits, field_at, plain, lawful, counted};
+ghost use Rattle.definition.specs.Field.{Layout, sheet_bits, field_at, field, plain, lawful, counted};
 ghost use Rattle.definition.specs.Sheet.{sheet_limits, year, month, week, weekday, step, choice, minutes};
 ghost use Rattle.forms.specs.Form.{as_form};
-ghost use Rattle.field.specs.Answer.{as_read};
+ghost use Rattle.answers.specs.Refusal.{code_of};
+ghost use Rattle.field.specs.Answer.{Tests, as_read};
 ghost use Rattle.field.specs.Wide.{Wide};
 
-use casts::u8_to_u64;
+use answers::{Read, Reason, Refusal};
 use forms::{Form, comment_width, item_count_width, rule_count_width};
 use limits::{items_allowed, rules_allowed};
-
-// A field's value with the bit after it, or a refusal's code and place.
-#[derive(Clone, Copy)]
-pub enum Taken {
-    Value(u64, usize),
-    Refused(u8, usize),
-}
+use std::ops::Range;
 
 // The last bits of a number, as many as `count`.
 pub fn low_bits(number: u64, count: usize) -> u64
@@ -46,10 +42,8 @@ pub fn bytes_at(sheet: &[u8], first: usize, past: usize) -> u64
     ensures { result ≡ field_at (sheet_bits sheet.now) (8 * first) (8 * (past - first)) }
 {
     let mut number: u64 = 0;
-    let mut index = first;
-    while index < past {
-        number = number * 256 + u8_to_u64(sheet[index]);
-        index += 1;
+    for byte in &sheet[first..past] {
+        number = number * 256 + u64::from(*byte);
     }
     number
 }
@@ -78,150 +72,155 @@ pub fn field_at(sheet: &[u8], at: usize, width: usize) -> u64
     low_bits(spanned >> (8 * past - end), width)
 }
 
-// A field of any value; refused by 1 where it runs past the end.
-pub fn take_at(sheet: &[u8], at: usize, width: usize) -> Taken
+// A field of any value; refused where it runs past the end.
+pub fn take_at(sheet: &[u8], at: usize, width: usize) -> Read<u64>
     requires { (width ≤ 32) × (at < 2 ^ 32) }
     ensures { as_read result ≡ (plain width).read (sheet_bits sheet.now) at }
 {
     if (at + width + 7) / 8 <= sheet.len() {
-        Taken::Value(field_at(sheet, at, width), at + width)
+        Ok((field_at(sheet, at, width), at + width))
     } else {
-        Taken::Refused(1, at)
+        Err(Refusal {
+            reason: Reason::PastEnd,
+            place: at,
+        })
+    }
+}
+
+// A field whose value passes a test; refused for this reason where it doesn't.
+fn tested_at<F: Fn(u64) -> bool>(
+    sheet: &[u8],
+    at: usize,
+    width: usize,
+    reason: Reason,
+    passes: F,
+) -> Read<u64>
+    requires near { (width ≤ 32) × (at < 2 ^ 32) }
+    requires callable { F.IsAlwaysCallable passes }
+    ensures { (ok : ℕ → Bool) → Tests (F.post passes) ok → as_read result ≡ (field (code_of reason) ok width).read (sheet_bits sheet.now) at }
+{
+    let (value, next) = take_at(sheet, at, width)?;
+    if passes(value) {
+        Ok((value, next))
+    } else {
+        Err(Refusal { reason, place: at })
     }
 }
 
 // An operator, a kind, a monthday's tag: 0, 1 or 2.
-pub fn choice_at(sheet: &[u8], at: usize) -> Taken
+pub fn choice_at(sheet: &[u8], at: usize) -> Read<u64>
     requires { at < 2 ^ 32 }
     ensures { as_read result ≡ choice.read (sheet_bits sheet.now) at }
 {
-    let taken = take_at(sheet, at, width::CHOICE);
-    let Taken::Value(value, next) = taken else {
-        return taken;
-    };
-    match value {
-        0..=2 => Taken::Value(value, next),
-        _ => Taken::Refused(2, at),
-    }
+    tested_at(
+        sheet,
+        at,
+        width::CHOICE,
+        Reason::Unlawful,
+        |value| value < 3,
+    )
 }
 
 // A comment, of any value.
-pub fn comment_at(form: Form, sheet: &[u8], at: usize) -> Taken
+pub fn comment_at(form: Form, sheet: &[u8], at: usize) -> Read<u64>
     requires { at < 2 ^ 32 }
     ensures { as_read result ≡ (plain (as_form form).comment).read (sheet_bits sheet.now) at }
 {
     take_at(sheet, at, comment_width(form))
 }
 
-// How many items of a sort, or spans: no more than the limit, else refused by 4.
-pub fn count_at(form: Form, sheet: &[u8], at: usize) -> Taken
+// How many items of a sort, or spans: no more than the limit.
+pub fn count_at(form: Form, sheet: &[u8], at: usize) -> Read<u64>
     requires { at < 2 ^ 32 }
     ensures { as_read result ≡ (counted (as_form form).item_count sheet_limits.items).read (sheet_bits sheet.now) at }
 {
-    let taken = take_at(sheet, at, item_count_width(form));
-    let Taken::Value(value, next) = taken else {
-        return taken;
-    };
-    if items_allowed(value) {
-        Taken::Value(value, next)
-    } else {
-        Taken::Refused(4, at)
-    }
+    tested_at(
+        sheet,
+        at,
+        item_count_width(form),
+        Reason::OverLimit,
+        items_allowed,
+    )
 }
 
-// How many rules: no more than the limit, else refused by 4.
-pub fn rule_count_at(form: Form, sheet: &[u8], at: usize) -> Taken
+// How many rules: no more than the limit.
+pub fn rule_count_at(form: Form, sheet: &[u8], at: usize) -> Read<u64>
     requires { at < 2 ^ 32 }
     ensures { as_read result ≡ (counted (as_form form).rule_count sheet_limits.rules).read (sheet_bits sheet.now) at }
 {
-    let taken = take_at(sheet, at, rule_count_width(form));
-    let Taken::Value(value, next) = taken else {
-        return taken;
-    };
-    if rules_allowed(value) {
-        Taken::Value(value, next)
-    } else {
-        Taken::Refused(4, at)
-    }
+    tested_at(
+        sheet,
+        at,
+        rule_count_width(form),
+        Reason::OverLimit,
+        rules_allowed,
+    )
 }
 
-// A field whose lawful values go from `lowest` up to `upper`, excluded.
-fn within_at(sheet: &[u8], at: usize, width: usize, lowest: u64, upper: u64) -> Taken
+// A field whose lawful values are those of a range.
+pub fn within_at(sheet: &[u8], at: usize, width: usize, bounds: &Range<u64>) -> Read<u64>
     requires { (width ≤ 32) × (at < 2 ^ 32) }
-    ensures { as_read result ≡ (lawful width (λ v. holds v (lowest, upper))).read (sheet_bits sheet.now) at }
+    ensures { as_read result ≡ (lawful width (λ v. holds v (bounds.now.start, bounds.now.end))).read (sheet_bits sheet.now) at }
 {
-    let taken = take_at(sheet, at, width);
-    let Taken::Value(value, next) = taken else {
-        return taken;
-    };
-    if value < lowest {
-        return Taken::Refused(2, at);
-    }
-    if value < upper {
-        Taken::Value(value, next)
-    } else {
-        Taken::Refused(2, at)
-    }
+    tested_at(
+        sheet,
+        at,
+        width,
+        Reason::Unlawful,
+        |value| bounds.contains(&value),
+    )
 }
 
 // A year, 1900 to 9999.
-pub fn year_at(sheet: &[u8], at: usize) -> Taken
+pub fn year_at(sheet: &[u8], at: usize) -> Read<u64>
     requires { at < 2 ^ 32 }
     ensures { as_read result ≡ year.read (sheet_bits sheet.now) at }
 {
-    within_at(sheet, at, width::YEAR, 1900, 10000)
+    within_at(sheet, at, width::YEAR, &bounds::YEAR)
 }
 
 // A month, 1 to 12.
-pub fn month_at(sheet: &[u8], at: usize) -> Taken
+pub fn month_at(sheet: &[u8], at: usize) -> Read<u64>
     requires { at < 2 ^ 32 }
     ensures { as_read result ≡ month.read (sheet_bits sheet.now) at }
 {
-    within_at(sheet, at, width::MONTH, 1, 13)
+    within_at(sheet, at, width::MONTH, &bounds::MONTH)
 }
 
 // A week, 1 to 53.
-pub fn week_at(sheet: &[u8], at: usize) -> Taken
+pub fn week_at(sheet: &[u8], at: usize) -> Read<u64>
     requires { at < 2 ^ 32 }
     ensures { as_read result ≡ week.read (sheet_bits sheet.now) at }
 {
-    within_at(sheet, at, width::WEEK, 1, 54)
+    within_at(sheet, at, width::WEEK, &bounds::WEEK)
 }
 
 // A weekday, 0 Monday to 6 Sunday.
-pub fn weekday_at(sheet: &[u8], at: usize) -> Taken
+pub fn weekday_at(sheet: &[u8], at: usize) -> Read<u64>
     requires { at < 2 ^ 32 }
     ensures { as_read result ≡ weekday.read (sheet_bits sheet.now) at }
 {
-    within_at(sheet, at, width::WEEKDAY, 0, 7)
+    within_at(sheet, at, width::WEEKDAY, &bounds::WEEKDAY)
 }
 
 // A fixed time's minutes, 0 to 2880.
-pub fn minutes_at(sheet: &[u8], at: usize) -> Taken
+pub fn minutes_at(sheet: &[u8], at: usize) -> Read<u64>
     requires { at < 2 ^ 32 }
     ensures { as_read result ≡ minutes.read (sheet_bits sheet.now) at }
 {
-    let taken = take_at(sheet, at, width::MINUTES);
-    let Taken::Value(value, next) = taken else {
-        return taken;
-    };
-    match value {
-        0..=2880 => Taken::Value(value, next),
-        _ => Taken::Refused(2, at),
-    }
+    tested_at(
+        sheet,
+        at,
+        width::MINUTES,
+        Reason::Unlawful,
+        |value| value <= 2880,
+    )
 }
 
 // A step of years or weeks, from 1.
-pub fn step_at(sheet: &[u8], at: usize, width: usize) -> Taken
+pub fn step_at(sheet: &[u8], at: usize, width: usize) -> Read<u64>
     requires { (width ≤ 32) × (at < 2 ^ 32) }
     ensures { as_read result ≡ (step width).read (sheet_bits sheet.now) at }
 {
-    let taken = take_at(sheet, at, width);
-    let Taken::Value(value, next) = taken else {
-        return taken;
-    };
-    match value {
-        0 => Taken::Refused(2, at),
-        _ => Taken::Value(value, next),
-    }
+    tested_at(sheet, at, width, Reason::Unlawful, |value| 1 <= value)
 }

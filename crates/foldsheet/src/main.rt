@@ -23,13 +23,9 @@ fn digit(value: u8) -> u8 {
 }
 
 fn print_hex(bytes: &[u8]) {
-    let mut i: usize = 0;
-    while i < bytes.len() {
-        let mut pair = [0u8; 2];
-        pair[0] = digit(bytes[i] / 16);
-        pair[1] = digit(bytes[i] % 16);
+    for byte in bytes {
+        let pair = [digit(byte / 16), digit(byte % 16)];
         io::write_all(STDOUT_FILENO, &pair);
-        i += 1;
     }
 }
 

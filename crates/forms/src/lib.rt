@@ -13,20 +13,14 @@ pub enum Form {
     Two,
 }
 
-#[derive(Clone, Copy)]
-pub enum Named {
-    Known(Form),
-    Unknown,
-}
-
-// 02, M-106: "The caller says which form is meant". All 64 bits of the number count.
-pub fn form_of(number: u64) -> Named
+// 02, M-106: "The caller says which form is meant". All 64 bits of the number count; a number that names no form has none.
+pub fn form_of(number: u64) -> Option<Form>
     ensures { as_named result ≡ form_named number }
 {
     match number {
-        1 => Named::Known(Form::One),
-        2 => Named::Known(Form::Two),
-        _ => Named::Unknown,
+        1 => Some(Form::One),
+        2 => Some(Form::Two),
+        _ => None,
     }
 }
 

@@ -3,6 +3,7 @@ use mathlib.Core.Path.{◌≡◌, sym, ap, ◌∙◌}
 use mathlib.Core.List.{List}
 use mathlib.Core.Option.{none, some}
 use Prim.Native.Nat.{ℕ, ◌≤◌}
+use Rattle.std.specs.Prelude.{Option, Some, None}
 use native.Mathlib.Omega.{arith}
 use Rattle.definition.specs.Field.{unlawful}
 use Rattle.definition.specs.Sheet as sheet
@@ -10,8 +11,6 @@ use Rattle.definition.specs.Fold.{buffer}
 use Rattle.definition.specs.Forms.{form_named, in_form}
 use Rattle.forms.specs.Form.{as_form, as_named}
 use Rattle.forms.specs.declared.Form.{Form}
-use Rattle.forms.specs.declared.Named.{Named}
-use Rattle.forms.specs.declared.Named.TheVariants.{Known, Unknown}
 use Rattle.sheet.specs.Rules.{Places}
 
 -- a short sheet has fewer than 64 rules, and no sheet has more than 256
@@ -36,9 +35,9 @@ module _ {A : Type 0} (refusal : ℕ → ℕ → A) (entry : sheet.Form → A) (
   in-none e = rw (e, in_form)
 
   -- by what the test of the number answered
-  module _ (r : Named) (answer : as_named r ≡ form_named n) where
-    pub form-known : (form : Form) → r ≡ Known form → in_form refusal entry n ≡ entry (as_form form)
+  module _ (r : Option Form) (answer : as_named r ≡ form_named n) where
+    pub form-known : (form : Form) → r ≡ Some form → in_form refusal entry n ≡ entry (as_form form)
     form-known form e = in-named (as_form form) (sym answer ∙ ap as_named e)
 
-    pub form-unknown : r ≡ Unknown → in_form refusal entry n ≡ refusal unlawful 0
+    pub form-unknown : r ≡ None → in_form refusal entry n ≡ refusal unlawful 0
     form-unknown e = in-none (sym answer ∙ ap as_named e)

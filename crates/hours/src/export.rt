@@ -9,9 +9,10 @@ ghost use Rattle.hours.specs.Export.{put};
 
 use answers::lent::{put_folded, put_looked, put_written};
 use limits::lacks_room;
+use normalize::Engine;
 
 // The fold by one of two engines.
-fn put_fold(form: u64, sheet: &[u8], out: &mut [u8], lent: &mut [u64], plain: bool) -> bool
+fn put_fold(form: u64, sheet: &[u8], out: &mut [u8], lent: &mut [u64], engine: Engine) -> bool
     ensures { (result ≡ leb 7 (length lent.old))
         × (lent.new ≡ put result (numbers (fold_in sheet_limits form (length out.old) sheet.now)) lent.old)
         × (out.new ≡ put result (fold_in sheet_limits form (length out.old) sheet.now).result out.old) }
@@ -19,7 +20,7 @@ fn put_fold(form: u64, sheet: &[u8], out: &mut [u8], lent: &mut [u64], plain: bo
     if lacks_room(lent.len(), 7) {
         return false;
     }
-    put_folded(crate::fold_by(form, sheet, out, plain), lent);
+    put_folded(crate::fold_by(form, sheet, out, engine), lent);
     true
 }
 
@@ -29,7 +30,7 @@ pub fn hours_fold(form: u64, sheet: &[u8], out: &mut [u8], lent: &mut [u64]) -> 
         × (lent.new ≡ put result (numbers (fold_in sheet_limits form (length out.old) sheet.now)) lent.old)
         × (out.new ≡ put result (fold_in sheet_limits form (length out.old) sheet.now).result out.old) }
 {
-    put_fold(form, sheet, out, lent, false)
+    put_fold(form, sheet, out, lent, Engine::Columns)
 }
 
 // The same by the plain engine.
@@ -38,7 +39,7 @@ pub fn hours_fold_plain(form: u64, sheet: &[u8], out: &mut [u8], lent: &mut [u64
         × (lent.new ≡ put result (numbers (fold_in sheet_limits form (length out.old) sheet.now)) lent.old)
         × (out.new ≡ put result (fold_in sheet_limits form (length out.old) sheet.now).result out.old) }
 {
-    put_fold(form, sheet, out, lent, true)
+    put_fold(form, sheet, out, lent, Engine::Plain)
 }
 
 // Code, kind, comment, place.

@@ -11,23 +11,35 @@ ghost use Rattle.forms.specs.Form.{as_form};
 ghost use Rattle.answers.specs.Numbers.{fold_numbers, looked_up, write_numbers};
 ghost use Rattle.sheet.specs.Rules.{Places};
 
-use answers::{Answer, Folded, Written, fold_refused, lookup_refused};
+use answers::{Answer, Folded, Written};
 use forms::Form;
-use sheet::check::Checked;
+use normalize::Engine;
+use sheet::check::check;
 
 // "The fold answers code, drained, emitted (folded rules only), left (rules copied), bytes written, place", and why it stopped. The result stands
-// at the front of `out`; a refused fold changes no byte. `plain` chooses the engine.
-pub fn fold(form: Form, sheet: &[u8], begins: &mut [usize], out: &mut [u8], plain: bool) -> Folded
+// at the front of `out`; a refused fold changes no byte. `engine` chooses one of two.
+pub fn fold(
+    form: Form,
+    sheet: &[u8],
+    begins: &mut [usize],
+    out: &mut [u8],
+    engine: Engine,
+) -> Folded
     requires { Places (length sheet.now) (length begins.old) }
     ensures { (fold_numbers result ≡ numbers (fold (as_form form) sheet_limits (length out.old) sheet.now))
         × (out.new ≡ buffer (fold (as_form form) sheet_limits (length out.old) sheet.now).result out.old) }
 {
-    let checked = sheet::check::check(form, sheet, begins);
-    match checked {
-        Checked::Rules(count, end) => {
-            normalize::fold_rules(form, sheet, begins, count, end, out, plain)
-        }
-        Checked::Refused(code, place) => fold_refused(code as u64, place as u64),
+    match check(form, sheet, begins) {
+        Ok(rules) => normalize::fold_rules(
+            form,
+            sheet,
+            begins,
+            rules.count,
+            rules.end,
+            out,
+            engine,
+        ),
+        Err(why) => Folded::refused(why),
     }
 }
 
@@ -44,12 +56,9 @@ pub fn lookup(
     requires { Places (length sheet.now) (length begins.old) }
     ensures { looked_up result ≡ lookup (as_form form) sheet_limits sheet.now year month day minute }
 {
-    let checked = sheet::check::check(form, sheet, begins);
-    match checked {
-        Checked::Rules(count, end) => lookup::look_rules(
-            form, sheet, begins, count, year, month, day, minute,
-        ),
-        Checked::Refused(code, place) => lookup_refused(code as u64, place as u64),
+    match check(form, sheet, begins) {
+        Ok(rules) => lookup::look_rules(form, sheet, begins, rules.count, year, month, day, minute),
+        Err(why) => Answer::refused(why),
     }
 }
 
@@ -60,14 +69,9 @@ pub fn line(form: Form, sheet: &[u8], begins: &mut [usize], out: &mut [u8]) -> W
     ensures { (write_numbers result ≡ written_numbers (show_line (as_form form) sheet_limits (length out.old) sheet.now))
         × (out.new ≡ buffer (show_line (as_form form) sheet_limits (length out.old) sheet.now).result out.old) }
 {
-    let checked = sheet::check::check(form, sheet, begins);
-    match checked {
-        Checked::Rules(count, end) => line::line_of(form, sheet, begins, count, out),
-        Checked::Refused(code, place) => Written {
-            code,
-            bytes: 0,
-            place,
-        },
+    match check(form, sheet, begins) {
+        Ok(rules) => line::line_of(form, sheet, begins, rules.count, out),
+        Err(why) => Written::refused(why),
     }
 }
 
@@ -77,15 +81,8 @@ pub fn convert(form: Form, sheet: &[u8], begins: &mut [usize], out: &mut [u8]) -
     ensures { (write_numbers result ≡ written_numbers (convert (as_form form) (other (as_form form)) sheet_limits (length out.old) sheet.now))
         × (out.new ≡ buffer (convert (as_form form) (other (as_form form)) sheet_limits (length out.old) sheet.now).result out.old) }
 {
-    let checked = sheet::check::check(form, sheet, begins);
-    match checked {
-        Checked::Rules(count, end) => {
-            convert::convert_rules(form, sheet, begins, count, end, out)
-        }
-        Checked::Refused(code, place) => Written {
-            code,
-            bytes: 0,
-            place,
-        },
+    match check(form, sheet, begins) {
+        Ok(rules) => convert::convert_rules(form, sheet, begins, rules.count, rules.end, out),
+        Err(why) => Written::refused(why),
     }
 }

@@ -1,5 +1,5 @@
-pub mod Returns
 pub mod Bodies
 pub mod Spans
 pub mod Sorts
 pub mod Parts
+pub mod Steps

@@ -4,6 +4,15 @@ use Rattle.std.specs.Prelude.{List, cond, ℕ, eqb}
 use Rattle.definition.specs.Field.{Read}
 use Rattle.definition.specs.Rule.{YearRange, MonthdayRange, WeekRange, WeekDayRange, Span}
 use Rattle.definition.specs.Sheet.{year_range, monthday_range, week_range, week_day_range, span}
+use Rattle.item.specs.declared.sort.Sort.{Sort}
+use Rattle.item.specs.declared.sort.Sort.TheVariants.{Years, Monthdays, Weeks, Weekdays, Spans}
+
+abbrev pub number_of : Sort → ℕ
+number_of Years = 0
+number_of Monthdays = 1
+number_of Weeks = 2
+number_of Weekdays = 3
+number_of Spans = 4
 
 module _ {B : Type 0} (years : ℕ → Read YearRange → B) (monthdays : ℕ → Read MonthdayRange → B) (weeks : ℕ → Read WeekRange → B)
     (weekdays : ℕ → Read WeekDayRange → B) (spans : ℕ → Read Span → B) where

@@ -1,171 +1,121 @@
-// The items of days, read at a bit: each answers its values with the bit after it, or a refusal's code and place.
+// The items of days, read at a bit: each answers its values with the bit after it, or a refusal.
 // Positions stay below `2 ^ 31`, so that no sum of a position and a width passes a machine word.
-ghost use Rattle.std.specs.Prelude.{◌≡◌, ◌&&◌, ◌<◌, ◌^◌, eqb};
-ghost use Rattle.definition.specs.Field.{Layout, sheet_bits};
-ghost use Rattle.definition.specs.Sheet.{years_of, weeks_of, year_range, week_range, months_layout, months_of_layout, dated_layout, monthday_range, fixed_days_layout, holiday_layout, week_day_range};
+ghost use Rattle.std.specs.Prelude.{◌≡◌, ◌&&◌, ◌≤◌, ◌<◌, ◌^◌, eqb};
+ghost use Rattle.grid.specs.Cut.{holds};
+ghost use Rattle.definition.specs.Field.{Layout, sheet_bits, lawful, ◌then◌};
+ghost use Rattle.definition.specs.Sheet.{step, years_of, weeks_of, year_range, week_range, months_layout, months_of_layout, dated_layout, monthday_range, fixed_days_layout, holiday_layout, week_day_range};
 ghost use Rattle.definition.specs.Stop.{every_nth};
-ghost use Rattle.item.specs.Answer.{as_stepped, stepped_refused, as_monthday, monthday_refused, as_week_day, week_day_refused};
+ghost use Rattle.answers.specs.Refusal.{read_as};
+ghost use Rattle.item.specs.Answer.{as_parts, as_steps, as_monthday, as_week_day};
 
-use field::{Taken, width};
+use answers::Read;
+use field::{bounds, width};
+use std::ops::Range;
 
-// Years or weeks: start, end and step.
-#[derive(Clone, Copy)]
-pub enum Stepped {
-    Item(u64, u64, u64, usize),
-    Refused(u8, usize),
+// Years or weeks: every so many from a start to an end.
+#[derive(Clone, Copy, Debug, PartialEq, Eq)]
+pub struct Steps {
+    pub start: u64,
+    pub end: u64,
+    pub step: u64,
 }
 
 // Months of any year, months of one year, or a caller's reference for a dated range.
-#[derive(Clone, Copy)]
+#[derive(Clone, Copy, Debug, PartialEq, Eq)]
 pub enum Monthday {
-    Months(u64, u64, usize),
-    MonthsOf(u64, u64, u64, usize),
-    Dated(u64, usize),
-    Refused(u8, usize),
+    Months { start: u64, end: u64 },
+    MonthsOf { start: u64, end: u64, year: u64 },
+    Dated { reference: u64 },
 }
 
 // Weekdays with offset and the two nth sets, or a holiday with its offset.
-#[derive(Clone, Copy)]
+#[derive(Clone, Copy, Debug, PartialEq, Eq)]
 pub enum WeekDay {
-    Fixed(u64, u64, u64, u64, u64, usize),
-    Holiday(u64, u64, usize),
-    Refused(u8, usize),
+    Fixed {
+        start: u64,
+        end: u64,
+        offset: u64,
+        from_start: u64,
+        from_end: u64,
+    },
+    Holiday {
+        kind: u64,
+        offset: u64,
+    },
 }
 
-impl Stepped {
-    // The refusal of one of its fields.
-    fn refused(field: Taken) -> Stepped
-        ensures { result ≡ stepped_refused field }
-    {
-        match field {
-            Taken::Refused(code, place) => Stepped::Refused(code, place),
-            Taken::Value(value, next) => Stepped::Refused(0, 0),
-        }
-    }
-}
-
-impl Monthday {
-    // The refusal of one of its fields.
-    fn refused(field: Taken) -> Monthday
-        ensures { result ≡ monthday_refused field }
-    {
-        match field {
-            Taken::Refused(code, place) => Monthday::Refused(code, place),
-            Taken::Value(value, next) => Monthday::Refused(0, 0),
-        }
-    }
-}
-
-impl WeekDay {
-    // The refusal of one of its fields.
-    fn refused(field: Taken) -> WeekDay
-        ensures { result ≡ week_day_refused field }
-    {
-        match field {
-            Taken::Refused(code, place) => WeekDay::Refused(code, place),
-            Taken::Value(value, next) => WeekDay::Refused(0, 0),
-        }
-    }
+// Two fields with the same bounds and a step: years or weeks.
+fn steps_at(
+    sheet: &[u8],
+    at: usize,
+    width: usize,
+    step_width: usize,
+    bounds: &Range<u64>,
+) -> Read<Steps>
+    requires { (width ≤ 32) × (step_width ≤ 32) × (at < 2 ^ 31) }
+    ensures { read_as as_parts result
+        ≡ (lawful width (λ v. holds v (bounds.now.start, bounds.now.end)) then lawful width (λ v. holds v (bounds.now.start, bounds.now.end))
+        then step step_width).read (sheet_bits sheet.now) at }
+{
+    let (start, after_start) = field::within_at(sheet, at, width, bounds)?;
+    let (end, after_end) = field::within_at(sheet, after_start, width, bounds)?;
+    let (step, next) = field::step_at(sheet, after_end, step_width)?;
+    Ok((Steps { start, end, step }, next))
 }
 
 // "Year: start 14, end 14 (each 1900 to 9999), step 16 (from 1)."
-pub fn year_range_at(sheet: &[u8], at: usize) -> Stepped
+pub fn year_range_at(sheet: &[u8], at: usize) -> Read<Steps>
     requires { at < 2 ^ 31 }
-    ensures { as_stepped years_of result ≡ year_range.read (sheet_bits sheet.now) at }
+    ensures { read_as (as_steps years_of) result ≡ year_range.read (sheet_bits sheet.now) at }
 {
-    let first = field::year_at(sheet, at);
-    let Taken::Value(start, after_start) = first else {
-        return Stepped::refused(first);
-    };
-    let second = field::year_at(sheet, after_start);
-    let Taken::Value(end, after_end) = second else {
-        return Stepped::refused(second);
-    };
-    let third = field::step_at(sheet, after_end, width::YEAR_STEP);
-    let Taken::Value(step, next) = third else {
-        return Stepped::refused(third);
-    };
-    Stepped::Item(start, end, step, next)
+    steps_at(sheet, at, width::YEAR, width::YEAR_STEP, &bounds::YEAR)
 }
 
 // "Week: start 6, end 6 (1 to 53), step 8 (from 1)."
-pub fn week_range_at(sheet: &[u8], at: usize) -> Stepped
+pub fn week_range_at(sheet: &[u8], at: usize) -> Read<Steps>
     requires { at < 2 ^ 31 }
-    ensures { as_stepped weeks_of result ≡ week_range.read (sheet_bits sheet.now) at }
+    ensures { read_as (as_steps weeks_of) result ≡ week_range.read (sheet_bits sheet.now) at }
 {
-    let first = field::week_at(sheet, at);
-    let Taken::Value(start, after_start) = first else {
-        return Stepped::refused(first);
-    };
-    let second = field::week_at(sheet, after_start);
-    let Taken::Value(end, after_end) = second else {
-        return Stepped::refused(second);
-    };
-    let third = field::step_at(sheet, after_end, width::WEEK_STEP);
-    let Taken::Value(step, next) = third else {
-        return Stepped::refused(third);
-    };
-    Stepped::Item(start, end, step, next)
+    steps_at(sheet, at, width::WEEK, width::WEEK_STEP, &bounds::WEEK)
 }
 
 // Tag 0: "start 4, end 4 (1 to 12)".
-pub fn months_at(sheet: &[u8], at: usize) -> Monthday
+pub fn months_at(sheet: &[u8], at: usize) -> Read<Monthday>
     requires { at < 2 ^ 31 }
-    ensures { as_monthday result ≡ months_layout.read (sheet_bits sheet.now) at }
+    ensures { read_as as_monthday result ≡ months_layout.read (sheet_bits sheet.now) at }
 {
-    let first = field::month_at(sheet, at);
-    let Taken::Value(start, after_start) = first else {
-        return Monthday::refused(first);
-    };
-    let second = field::month_at(sheet, after_start);
-    let Taken::Value(end, next) = second else {
-        return Monthday::refused(second);
-    };
-    Monthday::Months(start, end, next)
+    let (start, after_start) = field::month_at(sheet, at)?;
+    let (end, next) = field::month_at(sheet, after_start)?;
+    Ok((Monthday::Months { start, end }, next))
 }
 
 // Tag 1: "the same, then year 14 (1900 to 9999)".
-pub fn months_of_at(sheet: &[u8], at: usize) -> Monthday
+pub fn months_of_at(sheet: &[u8], at: usize) -> Read<Monthday>
     requires { at < 2 ^ 31 }
-    ensures { as_monthday result ≡ months_of_layout.read (sheet_bits sheet.now) at }
+    ensures { read_as as_monthday result ≡ months_of_layout.read (sheet_bits sheet.now) at }
 {
-    let first = field::month_at(sheet, at);
-    let Taken::Value(start, after_start) = first else {
-        return Monthday::refused(first);
-    };
-    let second = field::month_at(sheet, after_start);
-    let Taken::Value(end, after_end) = second else {
-        return Monthday::refused(second);
-    };
-    let third = field::year_at(sheet, after_end);
-    let Taken::Value(year, next) = third else {
-        return Monthday::refused(third);
-    };
-    Monthday::MonthsOf(start, end, year, next)
+    let (start, after_start) = field::month_at(sheet, at)?;
+    let (end, after_end) = field::month_at(sheet, after_start)?;
+    let (year, next) = field::year_at(sheet, after_end)?;
+    Ok((Monthday::MonthsOf { start, end, year }, next))
 }
 
 // Tag 2: "a caller's reference of 32 for a dated range".
-pub fn dated_at(sheet: &[u8], at: usize) -> Monthday
+pub fn dated_at(sheet: &[u8], at: usize) -> Read<Monthday>
     requires { at < 2 ^ 31 }
-    ensures { as_monthday result ≡ dated_layout.read (sheet_bits sheet.now) at }
+    ensures { read_as as_monthday result ≡ dated_layout.read (sheet_bits sheet.now) at }
 {
-    let first = field::take_at(sheet, at, width::REFERENCE);
-    let Taken::Value(reference, next) = first else {
-        return Monthday::refused(first);
-    };
-    Monthday::Dated(reference, next)
+    let (reference, next) = field::take_at(sheet, at, width::REFERENCE)?;
+    Ok((Monthday::Dated { reference }, next))
 }
 
 // "Monthday: tag 2."
-pub fn monthday_range_at(sheet: &[u8], at: usize) -> Monthday
+pub fn monthday_range_at(sheet: &[u8], at: usize) -> Read<Monthday>
     requires { at < 2 ^ 30 }
-    ensures { as_monthday result ≡ monthday_range.read (sheet_bits sheet.now) at }
+    ensures { read_as as_monthday result ≡ monthday_range.read (sheet_bits sheet.now) at }
 {
-    let tag = field::choice_at(sheet, at);
-    let Taken::Value(which, body) = tag else {
-        return Monthday::refused(tag);
-    };
-    match which {
+    let (tag, body) = field::choice_at(sheet, at)?;
+    match tag {
         0 => months_at(sheet, body),
         1 => months_of_at(sheet, body),
         _ => dated_at(sheet, body),
@@ -173,59 +123,44 @@ pub fn monthday_range_at(sheet: &[u8], at: usize) -> Monthday
 }
 
 // Tag 0: "start 3, end 3 (0 Monday to 6 Sunday), offset 16 two's complement, then two sets of five bits".
-pub fn fixed_days_at(sheet: &[u8], at: usize) -> WeekDay
+pub fn fixed_days_at(sheet: &[u8], at: usize) -> Read<WeekDay>
     requires { at < 2 ^ 31 }
-    ensures { as_week_day result ≡ fixed_days_layout.read (sheet_bits sheet.now) at }
+    ensures { read_as as_week_day result ≡ fixed_days_layout.read (sheet_bits sheet.now) at }
 {
-    let first = field::weekday_at(sheet, at);
-    let Taken::Value(start, after_start) = first else {
-        return WeekDay::refused(first);
-    };
-    let second = field::weekday_at(sheet, after_start);
-    let Taken::Value(end, after_end) = second else {
-        return WeekDay::refused(second);
-    };
-    let third = field::take_at(sheet, after_end, width::OFFSET);
-    let Taken::Value(offset, after_offset) = third else {
-        return WeekDay::refused(third);
-    };
-    let fourth = field::take_at(sheet, after_offset, width::NTH);
-    let Taken::Value(from_start, after_from_start) = fourth else {
-        return WeekDay::refused(fourth);
-    };
-    let fifth = field::take_at(sheet, after_from_start, width::NTH);
-    let Taken::Value(from_end, next) = fifth else {
-        return WeekDay::refused(fifth);
-    };
-    WeekDay::Fixed(start, end, offset, from_start, from_end, next)
+    let (start, after_start) = field::weekday_at(sheet, at)?;
+    let (end, after_end) = field::weekday_at(sheet, after_start)?;
+    let (offset, after_offset) = field::take_at(sheet, after_end, width::OFFSET)?;
+    let (from_start, after_from_start) = field::take_at(sheet, after_offset, width::NTH)?;
+    let (from_end, next) = field::take_at(sheet, after_from_start, width::NTH)?;
+    Ok((
+        WeekDay::Fixed {
+            start,
+            end,
+            offset,
+            from_start,
+            from_end,
+        },
+        next,
+    ))
 }
 
 // Tag 1: "holiday kind 1, offset 16".
-pub fn holiday_at(sheet: &[u8], at: usize) -> WeekDay
+pub fn holiday_at(sheet: &[u8], at: usize) -> Read<WeekDay>
     requires { at < 2 ^ 31 }
-    ensures { as_week_day result ≡ holiday_layout.read (sheet_bits sheet.now) at }
+    ensures { read_as as_week_day result ≡ holiday_layout.read (sheet_bits sheet.now) at }
 {
-    let first = field::take_at(sheet, at, width::FLAG);
-    let Taken::Value(kind, after_kind) = first else {
-        return WeekDay::refused(first);
-    };
-    let second = field::take_at(sheet, after_kind, width::OFFSET);
-    let Taken::Value(offset, next) = second else {
-        return WeekDay::refused(second);
-    };
-    WeekDay::Holiday(kind, offset, next)
+    let (kind, after_kind) = field::take_at(sheet, at, width::FLAG)?;
+    let (offset, next) = field::take_at(sheet, after_kind, width::OFFSET)?;
+    Ok((WeekDay::Holiday { kind, offset }, next))
 }
 
 // "Weekday: tag 1."
-pub fn week_day_range_at(sheet: &[u8], at: usize) -> WeekDay
+pub fn week_day_range_at(sheet: &[u8], at: usize) -> Read<WeekDay>
     requires { at < 2 ^ 30 }
-    ensures { as_week_day result ≡ week_day_range.read (sheet_bits sheet.now) at }
+    ensures { read_as as_week_day result ≡ week_day_range.read (sheet_bits sheet.now) at }
 {
-    let tag = field::take_at(sheet, at, width::FLAG);
-    let Taken::Value(which, body) = tag else {
-        return WeekDay::refused(tag);
-    };
-    match which {
+    let (tag, body) = field::take_at(sheet, at, width::FLAG)?;
+    match tag {
         0 => fixed_days_at(sheet, body),
         _ => holiday_at(sheet, body),
     }
@@ -235,13 +170,5 @@ pub fn week_day_range_at(sheet: &[u8], at: usize) -> WeekDay
 pub fn every_week(offset: u64, from_start: u64, from_end: u64) -> bool
     ensures { result ≡ eqb offset 0 && (eqb from_start every_nth && eqb from_end every_nth) }
 {
-    if offset == 0 {
-        if from_start == 31 {
-            from_end == 31
-        } else {
-            false
-        }
-    } else {
-        false
-    }
+    offset == 0 && from_start == 31 && from_end == 31
 }

@@ -2,5 +2,6 @@
 #![tactic(auto)]
 
 pub mod day;
+pub mod sort;
 pub mod time;
 pub mod wide;

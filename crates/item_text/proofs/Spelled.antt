@@ -12,7 +12,9 @@ use Rattle.definition.specs.Rule.{week_bounds, year_bounds, operator_of, State}
 use Rattle.definition.specs.Text.{ascii, digits, decimal, word, padded, plain, ◌then◌, of, unless, only}
 use Rattle.definition.specs.Line.{single, item, clock, span_text, state_text, before}
 use Rattle.definition.proofs.Lengths.{length_digits}
-use Rattle.item_text.specs.Day.{month_name, weekday_name, end_text, item_text, behind}
+use Rattle.item_text.specs.declared.day.DaySort.{DaySort}
+use Rattle.item_text.specs.declared.day.DaySort.TheVariants.{Years, Weeks}
+use Rattle.item_text.specs.Day.{end_text, item_text, behind}
 use Rattle.item_text.specs.Time.{plain_span}
 use Rattle.item_text.specs.State.{state_of, kind_part, comment_part}
 
@@ -20,27 +22,17 @@ length_front : (t u : List ℕ) → length t ≤ length (t ++ u)
 length_front t u = omega (arith, length-append t u)
 
 -- ## An end of an item, by its sort
-module _ (sort v : ℕ) where
-  pub years-end : eqb sort 0 ≡ true → ((end_text sort).write v ≡ digits 4 v) × ((end_text sort).fits v ≡ holds v year_bounds)
-  unfolding end_text padded
-  years-end a = rw a (refl, refl)
+module _ (sort : DaySort) (v : ℕ) where
+  pub years-end : sort ≡ Years → ((end_text sort).write v ≡ digits 4 v) × ((end_text sort).fits v ≡ holds v year_bounds)
+  unfolding padded
+  years-end e = rw e (refl, refl)
 
-  pub months-end : eqb sort 0 ≡ false → eqb sort 1 ≡ true → ((end_text sort).write v ≡ month_name.write v) × ((end_text sort).fits v ≡ month_name.fits v)
-  unfolding end_text
-  months-end a b = rw (a, b) (refl, refl)
-
-  pub weeks-end : eqb sort 0 ≡ false → eqb sort 1 ≡ false → eqb sort 2 ≡ true
-      → ((end_text sort).write v ≡ digits 2 v) × ((end_text sort).fits v ≡ holds v week_bounds)
-  unfolding end_text padded
-  weeks-end a b c = rw (a, b, c) (refl, refl)
-
-  pub weekdays-end : eqb sort 0 ≡ false → eqb sort 1 ≡ false → eqb sort 2 ≡ false
-      → ((end_text sort).write v ≡ weekday_name.write v) × ((end_text sort).fits v ≡ weekday_name.fits v)
-  unfolding end_text
-  weekdays-end a b c = rw (a, b, c) (refl, refl)
+  pub weeks-end : sort ≡ Weeks → ((end_text sort).write v ≡ digits 2 v) × ((end_text sort).fits v ≡ holds v week_bounds)
+  unfolding padded
+  weeks-end e = rw e (refl, refl)
 
 -- ## An item
-module _ (sort last step : ℕ) where
+module _ (sort : DaySort) (last step : ℕ) where
   pub behind-alone : eqb step 1 ≡ true → behind sort last step ≡ (45 ∷ []) ++ (end_text sort).write last
   unfolding behind ascii
   behind-alone e = rw e (ap (45 ∷◌) (append-nil _))

@@ -1,4 +1,4 @@
-// An item of days as text. The sorts: 0 years, 1 months, 2 weeks, 3 weekdays.
+// An item of days as text, by its sort.
 ghost use Rattle.std.specs.Prelude.{◌≡◌, true};
 ghost use Rattle.definition.specs.Text.{Text};
 ghost use Rattle.definition.specs.Line.{single};
@@ -6,6 +6,15 @@ ghost use Rattle.text.specs.Put.{Put, Within};
 ghost use Rattle.item_text.specs.Day.{month_name, weekday_name, end_text, item_text, behind};
 
 use text::{put_byte, put_decimal, put_four, put_name, put_two};
+
+// The four sorts of day items.
+#[derive(Clone, Copy, Debug, PartialEq, Eq)]
+pub enum DaySort {
+    Years,
+    Months,
+    Weeks,
+    Weekdays,
+}
 
 fn put_month(out: &mut [u8], place: usize, month: u64) -> usize
     requires { (month_name.fits month ≡ true) × Within place (month_name.write month) }
@@ -28,20 +37,20 @@ fn put_weekday(out: &mut [u8], place: usize, weekday: u64) -> usize
 }
 
 // One end of an item.
-fn put_end(out: &mut [u8], place: usize, sort: usize, value: u64) -> usize
+fn put_end(out: &mut [u8], place: usize, sort: DaySort, value: u64) -> usize
     requires { ((end_text sort).fits value ≡ true) × Within place ((end_text sort).write value) }
     ensures { Put out.old place ((end_text sort).write value) result out.new }
 {
     match sort {
-        0 => put_four(out, place, value),
-        1 => put_month(out, place, value),
-        2 => put_two(out, place, value),
-        _ => put_weekday(out, place, value),
+        DaySort::Years => put_four(out, place, value),
+        DaySort::Months => put_month(out, place, value),
+        DaySort::Weeks => put_two(out, place, value),
+        DaySort::Weekdays => put_weekday(out, place, value),
     }
 }
 
 // "any other step follows both ends after `/`": what stands behind the first end.
-fn put_behind(out: &mut [u8], place: usize, sort: usize, last: u64, step: u64) -> usize
+fn put_behind(out: &mut [u8], place: usize, sort: DaySort, last: u64, step: u64) -> usize
     requires { ((end_text sort).fits last ≡ true) × Within place (behind sort last step) }
     ensures { Put out.old place (behind sort last step) result out.new }
 {
@@ -58,13 +67,13 @@ fn put_behind(out: &mut [u8], place: usize, sort: usize, last: u64, step: u64) -
 fn once(first: u64, last: u64, step: u64) -> bool
     ensures { result ≡ single (first, (last, step)) }
 {
-    if first == last { step == 1 } else { false }
+    first == last && step == 1
 }
 
 pub fn put_item(
     out: &mut [u8],
     place: usize,
-    sort: usize,
+    sort: DaySort,
     first: u64,
     last: u64,
     step: u64,

@@ -13,12 +13,8 @@ fn put_kind(out: &mut [u8], place: usize, kind: u64, comment: u64) -> usize
     ensures { Put out.old place (kind_part (state_of kind comment)) result out.new }
 {
     match kind {
-        0 => {
-            if comment == 0 {
-                return place;
-            }
-            put_word(out, place, b" open")
-        }
+        0 if comment == 0 => place,
+        0 => put_word(out, place, b" open"),
         1 => put_word(out, place, b" off"),
         _ => put_word(out, place, b" unknown"),
     }

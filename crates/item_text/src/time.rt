@@ -26,7 +26,8 @@ pub fn put_span(out: &mut [u8], place: usize, start: u64, end: u64, open_end: bo
     let dash = put_byte(out, first, b'-');
     let last = put_clock(out, dash, end);
     if open_end {
-        return put_byte(out, last, b'+');
+        put_byte(out, last, b'+')
+    } else {
+        last
     }
-    last
 }

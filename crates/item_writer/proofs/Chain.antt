@@ -62,6 +62,10 @@ module _ {old all out rest : List ℕ} {at next : ℕ} (still : Still old at all
     whole = λ final end w. still.whole final end (wrote_as e (wrote_then first w));
   }
 
+  -- the rest, said otherwise
+  pub still-as : {ys : List ℕ} → rest ≡ ys → Still old at all out next ys
+  still-as e = subst (Still old at all out next) e still
+
   -- all of it written
   pub still-none : rest ≡ [] → Wrote old at all out next
   still-none e = still.whole out next (wrote_none e)

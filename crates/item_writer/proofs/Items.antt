@@ -31,12 +31,9 @@ days-bits a b =
     sym (append_assoc (bits 1 0) (bits 3 a ++ bits 3 b) rest ∙ ap (bits 1 0 ++◌) (append_assoc (bits 3 a) (bits 3 b) rest))
 
 -- in three parts
-pub days-joined : (a b : ℕ) → a < 7 → b < 7 → (n : ℕ) → n ≡ a * 2 ^ 3 + b → week_day_range.write (days_from a b) ≡ bits 7 n ++ (bits 16 0 ++ bits 10 1023)
+pub days-joined : (a b : ℕ) → week_day_range.write (days_from a b) ≡ (bits 1 0 ++ (bits 3 a ++ bits 3 b)) ++ (bits 16 0 ++ bits 10 1023)
 unfolding bits
-days-joined a b h l n made =
-    days-bits a b
-    ∙ ap (◌++ (bits 16 0 ++ bits 10 1023))
-    (ap (bits 1 0 ++◌) (bits-joined 3 3 a b (omega arith) (omega arith)) ∙ flagged 6 (a * 2 ^ 3 + b) (omega arith) ∙ ap (bits 7) (sym made))
+days-joined a b = days-bits a b
 
 -- ## Times
 module _ (n : ℕ) (early : n < 262144) where

@@ -2,13 +2,19 @@
 -- them. And the items of days that the fold writes: "step 1, offset 0, nth bits all 1".
 use Rattle.std.specs.Prelude.{◌≡◌, List, ℕ, ◌+◌, ◌*◌, ◌≤◌, ◌<◌, ◌^◌, length}
 use Rattle.std.proofs.lemmas.List.Edits.{sets}
-use Rattle.definition.specs.Field.{sheet_bits}
+use Rattle.definition.specs.Field.{bits, sheet_bits}
 use Rattle.definition.specs.Rule.{YearRange, WeekRange, WeekDayRange, fixed_days}
 use Rattle.definition.specs.Stop.{every_nth}
 
 -- a number that a field of some bits can carry
 abbrev pub Fits : ℕ → ℕ → Type 0
 Fits width value = (width ≤ 56) × (value < 2 ^ width)
+
+-- a number in some bits that carries a row of so many
+pub record Carries (width value wide : ℕ) (row : List ℕ) : Type 0 where
+  pub spans : width ≡ wide
+  pub fits : Fits width value
+  pub says : bits width value ≡ row
 
 -- a buffer of so many bytes has room for some bits from a place on, and places fit a machine word
 pub record RoomFor (size at : ℕ) (new : List ℕ) : Type 0 where

@@ -5,9 +5,8 @@ ghost use Rattle.definition.specs.Rule.{year_bounds, month_bounds, week_bounds, 
 ghost use Rattle.definition.specs.Sheet.{year_range, monthday_range, week_range, week_day_range};
 ghost use Rattle.item_writer.specs.Written.{RoomFor, Wrote, years_from, weeks_from, days_from};
 
-use crate::put::put_three;
+use crate::put::Fields;
 use field::width;
-use writer::joined;
 
 // "step 1, offset 0, nth bits all 1".
 const STEP: u64 = 1;
@@ -23,16 +22,10 @@ pub fn put_years(out: &mut [u8], at: usize, start: u64, end: u64) -> usize
     requires room_for { RoomFor (length out.old) at (year_range.write (years_from start end)) }
     ensures { Wrote out.old at (year_range.write (years_from start end)) out.new result }
 {
-    put_three(
-        out,
-        at,
-        width::YEAR,
-        start,
-        width::YEAR,
-        end,
-        width::YEAR_STEP,
-        STEP,
-    )
+    let years = Fields::new(width::YEAR, start)
+        .then(width::YEAR, end)
+        .then(width::YEAR_STEP, STEP);
+    years.put(out, at)
 }
 
 // "Monthday: tag 2. Tag 0: start 4, end 4 (1 to 12)."
@@ -41,16 +34,10 @@ pub fn put_months(out: &mut [u8], at: usize, start: u64, end: u64) -> usize
     requires room_for { RoomFor (length out.old) at (monthday_range.write (months start end)) }
     ensures { Wrote out.old at (monthday_range.write (months start end)) out.new result }
 {
-    put_three(
-        out,
-        at,
-        width::CHOICE,
-        0,
-        width::MONTH,
-        start,
-        width::MONTH,
-        end,
-    )
+    let months = Fields::new(width::CHOICE, 0)
+        .then(width::MONTH, start)
+        .then(width::MONTH, end);
+    months.put(out, at)
 }
 
 // "Week: start 6, end 6 (1 to 53), step 8 (from 1)."
@@ -59,16 +46,10 @@ pub fn put_weeks(out: &mut [u8], at: usize, start: u64, end: u64) -> usize
     requires room_for { RoomFor (length out.old) at (week_range.write (weeks_from start end)) }
     ensures { Wrote out.old at (week_range.write (weeks_from start end)) out.new result }
 {
-    put_three(
-        out,
-        at,
-        width::WEEK,
-        start,
-        width::WEEK,
-        end,
-        width::WEEK_STEP,
-        STEP,
-    )
+    let weeks = Fields::new(width::WEEK, start)
+        .then(width::WEEK, end)
+        .then(width::WEEK_STEP, STEP);
+    weeks.put(out, at)
 }
 
 // "Weekday: tag 1. Tag 0: start 3, end 3 (0 Monday to 6 Sunday), offset 16 two's complement, then two sets of five bits".
@@ -77,14 +58,11 @@ pub fn put_weekdays(out: &mut [u8], at: usize, start: u64, end: u64) -> usize
     requires room_for { RoomFor (length out.old) at (week_day_range.write (days_from start end)) }
     ensures { Wrote out.old at (week_day_range.write (days_from start end)) out.new result }
 {
-    put_three(
-        out,
-        at,
-        width::FLAG + width::WEEKDAY + width::WEEKDAY,
-        joined(start, width::WEEKDAY, end),
-        width::OFFSET,
-        OFFSET,
-        width::NTH + width::NTH,
-        EVERY_NTHS,
-    )
+    let days = Fields::new(width::FLAG, 0)
+        .then(width::WEEKDAY, start)
+        .then(width::WEEKDAY, end);
+    let weekdays = days
+        .then(width::OFFSET, OFFSET)
+        .then(width::NTH + width::NTH, EVERY_NTHS);
+    weekdays.put(out, at)
 }

@@ -2,7 +2,7 @@
 // before they are stored: storing costs by the times that it is done, not by the bits.
 ghost use Rattle.std.specs.Prelude.{◌++◌, ◌+◌, ◌≤◌, length};
 ghost use Rattle.definition.specs.Field.{bits};
-ghost use Rattle.item_writer.specs.Written.{Fits, RoomFor, Wrote};
+ghost use Rattle.item_writer.specs.Written.{Carries, Fits, RoomFor, Wrote};
 
 use writer::joined;
 
@@ -15,43 +15,39 @@ pub fn put(out: &mut [u8], at: usize, width: usize, value: u64) -> usize
     at + width
 }
 
-// Stores two fields, one behind the other.
-pub fn put_two(
-    out: &mut [u8],
-    at: usize,
-    width: usize,
-    value: u64,
-    width2: usize,
-    value2: u64,
-) -> usize
-    requires fits { Fits width value × Fits width2 value2 × (width + width2 ≤ 56) }
-    requires room_for { RoomFor (length out.old) at (bits width value ++ bits width2 value2) }
-    ensures { Wrote out.old at (bits width value ++ bits width2 value2) out.new result }
-{
-    put(out, at, width + width2, joined(value, width2, value2))
+// Fields that stand one behind the other, as one number.
+#[derive(Clone, Copy)]
+pub struct Fields {
+    pub width: usize,
+    pub value: u64,
 }
 
-// Stores three fields, one behind the other.
-pub fn put_three(
-    out: &mut [u8],
-    at: usize,
-    width: usize,
-    value: u64,
-    width2: usize,
-    value2: u64,
-    width3: usize,
-    value3: u64,
-) -> usize
-    requires fits { Fits width value × Fits width2 value2 × Fits width3 value3 × (width + width2 + width3 ≤ 56) }
-    requires room_for { RoomFor (length out.old) at (bits width value ++ (bits width2 value2 ++ bits width3 value3)) }
-    ensures { Wrote out.old at (bits width value ++ (bits width2 value2 ++ bits width3 value3)) out.new result }
-{
-    put_two(
-        out,
-        at,
-        width,
-        value,
-        width2 + width3,
-        joined(value2, width3, value3),
-    )
+impl Fields {
+    // One field.
+    pub fn new(width: usize, value: u64) -> Fields
+        requires { Fits width value }
+        ensures { Carries result.width result.value width (bits width value) }
+    {
+        Fields { width, value }
+    }
+
+    // These fields and one behind them.
+    pub fn then(self, width: usize, value: u64) -> Fields
+        requires { Fits self.width self.value × Fits width value × (self.width + width ≤ 56) }
+        ensures { Carries result.width result.value (self.width + width) (bits self.width self.value ++ bits width value) }
+    {
+        Fields {
+            width: self.width + width,
+            value: joined(self.value, width, value),
+        }
+    }
+
+    // Stores them.
+    pub fn put(self, out: &mut [u8], at: usize) -> usize
+        requires fits { Fits self.width self.value }
+        requires room_for { RoomFor (length out.old) at (bits self.width self.value) }
+        ensures { Wrote out.old at (bits self.width self.value) out.new result }
+    {
+        put(out, at, self.width, self.value)
+    }
 }

@@ -6,7 +6,7 @@ ghost use Rattle.definition.specs.Sheet.{time, repeats_layout, span};
 ghost use Rattle.codes.specs.Number.{time_at, repeats_at, span_at};
 ghost use Rattle.item_writer.specs.Written.{RoomFor, Wrote};
 
-use crate::put::{put, put_three, put_two};
+use crate::put::{Fields, put};
 use field::width;
 
 // "A time is tag 0 and 12 bits of minutes (0 to 2880), or tag 1, event 2, offset 16 two's complement."
@@ -16,18 +16,13 @@ pub fn put_time(out: &mut [u8], at: usize, number: u64) -> usize
     ensures { Wrote out.old at (time.write (time_at number)) out.new result }
 {
     if number < 262144 {
-        return put_two(out, at, width::FLAG, 0, width::MINUTES, number);
+        let minutes = Fields::new(width::FLAG, 0).then(width::MINUTES, number);
+        return minutes.put(out, at);
     }
-    put_three(
-        out,
-        at,
-        width::FLAG,
-        1,
-        width::EVENT,
-        (number - 262144) / 65536,
-        width::OFFSET,
-        (number % 65536 + 32768) % 65536,
-    )
+    let event = Fields::new(width::FLAG, 1)
+        .then(width::EVENT, (number - 262144) / 65536)
+        .then(width::OFFSET, (number % 65536 + 32768) % 65536);
+    event.put(out, at)
 }
 
 // "repeats flag 1 and, if it is set, 12 bits of minutes": 0 for none, else one more than the minutes.
@@ -39,7 +34,8 @@ fn put_repeats(out: &mut [u8], at: usize, number: u64) -> usize
     if number == 0 {
         return put(out, at, width::FLAG, 0);
     }
-    put_two(out, at, width::FLAG, 1, width::REPEATS, number - 1)
+    let repeats = Fields::new(width::FLAG, 1).then(width::REPEATS, number - 1);
+    repeats.put(out, at)
 }
 
 // A span of two fixed times, not `open_end`, without repeats: no bit is set but those of the minutes.
@@ -48,16 +44,10 @@ fn put_simple_span(out: &mut [u8], at: usize, number: u64) -> usize
     requires room_for { RoomFor (length out.old) at (span.write (span_at number)) }
     ensures { Wrote out.old at (span.write (span_at number)) out.new result }
 {
-    put_three(
-        out,
-        at,
-        width::FLAG + width::MINUTES,
-        codes::start_of(number),
-        width::FLAG + width::MINUTES,
-        codes::end_of(number),
-        width::FLAG + width::FLAG,
-        0,
-    )
+    let span = Fields::new(width::FLAG + width::MINUTES, codes::start_of(number))
+        .then(width::FLAG + width::MINUTES, codes::end_of(number))
+        .then(width::FLAG + width::FLAG, 0);
+    span.put(out, at)
 }
 
 // "Span: start, end, `open_end` 1, repeats flag 1 and, if it is set, 12 bits of minutes."

@@ -1,6 +1,5 @@
-// The tests of the limits, each in one place: how many rules, items and boxes a sheet may have, how many entries a list, how many
-// lists there may be, how wide a field is,
-// which minutes a day has, and whether a buffer has room.
+// The tests of the limits, each in one place: how many rules, items and boxes a sheet may have, how many entries a list, how many lists there may
+// be, how wide a field is, which minutes a day has, and whether a buffer has room.
 #![tactic(auto)]
 
 ghost use Rattle.std.specs.Prelude.{◌≡◌, ltb, leb};

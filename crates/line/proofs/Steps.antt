@@ -25,7 +25,8 @@ use Rattle.text.specs.Put.{Put}
 use Rattle.text.proofs.Putting.{put-none, put_then, put_as}
 use Rattle.rule_text.specs.declared.rule.Told.{Told}
 use Rattle.rule_text.specs.Rule.{start_text, shown_text, lacks_words, Tells}
-use Rattle.line.specs.declared.Lined.TheVariants.{To, Wordless}
+use Rattle.std.specs.Prelude.{Ok, Err}
+use Rattle.answers.specs.declared.refusal.Reason.TheVariants.{NoWords}
 use Rattle.line.specs.Lined.{Lines}
 use Rattle.line.proofs.Prefix.{line-more, wordless-more, wordless-stays, rules-next, rules-rest, rules-none}
 
@@ -78,12 +79,13 @@ module _ {form : Form} {s begins l : List ℕ} {i to : ℕ} {m : List ℕ} (walk
       short = omega (arith, walked.short, tells.put.ends);
     })
 
-    pub walk-wordless : t.wordless ≡ true → (n : ℕ) → i < n → Lines form s begins n l (Wordless i) m₁
+    pub walk-wordless : t.wordless ≡ true → (n : ℕ) → i < n → Lines form s begins n l (Err (record { reason = NoWords; place = i })) m₁
     walk-wordless e n h = (
+      refl,
       sym (ap first_wordless (rules-rest form s begins n (suc i) (omega arith)))
           ∙ wordless-stays (rules_at form s begins (suc i)) _ i (wordless-next ∙ ap (λ b. cond b (some i) none) (sym tells.so ∙ e)),
       (put_as line-next (put_then walked.put tells.put)).stored,
     )
 
-  pub walk_end : (n : ℕ) → i ≡ n → Lines form s begins n l (To to) m
+  pub walk_end : (n : ℕ) → i ≡ n → Lines form s begins n l (Ok to) m
   walk_end n e = rw (← e) (walked.none_yet, walked.put)

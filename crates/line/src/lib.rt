@@ -11,38 +11,38 @@ ghost use Rattle.answers.specs.Numbers.{write_numbers};
 ghost use Rattle.sheet.specs.Rules.{rules_at, AllBegin};
 ghost use Rattle.line.specs.Lined.{Lines, Measured};
 
-use answers::Written;
+use answers::{Reason, Refusal, Written};
 use forms::Form;
 use limits::lacks_room;
 use rule_text::rule::show_rule;
 
-// The place after the line; or the index of the first rule that has no words.
-#[derive(Clone, Copy)]
-pub enum Lined {
-    To(usize),
-    Wordless(usize),
-}
-
-// Rules one behind the other, up to the first that has no words.
-fn show_rules(form: Form, sheet: &[u8], begins: &[usize], count: usize, out: &mut [u8]) -> Lined
+// Rules one behind the other, up to the first that has no words: the place after the line, or 10 and the rule's index.
+fn show_rules(
+    form: Form,
+    sheet: &[u8],
+    begins: &[usize],
+    count: usize,
+    out: &mut [u8],
+) -> Result<usize, Refusal>
     requires { AllBegin (as_form form) (sheet_bits sheet.now) begins.now count × (count ≤ sheet_limits.rules) × (count ≤ length begins.now) }
     ensures { Lines (as_form form) (sheet_bits sheet.now) begins.now count out.old result out.new }
 {
     let mut to: usize = 0;
-    let mut i: usize = 0;
-    while i < count {
+    for i in 0..count {
         let told = show_rule(form, sheet, begins[i], i == 0, out, to);
         if told.wordless {
-            return Lined::Wordless(i);
+            return Err(Refusal {
+                reason: Reason::NoWords,
+                place: i,
+            });
         }
         to = told.to;
-        i += 1;
     }
-    Lined::To(to)
+    Ok(to)
 }
 
 // How long the line is: the rules are put into a buffer that keeps none of it.
-fn measure(form: Form, sheet: &[u8], begins: &[usize], count: usize) -> Lined
+fn measure(form: Form, sheet: &[u8], begins: &[usize], count: usize) -> Result<usize, Refusal>
     requires { AllBegin (as_form form) (sheet_bits sheet.now) begins.now count × (count ≤ sheet_limits.rules) × (count ≤ length begins.now) }
     ensures { Measured (rules_at (as_form form) (sheet_bits sheet.now) begins.now count) result }
 {
@@ -56,22 +56,17 @@ pub fn line_of(form: Form, sheet: &[u8], begins: &[usize], count: usize, out: &m
     ensures { (write_numbers result ≡ written_numbers (show_rules (length out.old) (rules_at (as_form form) (sheet_bits sheet.now) begins.now count)))
         × (out.new ≡ buffer (show_rules (length out.old) (rules_at (as_form form) (sheet_bits sheet.now) begins.now count)).result out.old) }
 {
-    let measured = measure(form, sheet, begins, count);
-    match measured {
-        Lined::Wordless(rule) => Written {
-            code: 10,
-            bytes: 0,
-            place: rule,
-        },
-        Lined::To(bytes) => {
+    match measure(form, sheet, begins, count) {
+        Err(why) => Written::refused(why),
+        Ok(bytes) => {
             if lacks_room(out.len(), bytes) {
-                return Written {
-                    code: 7,
-                    bytes: 0,
+                return Written::refused(Refusal {
+                    reason: Reason::NoRoom,
                     place: bytes,
-                };
+                });
             }
-            show_rules(form, sheet, begins, count, out);
+            // It has words and room, as was measured.
+            let _ = show_rules(form, sheet, begins, count, out);
             Written {
                 code: 0,
                 bytes,

@@ -8,7 +8,6 @@ ghost use Rattle.tables.specs.Lists.{Store};
 ghost use Rattle.tables.specs.Copied.{Copied};
 ghost use Rattle.list_reclaim.specs.Reclaim.{Marked, Moved, MovedOne, Reclaimed};
 
-use casts::u16_to_usize;
 use tables::LIST_PLACES;
 use tables::cells::rename;
 use tables::copy::copy_words;
@@ -17,11 +16,7 @@ use tables::copy::copy_words;
 fn clear(memo: &mut [u16])
     ensures { (k : ℕ) → get_or memo.new k 0 ≡ 0 }
 {
-    let mut k: usize = 0;
-    while k < memo.len() {
-        memo[k] = 0;
-        k += 1;
-    }
+    memo.fill(0);
 }
 
 // Marks the numbers that cells have.
@@ -29,10 +24,8 @@ fn mark(cells: &[u16], memo: &mut [u16])
     requires { (box : ℕ) → get_or cells.now box 0 < length memo.old }
     ensures { Marked cells.now memo.old memo.new (length cells.now) }
 {
-    let mut box_index: usize = 0;
-    while box_index < cells.len() {
-        memo[u16_to_usize(cells[box_index])] = 1;
-        box_index += 1;
+    for &number in cells {
+        memo[usize::from(number)] = 1;
     }
 }
 
@@ -45,7 +38,7 @@ fn copy_list(lists: &mut [u16], place: usize, next: usize)
         return;
     }
     let from = place * LIST_PLACES;
-    let rules = u16_to_usize(lists[from]);
+    let rules = usize::from(lists[from]);
     copy_words(lists, from, next * LIST_PLACES, rules + 1);
 }
 
@@ -70,10 +63,8 @@ fn move_down(lists: &mut [u16], memo: &mut [u16], used: usize) -> usize
     ensures { Moved lists.old memo.old lists.new memo.new used result }
 {
     let mut next: usize = 0;
-    let mut place: usize = 0;
-    while place < used {
+    for place in 0..used {
         next = move_list(lists, memo, place, next);
-        place += 1;
     }
     next
 }

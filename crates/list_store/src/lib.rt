@@ -9,7 +9,6 @@ ghost use Rattle.tables.specs.Sizes.{list_limit, list_places};
 ghost use Rattle.tables.specs.Lists.{named};
 ghost use Rattle.list_store.specs.Draw.{Appended, Making, Walked};
 
-use casts::u16_to_usize;
 use limits::entry_allowed;
 use tables::LIST_PLACES;
 use tables::copy::copy_words;
@@ -26,10 +25,7 @@ fn has_room(lists: &[u16], number: usize) -> bool
     requires { number * list_places ≤ length lists.now }
     ensures { result ≡ ltb (length (named lists.now number)) list_limit }
 {
-    if number == 0 {
-        return true;
-    }
-    entry_allowed(lists[(number - 1) * LIST_PLACES])
+    number == 0 || entry_allowed(lists[(number - 1) * LIST_PLACES])
 }
 
 // Puts the list that a number names, with a rule at its end, at a place behind it. Words are copied by eights, which the compiler copies at once: those
@@ -46,7 +42,7 @@ fn append(lists: &mut [u16], number: usize, place: usize, rule: u16)
     }
     let from = (number - 1) * LIST_PLACES;
     let count = lists[from];
-    let entries = u16_to_usize(count);
+    let entries = usize::from(count);
     let words = (entries + 7) / 8 * 8;
     copy_words(lists, from + 1, to + 1, words);
     lists[to] = count + 1;
@@ -77,13 +73,13 @@ pub fn draw(
         cells.new lists.new memo.new result.used result.overflowed rule replaces before (box_index ∷ []) }
 {
     let used = drawn.used;
-    let number = u16_to_usize(cells[box_index]);
+    let number = usize::from(cells[box_index]);
     if number > before {
         return drawn;
     }
     let key = key_of(replaces, number);
     let made = memo[key];
-    if u16_to_usize(made) > before {
+    if usize::from(made) > before {
         cells[box_index] = made;
         return drawn;
     }

@@ -16,14 +16,25 @@ ghost use Rattle.prepare.specs.Prepared.{RulesRead, EachReading};
 ghost use Rattle.state_at.specs.Boxes.{InBounds, moment_point};
 ghost use Rattle.lookup.specs.Looks.{look_at};
 
-use answers::{Answer, lookup_refused};
-use calendar::Dated;
+use answers::{Answer, Reason, Refusal};
 use forms::Form;
 use limits::past_midnight;
 use point::look_drained;
-use prepare::{Judged, prepare};
+use prepare::prepare;
 use rooms::look_moment;
 use state_at::Moment;
+use tables::lent::{Cuts, DrainedRules};
+
+// No such date or minute; and a rule that is left.
+const NO_DATE: Refusal = Refusal {
+    reason: Reason::NoDate,
+    place: 0,
+};
+
+const RULE_LEFT: Refusal = Refusal {
+    reason: Reason::Unsettled,
+    place: 0,
+};
 
 // Drains the rules and cuts the dimensions (11, 5), in the tables that are lent, then looks the moment up.
 fn look_moment_in(
@@ -42,13 +53,13 @@ fn look_moment_in(
 ) -> Answer
     requires rules_read { RulesRead (as_form form) sheet.now begins.now count }
     requires in_bounds { InBounds all_bounds (moment_point moment) }
-    requires count_in_bounds { (count ≤ length states.old) × (count ≤ length span_counts.old) × (count * 16 ≤ length spans.old) × (count ≤ length replacing.old) }
-    requires count_in_bounds_2 { (count * 4 ≤ length range_counts.old) × (count * 256 ≤ length ranges.old) × (4 * row_places count ≤ length cuts.old) }
+    requires rule_room { (count ≤ length states.old) × (count ≤ length span_counts.old) × (count * 16 ≤ length spans.old) × (count ≤ length replacing.old) }
+    requires range_room { (count * 4 ≤ length range_counts.old) × (count * 256 ≤ length ranges.old) × (4 * row_places count ≤ length cuts.old) }
     ensures { EachReading (as_form form) sheet.now begins.now count (λ rs. looked_up result ≡ look_at rs (moment_point moment) moment.minute) }
 {
     let mut row_starts = [0u16; 4];
     let mut sizes = [0u16; 4];
-    let judged = prepare(
+    let prepared = prepare(
         form,
         sheet,
         begins,
@@ -63,24 +74,25 @@ fn look_moment_in(
         &mut sizes,
         cuts,
     );
-    match judged {
-        Judged::Fine(rules, why) => {
-            let places = rules * 16;
-            look_drained(
-                &states[..rules],
-                &span_counts[..rules],
-                &spans[..places],
+    match prepared {
+        Ok(drained) => {
+            let places = drained.rules * 16;
+            let rules = DrainedRules {
+                states: &states[..drained.rules],
+                span_counts: &span_counts[..drained.rules],
+                spans: &spans[..places],
                 replacing,
                 range_counts,
                 ranges,
-                &row_starts,
-                &sizes,
+            };
+            let cuts = Cuts {
+                row_starts: &row_starts,
+                sizes: &sizes,
                 cuts,
-                count - rules,
-                moment,
-            )
+            };
+            look_drained(rules, cuts, count - drained.rules, moment)
         }
-        Judged::Refused(code, place) => lookup_refused(code, place),
+        Err(refusal) => Answer::refused(refusal),
     }
 }
 
@@ -99,25 +111,14 @@ pub fn look_rules(
     ensures { looked_up result ≡ lookup (as_form form) sheet_limits sheet.now year month day minute }
 {
     if past_midnight(minute) {
-        return lookup_refused(8, 0);
+        return Answer::refused(NO_DATE);
     }
-    let dated = calendar::point_of(year, month, day);
-    match dated {
-        Dated::Point {
-            weekday,
-            week,
-            month,
-            year,
-        } => {
-            let moment = Moment {
-                weekday,
-                week,
-                month,
-                year,
-                minute: minute as u16,
-            };
-            look_moment(form, sheet, begins, count, moment, 4)
-        }
-        Dated::NoDate => lookup_refused(8, 0),
-    }
+    let Some(point) = calendar::point_of(year, month, day) else {
+        return Answer::refused(NO_DATE);
+    };
+    let moment = Moment {
+        point,
+        minute: minute as u16,
+    };
+    look_moment(form, sheet, begins, count, moment)
 }

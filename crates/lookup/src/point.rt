@@ -6,59 +6,42 @@ ghost use Rattle.answers.specs.Numbers.{looked_up};
 ghost use Rattle.state_at.specs.Boxes.{InBounds, moment_point};
 ghost use Rattle.lookup.specs.Looks.{look_at, Lookable};
 
+use super::RULE_LEFT;
 use super::boxes::look_boxes;
-use answers::{Answer, lookup_refused};
+use answers::Answer;
 use point_state::few::few_lists;
 use point_state::point_state;
 use state_at::Moment;
 use state_at::answer::numbers_of;
+use tables::lent::{Cuts, DrainedRules};
 
 // Where rules and boxes are so few that neither 6 nor 14 can be met, refuses where a rule is left (9), or answers the state at the moment's point.
-pub fn look_drained(
-    states: &[u32],
-    span_counts: &[u8],
-    spans: &[u64],
-    replacing: &[u8],
-    range_counts: &[u16],
-    ranges: &[u16],
-    row_starts: &[u16],
-    sizes: &[u16],
-    cuts: &[u16],
-    rules_left: usize,
-    moment: Moment,
-) -> Answer
-    requires lookable { (rs : List Rule) × Lookable states.now span_counts.now spans.now replacing.now
-        range_counts.now ranges.now row_starts.now sizes.now cuts.now rules_left rs }
+pub fn look_drained(rules: DrainedRules, cuts: Cuts, rules_left: usize, moment: Moment) -> Answer
+    requires lookable { (rs : List Rule) × Lookable rules cuts rules_left rs }
     requires in_bounds { InBounds all_bounds (moment_point moment) }
-    ensures { (rs : List Rule) → Lookable states.now span_counts.now spans.now replacing.now range_counts.now ranges.now
-        row_starts.now sizes.now cuts.now rules_left rs → looked_up result ≡ look_at rs (moment_point moment) moment.minute }
+    ensures { (rs : List Rule) → Lookable rules.entry cuts.entry rules_left rs → looked_up result ≡ look_at rs (moment_point moment) moment.minute }
 {
-    if !few_lists(row_starts, sizes, cuts, range_counts, ranges, states.len()) {
-        return look_boxes(
-            states,
-            span_counts,
-            spans,
-            replacing,
-            range_counts,
-            ranges,
-            row_starts,
-            sizes,
-            cuts,
-            rules_left,
-            moment,
-            16,
-        );
+    let few = few_lists(
+        cuts.row_starts,
+        cuts.sizes,
+        cuts.cuts,
+        rules.range_counts,
+        rules.ranges,
+        rules.states.len(),
+    );
+    if !few {
+        return look_boxes(rules, cuts, rules_left, moment);
     }
     if rules_left > 0 {
-        return lookup_refused(9, 0);
+        return Answer::refused(RULE_LEFT);
     }
     numbers_of(point_state(
-        states,
-        span_counts,
-        spans,
-        replacing,
-        range_counts,
-        ranges,
+        rules.states,
+        rules.span_counts,
+        rules.spans,
+        rules.replacing,
+        rules.range_counts,
+        rules.ranges,
         moment,
     ))
 }

@@ -1,5 +1,5 @@
 -- What a fold requires, stage after stage, and what its answer and buffer are: those of the definition.
-use Rattle.std.specs.Prelude.{◌≡◌, List, ℕ, ◌≤◌, length}
+use Rattle.std.specs.Prelude.{◌≡◌, List, Result, ℕ, ◌≤◌, length}
 use Rattle.std.proofs.Math.Option.{none}
 use Rattle.definition.specs.Field.{got}
 use Rattle.definition.specs.Rule.{Rule}
@@ -13,28 +13,30 @@ use Rattle.answers.specs.declared.Folded.{Folded}
 use Rattle.answers.specs.Numbers.{fold_numbers}
 use Rattle.sheet.specs.Parts.{Leaving}
 use Rattle.tables.specs.Rules.{AllCommented}
-use Rattle.paved.specs.declared.Paved.{Paved}
+use Rattle.answers.specs.declared.refusal.Refusal.{Refusal}
 use Rattle.paved.specs.Paved.{Paves}
-use Rattle.tables.specs.ToDraw.{ToDraw}
+use Rattle.tables.specs.declared.lent.Cuts.{Cuts}
+use Rattle.tables.specs.declared.lent.DrainedRules.{DrainedRules}
+use Rattle.tables.specs.ToDraw.{Lent}
 use Rattle.fold_write.specs.declared.Left.{Left}
 
 -- A SHEET'S RULES, the drained ones in tables and their cuts in rows, passed by 11 and 5; and where the rules left stand
-pub record Foldable (form : Form) (sheet : List ℕ) (left : Left) (states counts spans replacing range_counts ranges rows sizes cuts : List ℕ) (rs : List Rule) : Type 0 where
+pub record Foldable (form : Form) (sheet : List ℕ) (left : Left) (rules : DrainedRules) (cuts : Cuts) (rs : List Rule) : Type 0 where
   pub end : ℕ
   pub read : decode form sheet_limits sheet ≡ got rs end
   pub commented : AllCommented form (drained rs)
-  pub leaving : Leaving form sheet rs left.start left.end (length states) left.rules left.why
-  pub to-draw : ToDraw states counts spans replacing range_counts ranges rows sizes cuts (drained rs)
+  pub leaving : Leaving form sheet rs left.start left.end (length rules.states.now) left.rules left.why
+  pub to-draw : Lent rules cuts (drained rs)
 
 -- the same sheet when an engine has answered about its drained rules
-pub record ToWrite (form : Form) (sheet : List ℕ) (left : Left) (states counts spans lists pages : List ℕ) (paved : Paved) (rs : List Rule) : Type 0 where
+pub record ToWrite (form : Form) (sheet : List ℕ) (left : Left) (rules : DrainedRules) (lists pages : List ℕ) (paved : Result ℕ Refusal) (rs : List Rule) : Type 0 where
   pub end : ℕ
   pub read : decode form sheet_limits sheet ≡ got rs end
   pub commented : AllCommented form (drained rs)
-  pub leaving : Leaving form sheet rs left.start left.end (length states) left.rules left.why
+  pub leaving : Leaving form sheet rs left.start left.end (length rules.states.now) left.rules left.why
   pub apart : first_overlap (drained rs) ≡ none
   pub few-boxes : box_count dimensions (drained rs) ≤ sheet_limits.boxes
-  pub paves : Paves states counts spans lists pages (drained rs) paved
+  pub paves : Paves rules.states.now rules.span_counts.now rules.spans.now lists pages (drained rs) paved
 
 -- the seven numbers, and the buffer `out` afterwards
 abbrev pub Folds : Form → List ℕ → List ℕ → Folded → List ℕ → Type 0

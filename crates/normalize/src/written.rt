@@ -4,10 +4,11 @@ ghost use Rattle.definition.specs.Rule.{Rule};
 ghost use Rattle.forms.specs.Form.{as_form};
 ghost use Rattle.normalize.specs.Folds.{ToWrite, Folds};
 
-use answers::{Folded, fold_refused};
+use answers::{Folded, Refusal};
 use fold_write::{Left, emit};
 use forms::Form;
-use paved::Paved;
+use page_writer::paged::PagedRules;
+use tables::lent::DrainedRules;
 
 // Writes the pages (13, 7), or answers with the refusal (6, 14).
 pub fn write_paved(
@@ -15,29 +16,29 @@ pub fn write_paved(
     sheet: &[u8],
     left: Left,
     out: &mut [u8],
-    states: &[u32],
-    span_counts: &[u8],
-    spans: &[u64],
+    rules: DrainedRules,
     lists: &[u16],
     pages: &[u16],
-    paved: Paved,
+    paved: Result<usize, Refusal>,
 ) -> Folded
-    requires { (rs : List Rule) × ToWrite (as_form form) sheet.now left states.now span_counts.now spans.now lists.now pages.now paved rs }
+    requires { (rs : List Rule) × ToWrite (as_form form) sheet.now left rules lists.now pages.now paved rs }
     ensures { Folds (as_form form) sheet.now out.old result out.new }
 {
     match paved {
-        Paved::Refused(code, rule) => fold_refused(code, rule),
-        Paved::Pages(count) => emit(
+        Err(refusal) => Folded::refused(refusal),
+        Ok(count) => emit(
             form,
             sheet,
             left,
             out,
-            states,
-            span_counts,
-            spans,
-            lists,
-            pages,
-            count,
+            PagedRules {
+                states: rules.states,
+                span_counts: rules.span_counts,
+                spans: rules.spans,
+                lists,
+                pages,
+                count,
+            },
         ),
     }
 }

@@ -5,7 +5,7 @@
 
 mod short;
 
-ghost use Rattle.std.specs.Prelude.{◌≡◌, suc, ◌<◌, length};
+ghost use Rattle.std.specs.Prelude.{◌≡◌, suc, length};
 ghost use Rattle.tables.specs.Days.{box_words, number_words};
 ghost use Rattle.tables.specs.Sizes.{day_room};
 ghost use Rattle.day_memory.specs.Days.{DaysHashed};
@@ -13,7 +13,9 @@ ghost use Rattle.number_lists.specs.Numbered.{AllReady, NumberingRoom, DaysNumbe
 ghost use Rattle.number_lists.specs.Short.{AllShort};
 
 use box_day::fold_box;
-use casts::u64_to_u16;
+use buffers::{FEW_WORDS, WORDS, zeros};
+use day_flat::class::day_class;
+use day_flat::fingerprint;
 use day_memory::find_day;
 use short::all_short;
 
@@ -25,7 +27,7 @@ struct ListDay {
     class: u8,
 }
 
-// The day of the list at a place.
+// The day of a list, of which the lists before have these hashes.
 fn day_at(
     words: &mut [u64],
     other: &mut [u64],
@@ -34,31 +36,20 @@ fn day_at(
     spans: &[u64],
     lists: &[u16],
     hashes: &[u16],
-    place: usize,
 ) -> ListDay
-    requires all_ready { AllReady states.now span_counts.now spans.now lists.now (length words.old) (suc place)
+    requires all_ready { AllReady states.now span_counts.now spans.now lists.now (length words.old) (suc (length hashes.now))
         × (length other.old ≡ length words.old) }
-    requires place_in_bounds { (place < length hashes.now) × DaysHashed (box_words states.now span_counts.now spans.now lists.now) hashes.now place }
-    ensures { DayAt (box_words states.now span_counts.now spans.now lists.now) place result }
+    requires hashed { DaysHashed (box_words states.now span_counts.now spans.now lists.now) hashes.now (length hashes.now) }
+    ensures { DayAt (box_words states.now span_counts.now spans.now lists.now) (length hashes.now) result }
 {
-    let word_count = fold_box(words, states, span_counts, spans, lists, place);
-    let hash = u64_to_u16(day_flat::fingerprint(words, word_count) % 65536);
-    let number = find_day(
-        words,
-        other,
-        states,
-        span_counts,
-        spans,
-        lists,
-        hashes,
-        word_count,
-        hash,
-        place,
-    );
+    let word_count = fold_box(words, states, span_counts, spans, lists, hashes.len());
+    let day = &words[..word_count];
+    let hash = (fingerprint(day) % 65536) as u16;
+    let number = find_day(day, other, states, span_counts, spans, lists, hashes, hash);
     ListDay {
-        hash: hash,
-        number: number,
-        class: day_flat::class::day_class(words, word_count),
+        hash,
+        number,
+        class: day_class(day),
     }
 }
 
@@ -82,8 +73,7 @@ fn number_in(
 {
     numbers[0] = 0;
     classes[0] = 0;
-    let mut place: usize = 0;
-    while place < used {
+    for place in 0..used {
         let day = day_at(
             words,
             other,
@@ -91,15 +81,12 @@ fn number_in(
             span_counts,
             spans,
             lists,
-            hashes,
-            place,
+            &hashes[..place],
         );
-        let number = day.number;
         hashes[place] = day.hash;
-        numbers[place + 1] = number as u16;
+        numbers[place + 1] = day.number as u16;
         // Where a list before has the day, its class stands there already, and is the same.
-        classes[number] = day.class;
-        place += 1;
+        classes[day.number] = day.class;
     }
 }
 
@@ -119,8 +106,8 @@ fn number_short(
     ensures { DaysNumbered (number_words states.now span_counts.now spans.now lists.now)
         numbers.new classes.new (suc used) }
 {
-    let mut words = buffers::few_words();
-    let mut other = buffers::few_words();
+    let mut words: [u64; FEW_WORDS] = zeros();
+    let mut other: [u64; FEW_WORDS] = zeros();
     number_in(
         &mut words,
         &mut other,
@@ -165,8 +152,8 @@ pub fn number_lists(
         );
         return;
     }
-    let mut words = buffers::words();
-    let mut other = buffers::words();
+    let mut words: [u64; WORDS] = zeros();
+    let mut other: [u64; WORDS] = zeros();
     number_in(
         &mut words,
         &mut other,

@@ -8,12 +8,10 @@ pub fn all_short(lists: &[u16], used: usize) -> bool
     requires { used * list_places ≤ length lists.now }
     ensures { result ≡ true → AllShort lists.now used }
 {
-    let mut place: usize = 0;
-    while place < used {
+    for place in 0..used {
         if lists[place * tables::LIST_PLACES] > 4 {
             return false;
         }
-        place += 1;
     }
     true
 }

@@ -12,9 +12,11 @@ use Rattle.definition.specs.Rule.{Rule}
 use Rattle.definition.specs.Sheet.{Form}
 use Rattle.answers.specs.declared.Folded.{Folded}
 use Rattle.tables.specs.Rules.{AllCommented}
-use Rattle.tables.specs.ToDraw.{ToDraw}
-use Rattle.paved.specs.declared.Paved.{Paved}
-use Rattle.paved.specs.declared.Paved.TheVariants.{Pages, Refused}
+use Rattle.std.specs.Prelude.{Result, Ok, Err}
+use Rattle.answers.specs.declared.refusal.Refusal.{Refusal}
+use Rattle.tables.specs.declared.lent.Cuts.{Cuts}
+use Rattle.tables.specs.declared.lent.DrainedRules.{DrainedRules}
+use Rattle.tables.specs.ToDraw.{Lent}
 use Rattle.paved.specs.Paved.{Paves}
 use Rattle.columns.proofs.pave.Kinds as columns-kinds
 use Rattle.columns.proofs.pave.Reads as columns-contract
@@ -33,52 +35,45 @@ use Rattle.one_answer.specs.Engines.{Engine, PavePromise, Alike}
 use Rattle.one_answer.proofs.OneAnswer.{one-fold, one-exported-fold}
 
 -- ## Over tables
--- a refusal, if there is one
-abbrev Refusal : Type 0
-Refusal = Option (ℕ × ℕ)
+-- the code and the rule of a refusal, if there is one
+abbrev Told : Type 0
+Told = Option (ℕ × ℕ)
 
-refused-once : {c d p q : ℕ} → ◌≡◌ {A = Refusal} (some (c, p)) (some (d, q)) → (c ≡ d) × (p ≡ q)
+refused-once : {c d p q : ℕ} → ◌≡◌ {A = Told} (some (c, p)) (some (d, q)) → (c ≡ d) × (p ≡ q)
 refused-once e = (ap code e, ap place e)
   where
-    code : Refusal → ℕ
+    code : Told → ℕ
     code none = 0
     code (some m) = m.0
 
-    place : Refusal → ℕ
+    place : Told → ℕ
     place none = 0
     place (some m) = m.1
 
-never_both : {c p : ℕ} → ◌≡◌ {A = Refusal} (some (c, p)) none → ⊥
+never_both : {c p : ℕ} → ◌≡◌ {A = Told} (some (c, p)) none → ⊥
 never_both e = subst told e tt
   where
-    told : Refusal → Type 0
+    told : Told → Type 0
     told none = ⊥
     told (some m) = Unit {0}
 
-module _ (states counts spans replacing range_counts ranges rows sizes cuts : List ℕ) where
+module _ (rules : DrainedRules) (cuts : Cuts) where
   -- WHATEVER TWO ENGINES ANSWER about some rules in tables, with any number of intervals between the cuts
-  pub paved-alike : (rs : List Rule) → ToDraw states counts spans replacing range_counts ranges rows sizes cuts rs → (form : Form) → AllCommented form rs → (x y : Engine)
-      → PavePromise states counts spans replacing range_counts ranges rows sizes cuts x → PavePromise states counts spans replacing range_counts ranges rows sizes cuts y
-      → Alike states counts spans x y
+  pub paved-alike : (rs : List Rule) → Lent rules cuts rs → (form : Form) → AllCommented form rs → (x y : Engine) → PavePromise rules cuts x → PavePromise rules cuts y
+      → Alike rules.states.now rules.span_counts.now rules.spans.now x y
   unfolding Paves
-  paved-alike rs given form commented (Refused c p, l) (Refused d q, m) h k = refused-once (sym (h rs given) ∙ k rs given)
-  paved-alike rs given form commented (Refused c p, l) (Pages m, k') h k = never_both (sym (h rs given) ∙ (k rs given).0)
-  paved-alike rs given form commented (Pages n, l) (Refused d q, m) h k = never_both (sym (k rs given) ∙ (h rs given).0)
-  paved-alike rs given form commented (Pages n, l) (Pages m, k') h k = ((h rs given).1 form commented).rules ∙ sym ((k rs given).1 form commented).rules
+  paved-alike rs given form commented (Err r, l) (Err s, m) h k = refused-once (sym (h rs given) ∙ k rs given)
+  paved-alike rs given form commented (Err r, l) (Ok m, k') h k = never_both (sym (h rs given) ∙ (k rs given).0)
+  paved-alike rs given form commented (Ok n, l) (Err s, m) h k = never_both (sym (k rs given) ∙ (h rs given).0)
+  paved-alike rs given form commented (Ok n, l) (Ok m, k') h k = ((h rs given).1 form commented).rules ∙ sym ((k rs given).1 form commented).rules
 
 -- both are such engines
-pub columns-promised : (κs : Lfts 13) (a : Dens κs columns-kinds.ps) (r : Paved) (e : AtExit (ended_of 13 columns-kinds.ps columns-kinds.r) κs)
-    → columns-contract.Learnt κs a r e
-    → PavePromise a.0.now a.1.0.now a.1.1.0.now a.1.1.1.0.now a.1.1.1.1.0.now a.1.1.1.1.1.0.now a.1.1.1.1.1.1.0.now
-    a.1.1.1.1.1.1.1.0.now a.1.1.1.1.1.1.1.1.0.now
-    (r, (e.1.1.1.1.1.1.1.1.1.1.0.now, e.1.1.1.1.1.1.1.1.1.1.1.1.0.now))
+pub columns-promised : (κs : Lfts 6) (a : Dens κs columns-kinds.ps) (r : Result ℕ Refusal) (e : AtExit (ended_of 6 columns-kinds.ps columns-kinds.r) κs)
+    → columns-contract.Learnt κs a r e → PavePromise a.0 a.1.0 (r, (e.1.1.1.0.now, e.1.1.1.1.1.0.now))
 columns-promised κs a r e h = h
 
-pub plain-promised : (κs : Lfts 12) (a : Dens κs plain-kinds.ps) (r : Paved) (e : AtExit (ended_of 12 plain-kinds.ps plain-kinds.r) κs)
-    → plain-contract.Learnt κs a r e
-    → PavePromise a.0.now a.1.0.now a.1.1.0.now a.1.1.1.0.now a.1.1.1.1.0.now a.1.1.1.1.1.0.now a.1.1.1.1.1.1.0.now
-    a.1.1.1.1.1.1.1.0.now a.1.1.1.1.1.1.1.1.0.now
-    (r, (e.1.1.1.1.1.1.1.1.1.0.now, e.1.1.1.1.1.1.1.1.1.1.1.0.now))
+pub plain-promised : (κs : Lfts 5) (a : Dens κs plain-kinds.ps) (r : Result ℕ Refusal) (e : AtExit (ended_of 5 plain-kinds.ps plain-kinds.r) κs)
+    → plain-contract.Learnt κs a r e → PavePromise a.0 a.1.0 (r, (e.1.1.0.now, e.1.1.1.1.0.now))
 plain-promised κs a r e h = h
 
 -- ## Over sheets

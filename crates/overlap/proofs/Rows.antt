@@ -2,13 +2,14 @@
 -- laws of pairs.
 use mathlib.Core.Path.{◌≡◌, refl, sym, ap, ap₂, ◌∙◌}
 use mathlib.Core.List.{List}
-use mathlib.Core.Bool.{Bool, true, false, cond, true≢false}
-use Prim.Native.Nat.{ℕ, ◌+◌, ◌*◌, ◌≤◌, ◌<◌}
+use mathlib.Core.Bool.{Bool, true, false, ◌||◌, true≢false}
+use Prim.Native.Nat.{ℕ, zero, suc, max, ◌+◌, ◌*◌, ◌≤◌, ◌<◌}
 use native.Mathlib.Omega.{arith}
 use borrow.Author.Count.{below_more}
 use lib.Dec.{ltb}
 use lib.ListN.{length, get_or, length-map}
-use borrow.Author.Tests.{lt-ltb, le-ltb, ltb-true, ltb-false}
+use borrow.Author.Tests.{lt-ltb, le-ltb}
+use Rattle.std.specs.List.{list_any, range_with_len}
 use Rattle.laws.specs.Lists.{from, any_of, any_pair}
 use Rattle.laws.proofs.Flags.{and-false, not-true}
 use Rattle.laws.proofs.Lists.{any_none}
@@ -19,6 +20,12 @@ use Rattle.definition.specs.OverBoxes.{meets}
 use Rattle.tables.specs.Sizes.{range_places}
 use Rattle.tables.specs.Ranges.{range_of}
 use Rattle.overlap.specs.Overlap.{row_of, EndBy}
+
+-- what the library's search asks of n numbers, from s on
+pub any_asked : (t : ℕ → Bool) (s n : ℕ) → list_any t (range_with_len s n) ≡ any_of t (from s n)
+unfolding any_of from
+any_asked t s zero = refl
+any_asked t s (suc n) = let e : s + 1 ≡ suc s = omega arith in rw e (ap (λ b. t s || b) (any_asked t (suc s) n))
 
 module _ (ranges : List ℕ) (i : ℕ) where
   -- ## Two ranges
@@ -33,15 +40,12 @@ module _ (ranges : List ℕ) (i : ℕ) where
     meet-no h = rw (le-ltb _ _ h)
 
   -- ## A range and those before it
-  abbrev before : ℕ → ℕ → Bool
+  abbrev pub before : ℕ → ℕ → Bool
   before n k = meets (range_of ranges i k) (range_of ranges i n)
 
   -- the first k of them do not meet it
   abbrev pub Passed : ℕ → ℕ → Type 0
   Passed n k = (j : ℕ) → j < k → before n j ≡ false
-
-  pub passed-next : (n k : ℕ) → Passed n k → before n k ≡ false → Passed n (k + 1)
-  passed-next n k h e = below_more (λ j. before n j ≡ false) k h e
 
   -- one that begins where all before it have ended meets none
   pub late-none : (n v : ℕ) → EndBy ranges i n v → v ≤ get_or ranges (i * range_places + 2 * n) 0 → false ≡ any_of (before n) (from 0 n)
@@ -56,20 +60,9 @@ module _ (ranges : List ℕ) (i : ℕ) where
   pub apart_next : (n : ℕ) → Apart n → any_of (before n) (from 0 n) ≡ false → Apart (n + 1)
   apart_next n h e = below_more (λ k. Passed k k) n h (λ j l. any_none (before n) j (from 0 n) e (Mem-from j 0 n (omega arith) (omega arith)))
 
-  pub ends_next : (n v : ℕ) → EndBy ranges i n v → (w : ℕ) → w ≡ cond (ltb v (get_or ranges (i * range_places + 2 * n + 1) 0)) (get_or ranges (i * range_places + 2 * n + 1) 0) v
-      → EndBy ranges i (n + 1) w
+  pub ends_next : (n v : ℕ) → EndBy ranges i n v → (w : ℕ) → w ≡ max v (get_or ranges (i * range_places + 2 * n + 1) 0) → EndBy ranges i (n + 1) w
   unfolding range_of
-  ends_next n v h w e = go (ltb v last) refl
-    where
-      last : ℕ
-      last = get_or ranges (i * range_places + 2 * n + 1) 0
-
-      both : last ≤ w → v ≤ w → EndBy ranges i (n + 1) w
-      both a b = below_more (λ k. (range_of ranges i k).1 ≤ w) n (λ k l. omega (arith, b, h k l)) a
-
-      go : (t : Bool) → ltb v last ≡ t → EndBy ranges i (n + 1) w
-      go true t = let z : w ≡ last = rw t at e in both (omega arith) (omega (arith, ltb-true v last t))
-      go false t = let z : w ≡ v = rw t at e in both (omega (arith, ltb-false v last t)) (omega arith)
+  ends_next n v h w e = below_more (λ k. (range_of ranges i k).1 ≤ w) n (λ k l. omega (arith, h k l)) (omega arith)
 
   module _ (count : ℕ) where
     abbrev row : List Range

@@ -2,7 +2,7 @@
 // two ranges there, which share none; so it is enough to ask any two.
 #![tactic(auto)]
 
-ghost use Rattle.std.specs.Prelude.{◌≡◌, cond, List, ◌+◌, ◌*◌, ◌≤◌, ◌<◌, ltb, length};
+ghost use Rattle.std.specs.Prelude.{◌≡◌, List, ◌+◌, ◌*◌, ◌≤◌, ◌<◌, length};
 ghost use Rattle.laws.specs.Lists.{from, any_of, any_pair};
 ghost use Rattle.definition.specs.Rule.{Rule};
 ghost use Rattle.definition.specs.OverBoxes.{meets};
@@ -11,7 +11,6 @@ ghost use Rattle.tables.specs.Ranges.{range_of, selector_of};
 ghost use Rattle.tables.specs.Rules.{RuleDays};
 ghost use Rattle.overlap.specs.Overlap.{row_of, EndBy, FewRanges, Overlapping};
 
-use casts::u16_to_usize;
 use tables::RANGE_PLACES;
 
 // Whether two ranges of a row share a value: each begins before the other ends.
@@ -21,11 +20,7 @@ fn ranges_meet(ranges: &[u16], dimension: usize, range: usize, other: usize) -> 
 {
     let at = dimension * RANGE_PLACES + 2 * range;
     let beside = dimension * RANGE_PLACES + 2 * other;
-    if ranges[at] < ranges[beside + 1] {
-        ranges[beside] < ranges[at + 1]
-    } else {
-        false
-    }
+    ranges[at] < ranges[beside + 1] && ranges[beside] < ranges[at + 1]
 }
 
 // Whether a range shares a value with one before it in its row.
@@ -33,14 +28,7 @@ fn meets_before(ranges: &[u16], dimension: usize, range: usize) -> bool
     requires { dimension * range_places + 2 * range + 1 < length ranges.now }
     ensures { result ≡ any_of (λ k. meets (range_of ranges.now dimension k) (range_of ranges.now dimension range)) (from 0 range) }
 {
-    let mut earlier: usize = 0;
-    while earlier < range {
-        if ranges_meet(ranges, dimension, earlier, range) {
-            return true;
-        }
-        earlier += 1;
-    }
-    false
+    (0..range).any(|earlier| ranges_meet(ranges, dimension, earlier, range))
 }
 
 // The same, where no range before it ends behind `end`. Most rows rise, as planners write them: a range that begins at `end` or behind it is
@@ -49,17 +37,7 @@ fn overlaps_before(ranges: &[u16], dimension: usize, range: usize, end: u16) -> 
     requires { (dimension * range_places + 2 * range + 1 < length ranges.now) × EndBy ranges.now dimension range end }
     ensures { result ≡ any_of (λ k. meets (range_of ranges.now dimension k) (range_of ranges.now dimension range)) (from 0 range) }
 {
-    if ranges[dimension * RANGE_PLACES + 2 * range] < end {
-        return meets_before(ranges, dimension, range);
-    }
-    false
-}
-
-// The later of two ends.
-fn later(end: u16, other: u16) -> u16
-    ensures { result ≡ cond (ltb end other) other end }
-{
-    if end < other { other } else { end }
+    ranges[dimension * RANGE_PLACES + 2 * range] < end && meets_before(ranges, dimension, range)
 }
 
 // Whether two ranges of a row share a value.
@@ -68,13 +46,11 @@ fn row_overlaps(ranges: &[u16], dimension: usize, count: usize) -> bool
     ensures { result ≡ any_pair meets (row_of ranges.now dimension count) }
 {
     let mut end: u16 = 0;
-    let mut range: usize = 0;
-    while range < count {
+    for range in 0..count {
         if overlaps_before(ranges, dimension, range, end) {
             return true;
         }
-        end = later(end, ranges[dimension * RANGE_PLACES + 2 * range + 1]);
-        range += 1;
+        end = end.max(ranges[dimension * RANGE_PLACES + 2 * range + 1]);
     }
     false
 }
@@ -84,11 +60,9 @@ fn rule_overlaps(range_counts: &[u16], ranges: &[u16]) -> bool
     requires { FewRanges range_counts.now ranges.now }
     ensures { result ≡ any_of (any_pair meets) (selector_of range_counts.now ranges.now 4) }
 {
-    let mut dims_left: usize = 4;
-    while dims_left > 0 {
-        dims_left -= 1;
-        let count = u16_to_usize(range_counts[dims_left]);
-        if row_overlaps(ranges, dims_left, count) {
+    for dimension in (0..4).rev() {
+        let count = usize::from(range_counts[dimension]);
+        if row_overlaps(ranges, dimension, count) {
             return true;
         }
     }
@@ -100,16 +74,12 @@ pub fn first_overlap(range_counts: &[u16], ranges: &[u16], rules: usize) -> usiz
     requires { (rs : List Rule) × RuleDays range_counts.now ranges.now rules rs }
     ensures { (rs : List Rule) → RuleDays range_counts.now ranges.now rules rs → Overlapping rs rules result }
 {
-    let mut rule: usize = 0;
-    while rule < rules {
+    for rule in 0..rules {
         let from = rule * 4;
-        let to = from + 4;
         let first = rule * 256;
-        let end = first + 256;
-        if rule_overlaps(&range_counts[from..to], &ranges[first..end]) {
+        if rule_overlaps(&range_counts[from..from + 4], &ranges[first..first + 256]) {
             return rule;
         }
-        rule += 1;
     }
     rules
 }

@@ -6,7 +6,8 @@ ghost use Rattle.tables.specs.Pages.{Counted};
 
 use tables::page::page_size;
 
-// How many pages stand before a place where a page ends.
+// How many pages stand before a place where a page ends. A page says how long it is, so that only then it is known where the next one begins: no `for` goes
+// over them.
 pub fn count_pages(pages: &[u16], stop: usize) -> usize
     requires by_index { (n : ℕ) × Counted pages.now n 0 stop }
     requires stop_in_bounds { stop ≤ length pages.now }

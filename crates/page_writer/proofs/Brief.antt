@@ -28,6 +28,10 @@ pub record Passed (lists pages : List ℕ) (count left here : ℕ) : Type 0 wher
 pub none_passed : (lists pages : List ℕ) (count : ℕ) → Passed lists pages count count 0
 none_passed lists pages count = record { ready = λ form states counts spans p. p; brief = λ form states counts spans p q. q }
 
+-- so many left, said otherwise
+pub passed-as : {lists pages : List ℕ} {count left left' here : ℕ} → left ≡ left' → Passed lists pages count left here → Passed lists pages count left' here
+passed-as {lists} {pages} {count} {left} {left'} {here} e p = subst (λ n. Passed lists pages count n here) e p
+
 module _ {lists pages : List ℕ} {count left here : ℕ} (passed : Passed lists pages count left here) where
   pub next-ready : 0 < left → {form : Form} {states counts spans : List ℕ} → Pages form states counts spans lists pages day_room count 0
       → PageReady form states counts spans lists pages day_room here

@@ -102,12 +102,14 @@ module _ {form : Form} {states counts spans lists page : List ℕ} {room : ℕ} 
       cut-long : count ≡ length (box_words states counts spans lists (number - 1))
       cut-long = sym (length_part words 0 count) ∙ ap length cut-held
 
-      pub book-whole : Whole form words 0 count
-      book-whole = whole (number - 1) (ap (◌- 1) named) words count (omega (arith, cut-length)) cut-held cut-long
+      pub book-whole : Whole form words 0 (length words)
+      book-whole = subst (Whole form words 0) (sym cut-length) (whole (number - 1) (ap (◌- 1) named) words count (omega (arith, cut-length)) cut-held cut-long)
 
-      pub book-short : count ≤ 2049
-      book-short = short (number - 1) (ap (◌- 1) named) words count (omega (arith, cut-length)) cut-held cut-long
+      pub book-short : length words ≤ 2049
+      book-short = omega (arith, cut-length, short (number - 1) (ap (◌- 1) named) words count (omega (arith, cut-length)) cut-held cut-long)
 
       pub book-rules : (items : List ℕ) → items ≡ page_ends page 0
-          → day_rules (rows_below items (page_counts page 0) 4) (day_in words 0 count) ≡ page_rules (box_words states counts spans lists) (page_at page 0)
-      book-rules = page-rules (number - 1) (ap (◌- 1) named) words count (omega (arith, cut-length)) cut-held cut-long
+          → day_rules (rows_below items (page_counts page 0) 4) (day_in words 0 (length words)) ≡ page_rules (box_words states counts spans lists) (page_at page 0)
+      book-rules items e =
+          ap (λ n. day_rules (rows_below items (page_counts page 0) 4) (day_in words 0 n)) cut-length
+          ∙ page-rules (number - 1) (ap (◌- 1) named) words count (omega (arith, cut-length)) cut-held cut-long items e

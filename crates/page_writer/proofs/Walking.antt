@@ -1,5 +1,5 @@
 -- The invariants of the loops that measure and write pages: what is done and the pages left are all of them. Rests on the laws of one page more.
-use mathlib.Core.Path.{◌≡◌, refl, sym, ap, ◌∙◌}
+use mathlib.Core.Path.{◌≡◌, refl, sym, ap, ◌∙◌, subst}
 use mathlib.Core.List.{List, [], ◌++◌, append-nil, append_assoc}
 use mathlib.Core.Bool.{Bool, true, false, ◌||◌}
 use Prim.Native.Nat.{ℕ, ◌+◌, ◌-◌, ◌*◌, ◌≤◌, ◌<◌, ◌^◌}
@@ -55,6 +55,16 @@ module _ (form : Form) (states counts spans lists pages : List ℕ) (room count 
   pub writing-none : Pages form states counts spans lists pages room count 0 → Countable form (rules_from count 0) → (old : List ℕ) (place : ℕ) → RoomFor (length old) place (rules_bits form (rules_from count 0))
       → Writing old place count 0 old place
   writing-none ready countable old place room = record { ready = ready; done = []; wrote = wrote_none refl; whole = refl; countable = countable; roomy = room }
+
+-- so many left, said otherwise
+module _ {form : Form} {states counts spans lists pages : List ℕ} {room count left left' here : ℕ} (e : left ≡ left') where
+  pub measured-as : {rules bits : ℕ} {past : Bool} → Measured form states counts spans lists pages room count left here rules bits past
+      → Measured form states counts spans lists pages room count left' here rules bits past
+  measured-as {rules} {bits} {past} m = subst (λ n. Measured form states counts spans lists pages room count n here rules bits past) e m
+
+  pub writing-as : {old : List ℕ} {place : ℕ} {out : List ℕ} {next : ℕ} → Writing form states counts spans lists pages room count old place left here out next
+      → Writing form states counts spans lists pages room count old place left' here out next
+  writing-as {old} {place} {out} {next} w = subst (λ n. Writing form states counts spans lists pages room count old place n here out next) e w
 
 -- ## Measuring
 module _ {form : Form} {states counts spans lists pages : List ℕ} {room count left here rules bits : ℕ} {past : Bool}

@@ -3,6 +3,7 @@
 // list that has the day; its words come from the book of days, or the list is folded again where the book had no room for them.
 #![tactic(auto)]
 
+pub mod paged;
 pub mod short;
 
 ghost use Rattle.std.specs.Prelude.{◌≡◌, ◌*◌, ◌≤◌, ◌<◌, ◌^◌, length};
@@ -12,10 +13,10 @@ ghost use Rattle.forms.specs.Form.{as_form};
 ghost use Rattle.item_writer.specs.Written.{RoomFor, Wrote};
 ghost use Rattle.day_writer.specs.Rules.{Countable, rules_bits};
 ghost use Rattle.day_book.specs.Book.{Open};
-ghost use Rattle.tables.specs.Days.{box_words, number_words};
-ghost use Rattle.tables.specs.Pages.{page_size, page_at, page_rules, paged_rules, PageReady, Pages};
+ghost use Rattle.tables.specs.Pages.{page_size};
+ghost use Rattle.page_writer.specs.Paged.{day_words, rules_of_page, rules_of_pages, PageReady, PagesReady};
 
-use casts::u16_to_usize;
+use crate::paged::PagedRules;
 use day_book::fetch;
 use day_writer::{measure_day, write_day};
 use forms::Form;
@@ -45,37 +46,30 @@ fn measure_page(
     notes: &mut [u16],
     filled: usize,
     room: usize,
-    states: &[u32],
-    span_counts: &[u8],
-    spans: &[u64],
-    lists: &[u16],
+    paged: PagedRules,
     page: &[u16],
 ) -> Measured
-    requires page_ready { PageReady (as_form form) states.now span_counts.now spans.now lists.now page.now room 0 }
-    requires fact { Open (number_words states.now span_counts.now spans.now lists.now) notes.old book.old room filled }
-    ensures { (length (page_rules (box_words states.now span_counts.now spans.now lists.now)
-        (page_at page.now 0)) ≡ result.rules)
-        × (length (rules_bits (as_form form) (page_rules (box_words states.now span_counts.now spans.now lists.now)
-        (page_at page.now 0))) ≡ result.bits)
-        × (any_of (many_items (as_form form)) (page_rules (box_words states.now span_counts.now spans.now lists.now)
-        (page_at page.now 0)) ≡ result.past)
+    requires page_ready { PageReady (as_form form) paged page.now room }
+    requires fact { Open (day_words paged) notes.old book.old room filled }
+    ensures { (length (rules_of_page paged.entry page.now) ≡ result.rules)
+        × (length (rules_bits (as_form form) (rules_of_page paged.entry page.now)) ≡ result.bits)
+        × (any_of (many_items (as_form form)) (rules_of_page paged.entry page.now) ≡ result.past)
         × (result.rules ≤ 4096) × (result.bits ≤ 2 ^ 31)
-        × Open (number_words states.now span_counts.now spans.now lists.now) notes.new book.new room result.filled }
+        × Open (day_words paged.entry) notes.new book.new room result.filled }
 {
     let day = fetch(
         book,
         notes,
         filled,
         room,
-        states,
-        span_counts,
-        spans,
-        lists,
-        u16_to_usize(page[0]),
+        paged.states,
+        paged.span_counts,
+        paged.spans,
+        paged.lists,
+        usize::from(page[0]),
     );
-    let from = day.from;
-    let end = from + day.count;
-    let measure = measure_day(form, &book[from..end], day.count, &page[1..5]);
+    let end = day.from + day.count;
+    let measure = measure_day(form, &book[day.from..end], &page[1..5]);
     Measured {
         rules: measure.rules,
         bits: measure.bits,
@@ -84,57 +78,44 @@ fn measure_page(
     }
 }
 
-// The measure of the first `count` pages, with their days in the book, as far as it has room.
+// The measure of the pages, with their days in the book, as far as it has room.
 pub fn measure_pages(
     form: Form,
     book: &mut [u64],
     notes: &mut [u16],
     room: usize,
-    states: &[u32],
-    span_counts: &[u8],
-    spans: &[u64],
-    lists: &[u16],
-    pages: &[u16],
-    count: usize,
+    paged: PagedRules,
 ) -> Measured
-    requires pages { Pages (as_form form) states.now span_counts.now spans.now lists.now pages.now room count 0 }
-    requires count_bound { count < 2 ^ 32 }
-    requires fact { Open (number_words states.now span_counts.now spans.now lists.now) notes.old book.old room 0 }
-    ensures { (length (paged_rules states.now span_counts.now spans.now lists.now
-        pages.now count) ≡ result.rules)
-        × (length (rules_bits (as_form form) (paged_rules states.now span_counts.now spans.now lists.now
-        pages.now count)) ≡ result.bits)
-        × (any_of (many_items (as_form form)) (paged_rules states.now span_counts.now spans.now lists.now
-        pages.now count) ≡ result.past)
-        × (result.rules ≤ 4096 * count) × (result.bits ≤ 2 ^ 31 * count)
-        × Open (number_words states.now span_counts.now spans.now lists.now) notes.new book.new room result.filled }
+    requires pages { PagesReady (as_form form) paged room }
+    requires count_bound { paged.count < 2 ^ 32 }
+    requires fact { Open (day_words paged) notes.old book.old room 0 }
+    ensures { (length (rules_of_pages paged.entry) ≡ result.rules)
+        × (length (rules_bits (as_form form) (rules_of_pages paged.entry)) ≡ result.bits)
+        × (any_of (many_items (as_form form)) (rules_of_pages paged.entry) ≡ result.past)
+        × (result.rules ≤ 4096 * paged.entry.count) × (result.bits ≤ 2 ^ 31 * paged.entry.count)
+        × Open (day_words paged.entry) notes.new book.new room result.filled }
 {
     let mut here: usize = 0;
-    let mut pages_left = count;
     let mut rules: usize = 0;
     let mut bits: usize = 0;
     let mut past = false;
     let mut filled: usize = 0;
-    while pages_left > 0 {
-        let size = page_size(pages, here);
+    for _page in 0..paged.count {
+        let end = here + page_size(paged.pages, here);
         let page = measure_page(
             form,
             book,
             notes,
             filled,
             room,
-            states,
-            span_counts,
-            spans,
-            lists,
-            &pages[here..here + size],
+            paged,
+            &paged.pages[here..end],
         );
         rules += page.rules;
         bits += page.bits;
-        past = past | page.past;
+        past |= page.past;
         filled = page.filled;
-        here += size;
-        pages_left -= 1;
+        here = end;
     }
     Measured {
         rules,
@@ -153,42 +134,33 @@ fn write_page(
     notes: &mut [u16],
     filled: usize,
     room: usize,
-    states: &[u32],
-    span_counts: &[u8],
-    spans: &[u64],
-    lists: &[u16],
+    paged: PagedRules,
     page: &[u16],
 ) -> Placed
-    requires page_ready { PageReady (as_form form) states.now span_counts.now spans.now lists.now page.now room 0
-        × (length page.now ≡ page_size page.now 0) }
-    requires fact { Open (number_words states.now span_counts.now spans.now lists.now) notes.old book.old room filled }
-    requires countable { Countable (as_form form) (page_rules (box_words states.now span_counts.now spans.now lists.now) (page_at page.now 0)) }
-    requires room_for { RoomFor (length out.old) place
-        (rules_bits (as_form form) (page_rules (box_words states.now span_counts.now spans.now lists.now) (page_at page.now 0))) }
-    ensures { Wrote out.old place
-        (rules_bits (as_form form) (page_rules (box_words states.now span_counts.now spans.now lists.now)
-        (page_at page.now 0))) out.new result.place
-        × Open (number_words states.now span_counts.now spans.now lists.now) notes.new book.new room result.filled }
+    requires page_ready { PageReady (as_form form) paged page.now room × (length page.now ≡ page_size page.now 0) }
+    requires fact { Open (day_words paged) notes.old book.old room filled }
+    requires countable { Countable (as_form form) (rules_of_page paged page.now) }
+    requires room_for { RoomFor (length out.old) place (rules_bits (as_form form) (rules_of_page paged page.now)) }
+    ensures { Wrote out.old place (rules_bits (as_form form) (rules_of_page paged.entry page.now)) out.new result.place
+        × Open (day_words paged.entry) notes.new book.new room result.filled }
 {
     let day = fetch(
         book,
         notes,
         filled,
         room,
-        states,
-        span_counts,
-        spans,
-        lists,
-        u16_to_usize(page[0]),
+        paged.states,
+        paged.span_counts,
+        paged.spans,
+        paged.lists,
+        usize::from(page[0]),
     );
-    let from = day.from;
-    let end = from + day.count;
+    let end = day.from + day.count;
     let next = write_day(
         form,
         out,
         place,
-        &book[from..end],
-        day.count,
+        &book[day.from..end],
         &page[5..],
         &page[1..5],
     );
@@ -198,7 +170,7 @@ fn write_page(
     }
 }
 
-// Writes the rules of the first `count` pages; answers the place after them. The book has what measuring them left there.
+// Writes the rules of the pages; answers the place after them. The book has what measuring them left there.
 pub fn write_pages(
     form: Form,
     out: &mut [u8],
@@ -207,28 +179,19 @@ pub fn write_pages(
     notes: &mut [u16],
     filled: usize,
     room: usize,
-    states: &[u32],
-    span_counts: &[u8],
-    spans: &[u64],
-    lists: &[u16],
-    pages: &[u16],
-    count: usize,
+    paged: PagedRules,
 ) -> usize
-    requires pages { Pages (as_form form) states.now span_counts.now spans.now lists.now pages.now room count 0 }
-    requires fact { Open (number_words states.now span_counts.now spans.now lists.now) notes.old book.old room filled }
-    requires countable { Countable (as_form form) (paged_rules states.now span_counts.now spans.now lists.now pages.now count) }
-    requires room_for { RoomFor (length out.old) place
-        (rules_bits (as_form form) (paged_rules states.now span_counts.now spans.now lists.now pages.now count)) }
-    ensures { Wrote out.old place
-        (rules_bits (as_form form) (paged_rules states.now span_counts.now spans.now lists.now
-        pages.now count)) out.new result }
+    requires pages { PagesReady (as_form form) paged room }
+    requires fact { Open (day_words paged) notes.old book.old room filled }
+    requires countable { Countable (as_form form) (rules_of_pages paged) }
+    requires room_for { RoomFor (length out.old) place (rules_bits (as_form form) (rules_of_pages paged)) }
+    ensures { Wrote out.old place (rules_bits (as_form form) (rules_of_pages paged.entry)) out.new result }
 {
     let mut here: usize = 0;
-    let mut pages_left = count;
     let mut next = place;
     let mut full = filled;
-    while pages_left > 0 {
-        let size = page_size(pages, here);
+    for _page in 0..paged.count {
+        let end = here + page_size(paged.pages, here);
         let written = write_page(
             form,
             out,
@@ -237,16 +200,12 @@ pub fn write_pages(
             notes,
             full,
             room,
-            states,
-            span_counts,
-            spans,
-            lists,
-            &pages[here..here + size],
+            paged,
+            &paged.pages[here..end],
         );
         next = written.place;
         full = written.filled;
-        here += size;
-        pages_left -= 1;
+        here = end;
     }
     next
 }

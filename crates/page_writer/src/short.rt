@@ -4,7 +4,6 @@ ghost use Rattle.definition.specs.Sheet.{Form};
 ghost use Rattle.tables.specs.Pages.{Pages};
 ghost use Rattle.tables.specs.Sizes.{day_room};
 
-use casts::u16_to_usize;
 use tables::page::page_size;
 
 // Whether no page's list has more than 4 rules: its days have 257 words at most. Only how much is cleared hangs on it.
@@ -14,14 +13,12 @@ pub fn all_short(lists: &[u16], pages: &[u16], count: usize) -> bool
         → Pages form states counts spans lists.now pages.now 257 count 0 }
 {
     let mut here: usize = 0;
-    let mut pages_left = count;
-    while pages_left > 0 {
-        let place = u16_to_usize(pages[here]) - 1;
+    for _page in 0..count {
+        let place = usize::from(pages[here]) - 1;
         if lists[place * tables::LIST_PLACES] > 4 {
             return false;
         }
         here += page_size(pages, here);
-        pages_left -= 1;
     }
     true
 }

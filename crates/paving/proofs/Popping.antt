@@ -13,8 +13,6 @@ use Rattle.laws.proofs.Lists.{OnSome-first_of}
 use Rattle.grid.specs.Group.{Set, at, Group, agree, grow, pop}
 use Rattle.grid.proofs.Part.{Part, pop-part}
 use Rattle.paving.specs.Grid.{width_of, axes, grid, chosen, in_class, pop_at, popped, pop_from, good_at, paint, mark_set, marked, answer}
-use Rattle.paving.specs.declared.Popped.{Popped}
-use Rattle.paving.specs.declared.Popped.TheVariants.{Value, Nothing}
 use Rattle.paving.proofs.Room.{from_cons, at-grid}
 use Rattle.paving.proofs.Marks.{keep-ext, paint-ext, chosen-paint}
 
@@ -71,7 +69,7 @@ chosen-mark sizes s (suc l) base (E ∷ S) p h =
     (chosen-mark sizes s l (base + n) S p.1 (omega arith))
 
 -- the answer and the marks together are the group
-pub popped-of : (sizes s s' : List ℕ) (l base : ℕ) (o : Option (Group ℕ ℕ)) (f : Popped) → OnSome (λ g. Part (axes sizes l) g.1) o
+pub popped-of : (sizes s s' : List ℕ) (l base : ℕ) (o : Option (Group ℕ ℕ)) (f : Option ℕ) → OnSome (λ g. Part (axes sizes l) g.1) o
     → base + width_of sizes l ≤ length s
     → f ≡ answer o → s' ≡ marked sizes l base o s → popped f (chosen s' sizes l base) ≡ o
 unfolding popped answer marked
@@ -83,7 +81,7 @@ first_step : (h : ℕ → Option (Group ℕ ℕ)) (x : ℕ) (xs : List ℕ) (o :
 unfolding first_of
 first_step h x xs o e = rw (e, first_of)
 
-pub popped-pop : (cells classes sizes : List ℕ) (k l node base : ℕ) (s s' : List ℕ) (f : Popped) → base + width_of sizes l ≤ length s
+pub popped-pop : (cells classes sizes : List ℕ) (k l node base : ℕ) (s s' : List ℕ) (f : Option ℕ) → base + width_of sizes l ≤ length s
     → f ≡ answer (pop_at cells classes sizes k l node) → s' ≡ marked sizes l base (pop_at cells classes sizes k l node) s
     → popped f (chosen s' sizes l base) ≡ pop_at cells classes sizes k l node
 unfolding pop_at
@@ -92,7 +90,7 @@ popped-pop cells classes sizes k l node base s s' f =
 
 module _ (cells classes sizes : List ℕ) (k : ℕ) where
   pub pop-leaf-yes : (marks : List ℕ) (left node base : ℕ) (b : Bool) → left ≡ 0 → b ≡ in_class classes k (get_or cells node 0) → b ≡ true
-      → (Value (get_or cells node 0) ≡ answer (pop_at cells classes sizes k left node))
+      → (some (get_or cells node 0) ≡ answer (pop_at cells classes sizes k left node))
       × (marks ≡ marked sizes left base (pop_at cells classes sizes k left node) marks)
   unfolding pop_at pop axes grid answer marked mark_set
   pop-leaf-yes marks left node base b e h q = rw (e, sym h ∙ q, pop) (refl, refl)
@@ -114,18 +112,18 @@ module _ (cells classes sizes : List ℕ) (k : ℕ) where
         OnSome-first_of (λ g. Part (axes sizes i) g.1) (λ x. pop eqb (in_class classes k) (axes sizes i) (at (grid cells sizes (suc i) node) x))
         (λ x. pop-part eqb (in_class classes k) (axes sizes i) (at (grid cells sizes (suc i) node) x)) (from 0 (get_or sizes i 0 - 0))
 
-  module _ (left i node base n : ℕ) (el : left ≡ suc i) (e : n ≡ get_or sizes i 0) (f : Popped) (s s₁ : List ℕ)
+  module _ (left i node base n : ℕ) (el : left ≡ suc i) (e : n ≡ get_or sizes i 0) (f : Option ℕ) (s s₁ : List ℕ)
       (h : f ≡ answer (pop_from cells sizes i node (in_class classes k) 0))
       (m : s₁ ≡ marked sizes i (base + n) (pop_from cells sizes i node (in_class classes k) 0) s) where
-    pub pop-node-some : (v : ℕ) (s₂ : List ℕ) → f ≡ Value v → base + n + width_of sizes i ≤ length s
+    pub pop-node-some : (v : ℕ) (s₂ : List ℕ) → f ≡ some v → base + n + width_of sizes i ≤ length s
         → s₂ ≡ paint (good_at cells sizes i node s₁ base v) base 0 n s₁
-        → (Value v ≡ answer (pop_at cells classes sizes k left node))
+        → (some v ≡ answer (pop_at cells classes sizes k left node))
         × (s₂ ≡ marked sizes left base (pop_at cells classes sizes k left node) s)
     unfolding answer marked grow mark_set good_at
     pop-node-some v s₂ q len b = rw (el, pop-unfold i node) (go (pop_from cells sizes i node (in_class classes k) 0) (pop_from-part i node) h m)
       where
         go : (o : Option (Group ℕ ℕ)) → OnSome (λ g. Part (axes sizes i) g.1) o → f ≡ answer o → s₁ ≡ marked sizes i (base + n) o s
-            → (Value v ≡ answer (grow eqb (from 0 (get_or sizes i 0)) (grid cells sizes (suc i) node) o))
+            → (some v ≡ answer (grow eqb (from 0 (get_or sizes i 0)) (grid cells sizes (suc i) node) o))
             × (s₂ ≡ marked sizes (suc i) base (grow eqb (from 0 (get_or sizes i 0)) (grid cells sizes (suc i) node) o) s)
         go none p a c = absurd (let z : ◌≡◌ {A = ℕ} 0 1 = cc in omega arith)
         go (some g) p a c =
@@ -142,7 +140,7 @@ module _ (cells classes sizes : List ℕ) (k : ℕ) where
             )
 
   module _ (i node base n j : ℕ) (e : n ≡ get_or sizes i 0) where
-    module _ (f : Popped) (s s₁ : List ℕ) (h : j < n) (a : f ≡ answer (pop_at cells classes sizes k i (node * n + j)))
+    module _ (f : Option ℕ) (s s₁ : List ℕ) (h : j < n) (a : f ≡ answer (pop_at cells classes sizes k i (node * n + j)))
         (m : s₁ ≡ marked sizes i (base + n) (pop_at cells classes sizes k i (node * n + j)) s) where
       step : pop_from cells sizes i node (in_class classes k) j ≡ elim (pop_at cells classes sizes k i (node * n + j)) [
         | none ↦ pop_from cells sizes i node (in_class classes k) (j + 1)
@@ -155,20 +153,20 @@ module _ (cells classes sizes : List ℕ) (k : ℕ) where
           (pop_at cells classes sizes k i (node * n + j))
           (ap (pop eqb (in_class classes k) (axes sizes i)) (at-grid cells sizes i node j (omega arith) ∙ ap (λ m. grid cells sizes i (node * m + j)) (sym e)))
 
-      pub pop-columns-hit : (v : ℕ) → f ≡ Value v
-          → (Value v ≡ answer (pop_from cells sizes i node (in_class classes k) j)) ×
+      pub pop-columns-hit : (v : ℕ) → f ≡ some v
+          → (some v ≡ answer (pop_from cells sizes i node (in_class classes k) j)) ×
           (s₁ ≡ marked sizes i (base + n) (pop_from cells sizes i node (in_class classes k) j) s)
       unfolding answer marked
       pop-columns-hit v q = rw step (go (pop_at cells classes sizes k i (node * n + j)) a m)
         where
           go : (o : Option (Group ℕ ℕ)) → f ≡ answer o → s₁ ≡ marked sizes i (base + n) o s
-              → (Value v ≡ answer (elim o [ none ↦ pop_from cells sizes i node (in_class classes k) (j + 1) | some g ↦ some g ]))
+              → (some v ≡ answer (elim o [ none ↦ pop_from cells sizes i node (in_class classes k) (j + 1) | some g ↦ some g ]))
               × (s₁ ≡ marked sizes i (base + n) (elim o [ none ↦ pop_from cells sizes i node (in_class classes k) (j + 1) | some g ↦ some g ]) s)
           go none b c = absurd (let z : ◌≡◌ {A = ℕ} 0 1 = cc in omega arith)
           go (some g) b c = (sym q ∙ b, c)
 
       -- a column without a group: the search goes on as if it had begun behind it
-      pub pop-columns-miss : f ≡ Nothing → (pop_from cells sizes i node (in_class classes k) (j + 1) ≡ pop_from cells sizes i node (in_class classes k) j) × (s₁ ≡ s)
+      pub pop-columns-miss : f ≡ none → (pop_from cells sizes i node (in_class classes k) (j + 1) ≡ pop_from cells sizes i node (in_class classes k) j) × (s₁ ≡ s)
       unfolding answer marked
       pop-columns-miss q = rw step (go (pop_at cells classes sizes k i (node * n + j)) a m)
         where
@@ -180,6 +178,6 @@ module _ (cells classes sizes : List ℕ) (k : ℕ) where
           go (some h) b c = absurd (let z : ◌≡◌ {A = ℕ} 0 1 = cc in omega arith)
 
 -- what the search finds from some column on is what it finds from the first one on, where the columns passed have no group
-pub found_first : (sizes : List ℕ) (i base : ℕ) (o first : Option (Group ℕ ℕ)) (f : Popped) (s s₀ s₁ : List ℕ) → o ≡ first → s ≡ s₀
+pub found_first : (sizes : List ℕ) (i base : ℕ) (o first : Option (Group ℕ ℕ)) (f : Option ℕ) (s s₀ s₁ : List ℕ) → o ≡ first → s ≡ s₀
     → (f ≡ answer o) × (s₁ ≡ marked sizes i base o s) → (f ≡ answer first) × (s₁ ≡ marked sizes i base first s₀)
 found_first sizes i base o first f s s₀ s₁ p q h = (h.0 ∙ ap answer p, h.1 ∙ ap₂ (marked sizes i base) p q)

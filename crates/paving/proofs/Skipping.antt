@@ -13,7 +13,6 @@ use borrow.Author.Tests.{ltb-true, ltb-false}
 use Rattle.laws.specs.Lists.{from, first_of, any_of}
 use Rattle.grid.specs.Group.{Set, Map, at, pop, grow, clear}
 use Rattle.paving.specs.Grid.{size_of, axes, grid, in_class, NoneFrom, pop_at, pop_from, marked, answer, Cleared}
-use Rattle.paving.specs.declared.Popped.TheVariants.{Nothing}
 use Rattle.paving.proofs.Room.{from_end, size-pos, at-grid}
 use Rattle.paving.proofs.Popping.{pop-unfold, pop-columns-miss}
 
@@ -58,7 +57,7 @@ module _ (cells classes sizes : List ℕ) (k : ℕ) where
       let n = get_or sizes i 0 in
       let z : suc c ≡ c + 1 = omega arith in
       ap (pop_from cells sizes i node (in_class classes k)) z
-      ∙ (pop-columns-miss cells classes sizes k i node 0 n c refl Nothing [] [] (omega arith) (ap answer (sym (p c (omega arith))))
+      ∙ (pop-columns-miss cells classes sizes k i node 0 n c refl none [] [] (omega arith) (ap answer (sym (p c (omega arith))))
       (ap (λ o. marked sizes i (0 + n) o []) (sym (p c (omega arith)))) refl).0
       ∙ passed i node c (omega arith) (λ x l. p x (omega arith))
 

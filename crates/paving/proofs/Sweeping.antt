@@ -3,7 +3,7 @@
 use mathlib.Core.Path.{◌≡◌, refl, sym, ap, ◌∙◌, subst}
 use mathlib.Core.Bool.{Bool, true, false, cond}
 use mathlib.Core.List.{List, [], ◌∷◌, ◌++◌, map}
-use mathlib.Core.Option.{some}
+use mathlib.Core.Option.{Option, some, none}
 use Prim.Native.Nat.{ℕ, suc, ◌+◌, ◌≤◌, ◌<◌}
 use native.Mathlib.Omega.{arith}
 use lib.Dec.{eqb, ltb, leb}
@@ -16,8 +16,6 @@ use Rattle.grid.proofs.Value.{tally, pop-less}
 use Rattle.grid.proofs.Steps.{sweep-unroll}
 use Rattle.paving.specs.Grid.{axes, grid, lowest_class, in_class, pop_at, popped, marked, Cleared}
 use Rattle.paving.specs.Sweep.{swept, classes_from, groups_from, emitted, left_after, left_from, mark_group, TakenOut}
-use Rattle.paving.specs.declared.Popped.{Popped}
-use Rattle.paving.specs.declared.Popped.TheVariants.{Value, Nothing}
 use Rattle.paving.proofs.Room.{from_cons, from_end}
 
 -- how many cells are of a class: the measure of the loop
@@ -50,12 +48,12 @@ module _ (cells classes sizes : List ℕ) (k l : ℕ) (z : get_or classes 0 0 �
   unfolding swept pop_at
   unroll = sweep-unroll exact-eqb exact-eqb 0 (axes sizes l) (in_class classes k) unmatched (grid cells sizes l 0)
 
-  swept_none : (f : Popped) (S : Set ℕ) → popped f S ≡ pop_at cells classes sizes k l 0 → f ≡ Nothing → swept cells classes sizes k l ≡ ([], grid cells sizes l 0)
+  swept_none : (f : Option ℕ) (S : Set ℕ) → popped f S ≡ pop_at cells classes sizes k l 0 → f ≡ none → swept cells classes sizes k l ≡ ([], grid cells sizes l 0)
   unfolding popped take_out
   swept_none f S h q = unroll ∙ ap (take_out eqb eqb 0 (grid cells sizes l 0) (λ f. sweep eqb eqb 0 (in_class classes k) (axes sizes l) f)) (sym (rw q at h))
 
   -- nothing popped: nothing more to take in, and the cells are what is left
-  pub loop-end : {T : Type 0} (emit : T → Group ℕ ℕ → T) (f : Popped) (S : Set ℕ) → popped f S ≡ pop_at cells classes sizes k l 0 → f ≡ Nothing
+  pub loop-end : {T : Type 0} (emit : T → Group ℕ ℕ → T) (f : Option ℕ) (S : Set ℕ) → popped f S ≡ pop_at cells classes sizes k l 0 → f ≡ none
       → (s r : T) (m : Map ℕ ℕ)
       → emitted emit s (swept cells classes sizes k l).0 ≡ r → (swept cells classes sizes k l).1 ≡ m → (s ≡ r) × (grid cells sizes l 0 ≡ m)
   unfolding emitted
@@ -63,7 +61,7 @@ module _ (cells classes sizes : List ℕ) (k l : ℕ) (z : get_or classes 0 0 �
       let e = sym (swept_none f S h q) in
       (ap (λ p. emitted emit s p.0) e ∙ g, ap (λ p. p.1) e ∙ w)
 
-  module _ (after : List ℕ) (f : Popped) (v : ℕ) (S : Set ℕ) (h : popped f S ≡ pop_at cells classes sizes k l 0) (q : f ≡ Value v)
+  module _ (after : List ℕ) (f : Option ℕ) (v : ℕ) (S : Set ℕ) (h : popped f S ≡ pop_at cells classes sizes k l 0) (q : f ≡ some v)
       (c : Cleared cells after sizes l 0 S) where
     one : pop_at cells classes sizes k l 0 ≡ some (v, S)
     unfolding popped

@@ -4,8 +4,6 @@ use Rattle.std.specs.Prelude.{◌≡◌, Bool, false, cond, List, [], ◌∷◌,
 use Rattle.std.proofs.Math.Option.{Option, none, some}
 use Rattle.laws.specs.Lists.{from, first_of, any_of, keep}
 use Rattle.grid.specs.Group.{Set, Map, at, Group, agree, pop, clear}
-use Rattle.paving.specs.declared.Popped.{Popped}
-use Rattle.paving.specs.declared.Popped.TheVariants.{Value, Nothing}
 
 -- how many cells lie below a node with l dimensions left, and how many intervals these dimensions have
 unfoldable pub size_of : List ℕ → ℕ → ℕ
@@ -59,10 +57,10 @@ in_class classes k v = cond (ltb (get_or classes v 0) (lowest_class k)) false (l
 unfoldable pub pop_at : List ℕ → List ℕ → List ℕ → ℕ → ℕ → ℕ → Option (Group ℕ ℕ)
 pop_at cells classes sizes k l node = pop eqb (in_class classes k) (axes sizes l) (grid cells sizes l node)
 
--- an answer with the set of the marks
-unfoldable pub popped : Popped → Set ℕ → Option (Group ℕ ℕ)
-popped (Value v) S = some (v, S)
-popped Nothing S = none
+-- a group by its value, if there is one, and the set of the marks
+unfoldable pub popped : Option ℕ → Set ℕ → Option (Group ℕ ℕ)
+popped (some v) S = some (v, S)
+popped none S = none
 
 -- no cell from the first one up to the second, excluded, passes
 unfoldable pub NoneFrom : List ℕ → (ℕ → Bool) → ℕ → ℕ → Type 0
@@ -93,10 +91,10 @@ unfoldable pub marked : List ℕ → ℕ → ℕ → Option (Group ℕ ℕ) → 
 marked sizes l base none s = s
 marked sizes l base (some g) s = mark_set sizes l base g.1 s
 
--- a group's value as an answer
-unfoldable pub answer : Option (Group ℕ ℕ) → Popped
-answer none = Nothing
-answer (some g) = Value g.0
+-- a group's value, if there is one
+unfoldable pub answer : Option (Group ℕ ℕ) → Option ℕ
+answer none = none
+answer (some g) = some g.0
 
 -- `after` is `cells` with a set below a node emptied, as seen from every node with l dimensions left
 abbrev pub Cleared : List ℕ → List ℕ → List ℕ → ℕ → ℕ → Set ℕ → Type 0

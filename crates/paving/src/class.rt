@@ -2,14 +2,11 @@
 ghost use Rattle.std.specs.Prelude.{◌≡◌, get_or};
 ghost use Rattle.paving.specs.Grid.{lowest_class, in_class};
 
-use casts::u16_to_usize;
-
 // The first class of a day number, 0 past the table.
 fn class_of(classes: &[u8], value: u16) -> u8
     ensures { result ≡ get_or classes.now value 0 }
 {
-    let k = u16_to_usize(value);
-    if k < classes.len() { classes[k] } else { 0 }
+    classes.get(usize::from(value)).copied().unwrap_or(0)
 }
 
 // A class holds the days whose first class is this one, the class itself, or one between them.
@@ -27,9 +24,5 @@ pub fn in_class(classes: &[u8], class: u8, value: u16) -> bool
     ensures { result ≡ in_class classes.now class value }
 {
     let own = class_of(classes, value);
-    if own < lowest_class(class) {
-        false
-    } else {
-        own <= class
-    }
+    lowest_class(class) <= own && own <= class
 }

@@ -8,10 +8,3 @@
 pub mod class;
 pub mod place;
 pub mod row;
-
-// The value of a popped group; its set is in the marks.
-#[derive(Clone, Copy)]
-pub enum Popped {
-    Value(u16),
-    Nothing,
-}

@@ -9,10 +9,9 @@ ghost use Rattle.paving_pages.specs.Pages.{CutRows, marked_items, laid_items, st
 ghost use Rattle.tables.specs.Items.{end_numbers};
 
 use box_groups::pop_group;
-use box_groups::search::next_box;
-use casts::u16_to_usize;
 use date_items::put_items;
 use paving::place::size_of;
+use paving::row::next_box;
 use plain_boxes::width_of;
 
 // Appends the items of the marked set, sort after sort, and puts how many each sort has from another place on. The years' marks stand last.
@@ -35,22 +34,20 @@ fn put_sorts(
 {
     let mut base = width_of(sizes, dims_left);
     let mut next = start;
-    let mut sort = 0;
-    while sort < dims_left {
-        let width = u16_to_usize(sizes[sort]);
+    for sort in 0..dims_left {
+        let width = usize::from(sizes[sort]);
         base -= width;
         let item_count = put_items(
             marks,
             base,
             width,
             cuts,
-            u16_to_usize(row_starts[sort]),
+            usize::from(row_starts[sort]),
             pages,
             next,
         );
         pages[counts_at + sort] = item_count as u16;
         next += 2 * item_count;
-        sort += 1;
     }
     next
 }
@@ -116,6 +113,7 @@ fn pop_class(
     let columns = width_of(sizes, 4);
     let mut next = start;
     let mut first = next_box(cells, classes, class, 0, end);
+    // From group to group, not box by box: `for` is no plainer.
     while first < end {
         let value = cells[first];
         pop_group(cells, sizes, marks, boxes, first, columns);
@@ -145,12 +143,10 @@ pub fn pop_pages(
         cells.new marks.new pages.new result }
 {
     let mut next = 0;
-    let mut class: u8 = 1;
-    while class <= 5 {
+    for class in 1..=5u8 {
         next = pop_class(
             cells, classes, sizes, marks, boxes, row_starts, cuts, pages, class, next,
         );
-        class += 1;
     }
     next
 }

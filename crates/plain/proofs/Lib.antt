@@ -1,3 +1,2 @@
 pub mod Own
 pub mod Folding
-pub mod Lent

@@ -19,17 +19,19 @@ ghost use Rattle.definition.specs.Sheet.{Form};
 ghost use Rattle.paving.specs.Grid.{size_of};
 ghost use Rattle.tables.specs.Rules.{AllCommented, RuleTimes};
 ghost use Rattle.tables.specs.Pages.{Paged};
-ghost use Rattle.tables.specs.ToDraw.{ToDraw};
+ghost use Rattle.tables.specs.ToDraw.{Lent};
 ghost use Rattle.paved.specs.Paved.{Paves};
 ghost use Rattle.plain_lists.specs.Listing.{OwnLists};
 ghost use Rattle.plain.specs.Room.{PlainRoom};
 
+use answers::Refusal;
+use buffers::{BOX_CLASSES, MARKS, zeros};
 use number_lists::number_lists;
 use page_count::count_pages;
-use paved::Paved;
 use paving::place::size_of;
 use plain_groups::pop_pages;
-use plain_lists::{Listed, list_rules};
+use plain_lists::list_rules;
+use tables::lent::{Cuts, DrainedRules};
 
 // From lists to pages: days are numbered, box by box, and the groups of boxes that have one day are written; answers how many pages there are. `numbers` has
 // a place for the empty list, and then one for each box.
@@ -51,8 +53,8 @@ fn fold_lists(
         → Paged form states.now span_counts.now spans.now lists.now pages.new result rs }
 {
     let boxes = size_of(sizes, 4);
-    let mut classes = buffers::box_classes();
-    let mut marks = buffers::marks();
+    let mut classes: [u8; BOX_CLASSES] = zeros();
+    let mut marks: [u8; MARKS] = zeros();
     // No page is written yet, so the buffer of the pages holds the hashes of the days.
     number_lists(
         states,
@@ -64,9 +66,8 @@ fn fold_lists(
         numbers,
         &mut classes,
     );
-    let end = boxes + 1;
     let stop = pop_pages(
-        &mut numbers[1..end],
+        &mut numbers[1..boxes + 1],
         &classes,
         sizes,
         &mut marks,
@@ -77,53 +78,31 @@ fn fold_lists(
     count_pages(pages, stop)
 }
 
-// From the tables of the drained rules and the rows of their cuts to pages of the folded rules, in buffers that are lent; or 6 or 14.
+// From the tables of the drained rules and the rows of their cuts to pages of the folded rules, in buffers that are lent: answers how many there are, or refuses (6,
+// 14).
 pub fn pave(
-    states: &[u32],
-    span_counts: &[u8],
-    spans: &[u64],
-    replacing: &[u8],
-    range_counts: &[u16],
-    ranges: &[u16],
-    row_starts: &[u16],
-    sizes: &[u16],
-    cuts: &[u16],
+    rules: DrainedRules,
+    cuts: Cuts,
     lists: &mut [u16],
     numbers: &mut [u16],
     pages: &mut [u16],
-) -> Paved
-    requires to_draw { (rs : List Rule) × ToDraw states.now span_counts.now spans.now replacing.now range_counts.now ranges.now row_starts.now sizes.now cuts.now rs }
-    requires plain_room { PlainRoom lists.old (length numbers.old) (length pages.old) sizes.now }
-    ensures { (rs : List Rule)
-        → ToDraw states.now span_counts.now spans.now replacing.now range_counts.now ranges.now
-        row_starts.now sizes.now cuts.now rs
-        → Paves states.now span_counts.now spans.now lists.new pages.new rs result }
+) -> Result<usize, Refusal>
+    requires to_draw { (rs : List Rule) × Lent rules cuts rs }
+    requires plain_room { PlainRoom lists.old (length numbers.old) (length pages.old) cuts.sizes.now }
+    ensures { (rs : List Rule) → Lent rules.entry cuts.entry rs
+        → Paves rules.entry.states.now rules.entry.span_counts.now rules.entry.spans.now lists.new pages.new rs result }
 {
-    let listed = list_rules(
+    list_rules(lists, rules, cuts)?;
+    let count = fold_lists(
+        rules.states,
+        rules.span_counts,
+        rules.spans,
+        cuts.row_starts,
+        cuts.sizes,
+        cuts.cuts,
         lists,
-        row_starts,
-        sizes,
-        cuts,
-        replacing,
-        range_counts,
-        ranges,
-        states.len(),
+        numbers,
+        pages,
     );
-    match listed {
-        Listed::Refused(code, rule) => Paved::Refused(code, rule),
-        Listed::Held => {
-            let count = fold_lists(
-                states,
-                span_counts,
-                spans,
-                row_starts,
-                sizes,
-                cuts,
-                lists,
-                numbers,
-                pages,
-            );
-            Paved::Pages(count)
-        }
-    }
+    Ok(count)
 }

@@ -8,7 +8,7 @@ use native.Mathlib.Nat.{div-eq_of_lt}
 use native.Mathlib.Omega.{arith}
 use lib.ListN.{length, get_or}
 use Rattle.paving.specs.Grid.{Node, Room, size_of, width_of, chosen, in_class, NoneFrom, pop_at, popped, pop_from, good_at, paint, marked, answer}
-use Rattle.paving.specs.declared.Popped.TheVariants.{Value, Nothing}
+use mathlib.Core.Option.{some, none}
 use Rattle.paving.proofs.Room.{node-child}
 use Rattle.paving.proofs.Popping.{popped-pop, pop-leaf-yes, pop-columns-hit, pop-node-some, found_first}
 use Rattle.paving.proofs.Skipping.{columns-before, before-none, skips}
@@ -46,69 +46,53 @@ pub grown-begin : (cells sizes marks : List ℕ) (first i n size all left : ℕ)
 unfolding grown base_of
 grown-begin cells sizes marks first i n size all left h lt e z a w r =
     let one : i + 1 ≡ suc i = omega arith in
-    let none : n - 0 ≡ n = omega arith in
-    rw (none, e, z, a, w, one) (block_room (length cells) (length marks) sizes first (suc i) h lt r, refl)
+    let same : n - 0 ≡ n = omega arith in
+    rw (same, e, z, a, w, one) (block_room (length cells) (length marks) sizes first (suc i) h lt r, refl)
 
 -- ## The group of a box
 module _ (cells sizes : List ℕ) (first : ℕ) where
   pub group-begin : (marks : List ℕ) (base : ℕ) → MarkedGroup cells sizes first 0 (first / size_of sizes 0) base marks marks
   unfolding MarkedGroup
-  group-begin marks base = rw (node-whole sizes first) (λ classes class none hit. pop-leaf-yes cells classes sizes class marks 0 first base true refl (sym hit) refl)
+  group-begin marks base = rw (node-whole sizes first) (λ classes class missed hit. pop-leaf-yes cells classes sizes class marks 0 first base true refl (sym hit) refl)
 
   -- a dimension more: the block is taken that holds the block so far, and the marks stand before those so far
   pub group-more : (i : ℕ) (s s₁ s₂ : List ℕ) → i < 4 → 1 ≤ get_or sizes i 0 → width_of sizes 4 ≤ length s
       → MarkedGroup cells sizes first i (first / size_of sizes i) (base_of sizes i) s s₁ → s₂ ≡ grown cells sizes first i s₁
       → MarkedGroup cells sizes first (suc i) (first / size_of sizes (suc i)) (base_of sizes (suc i)) s s₂
   unfolding MarkedGroup grown base_of
-  group-more i s s₁ s₂ lt some room g p classes class none hit =
+  group-more i s s₁ s₂ lt filled room g p classes class missed hit =
       let v = get_or cells first 0 in
       let n = get_or sizes i 0 in
       let j = digit_of sizes first i in
       let node = first / size_of sizes (suc i) in
       let base = base_of sizes (suc i) in
-      let low = digit_low sizes first i some in
+      let low = digit_low sizes first i filled in
       let next = width-next sizes i (suc i) refl in
       let all = width-le sizes (suc i) 4 lt in
       let back : base_of sizes i ≡ base + n = omega arith in
       let block = sym (node-digit sizes first i) in
-      let below = g classes class none hit in
-      let here = pop-columns-hit cells classes sizes class i node base n j refl (Value v) s s₁ low
+      let below = g classes class missed hit in
+      let here = pop-columns-hit cells classes sizes class i node base n j refl (some v) s s₁ low
       (below.0 ∙ ap (λ b. answer (pop_at cells classes sizes class i b)) block)
       (below.1 ∙ ap₂ (λ m b. marked sizes i m (pop_at cells classes sizes class i b) s) back block) v refl in
-      let passed = skips cells classes sizes class first none i node n j refl (omega arith)
+      let passed = skips cells classes sizes class first missed i node n j refl (omega arith)
       (columns-before (node * n) (size_of sizes i) first (first / size_of sizes i) (size_of sizes i) j refl refl (omega arith)) in
       let found = found_first sizes i (base + n) (pop_from cells sizes i node (in_class classes class) j) (pop_from cells sizes i node (in_class classes class) 0)
-      (Value v) s s s₁ passed refl here in
-      pop-node-some cells classes sizes class (suc i) i node base n refl refl (Value v) s s₁ found.0 found.1 v s₂ refl (omega arith) p
-
-  -- years, months, weeks and weekdays, one after the other
-  pub group-all : (len : ℕ) (s years months weeks weekdays : List ℕ) → first < size_of sizes 4 → Room len (length s) sizes 4 0 0 → years ≡ grown cells sizes first 0 s
-      → months ≡ grown cells sizes first 1 years → weeks ≡ grown cells sizes first 2 months → weekdays ≡ grown cells sizes first 3 weeks
-      → MarkedGroup cells sizes first 4 0 0 s weekdays
-  unfolding base_of
-  group-all len s years months weeks weekdays lt r e₀ e₁ e₂ e₃ =
-      let some = r.column.filled in
-      let room : width_of sizes 4 ≤ length s = omega (arith, r.marked) in
-      let whole : first / size_of sizes 4 ≡ 0 = div-eq_of_lt lt in
-      let start : base_of sizes 4 ≡ 0 = omega arith in
-      let g₁ = group-more 0 s s years (omega arith) (some 0 (omega arith)) room (group-begin s (base_of sizes 0)) e₀ in
-      let g₂ = group-more 1 s years months (omega arith) (some 1 (omega arith)) room g₁ e₁ in
-      let g₃ = group-more 2 s months weeks (omega arith) (some 2 (omega arith)) room g₂ e₂ in
-      let g₄ = group-more 3 s weeks weekdays (omega arith) (some 3 (omega arith)) room g₃ e₃ in
-      rw (whole, start) at g₄
+      (some v) s s s₁ passed refl here in
+      pop-node-some cells classes sizes class (suc i) i node base n refl refl (some v) s s₁ found.0 found.1 v s₂ refl (omega arith) p
 
 -- ## The first group of a class
-module _ (cells classes sizes : List ℕ) (class l first : ℕ) (none : NoneFrom cells (in_class classes class) 0 first) where
+module _ (cells classes sizes : List ℕ) (class l first : ℕ) (missed : NoneFrom cells (in_class classes class) 0 first) where
   pub first_group : (marks marks₁ : List ℕ) → width_of sizes l ≤ length marks → MarkedGroup cells sizes first l 0 0 marks marks₁
       → in_class classes class (get_or cells first 0) ≡ true
-      → (popped (Value (get_or cells first 0)) (chosen marks₁ sizes l 0) ≡ pop_at cells classes sizes class l 0)
+      → (popped (some (get_or cells first 0)) (chosen marks₁ sizes l 0) ≡ pop_at cells classes sizes class l 0)
       × (marks₁ ≡ marked sizes l 0 (pop_at cells classes sizes class l 0) marks)
   unfolding MarkedGroup
   first_group marks marks₁ room g hit =
-      let found = g classes class none hit in
-      (popped-pop cells classes sizes class l 0 0 marks marks₁ (Value (get_or cells first 0)) (omega arith) found.0 found.1, found.1)
+      let found = g classes class missed hit in
+      (popped-pop cells classes sizes class l 0 0 marks marks₁ (some (get_or cells first 0)) (omega arith) found.0 found.1, found.1)
 
   -- all boxes passed: there is none
-  pub no-group : size_of sizes l ≤ first → popped Nothing [] ≡ pop_at cells classes sizes class l 0
+  pub no-group : size_of sizes l ≤ first → popped none [] ≡ pop_at cells classes sizes class l 0
   unfolding popped
-  no-group h = sym (before-none cells classes sizes class first none l 0 (omega arith))
+  no-group h = sym (before-none cells classes sizes class first missed l 0 (omega arith))

@@ -1,7 +1,7 @@
 -- The group of a box, whatever the class that the box is the first one of; and one step of growing it.
 use Rattle.std.specs.Prelude.{◌≡◌, true, List, ℕ, suc, ◌-◌, ◌/◌, get_or}
 use Rattle.paving.specs.Grid.{size_of, width_of, in_class, NoneFrom, pop_at, good_at, paint, marked, answer}
-use Rattle.paving.specs.declared.Popped.TheVariants.{Value}
+use Rattle.std.proofs.Math.Option.{some}
 
 -- where the marks of the last l of the four dimensions begin
 unfoldable pub base_of : List ℕ → ℕ → ℕ
@@ -18,4 +18,4 @@ grown cells sizes first i marks =
 unfoldable pub MarkedGroup : List ℕ → List ℕ → ℕ → ℕ → ℕ → ℕ → List ℕ → List ℕ → Type 0
 MarkedGroup cells sizes first l node base marks after =
     (classes : List ℕ) (class : ℕ) → NoneFrom cells (in_class classes class) 0 first → in_class classes class (get_or cells first 0) ≡ true
-    → (Value (get_or cells first 0) ≡ answer (pop_at cells classes sizes class l node)) × (after ≡ marked sizes l base (pop_at cells classes sizes class l node) marks)
+    → (some (get_or cells first 0) ≡ answer (pop_at cells classes sizes class l node)) × (after ≡ marked sizes l base (pop_at cells classes sizes class l node) marks)

@@ -6,7 +6,6 @@ ghost use Rattle.std.specs.Prelude.{◌≡◌, ℕ, ◌≤◌, ◌<◌, ◌^◌,
 ghost use Rattle.paving.specs.Grid.{size_of, width_of};
 ghost use Rattle.plain_boxes.specs.Digits.{digit_of};
 
-use casts::u16_to_usize;
 use paving::place::size_of;
 
 // The interval of a box in a dimension: 0 years, 1 months, 2 weeks, 3 weekdays.
@@ -15,8 +14,7 @@ pub fn digit(sizes: &[u16], box_index: usize, dimension: usize) -> usize
     ensures { result ≡ digit_of sizes.now box_index dimension }
 {
     let below = size_of(sizes, dimension);
-    let width = u16_to_usize(sizes[dimension]);
-    box_index / below % width
+    box_index / below % usize::from(sizes[dimension])
 }
 
 // How many intervals the last `dims_left` dimensions have.
@@ -25,10 +23,8 @@ pub fn width_of(sizes: &[u16], dims_left: usize) -> usize
     ensures { result ≡ width_of sizes.now dims_left }
 {
     let mut width = 0;
-    let mut dimension = 0;
-    while dimension < dims_left {
-        width = u16_to_usize(sizes[dimension]) + width;
-        dimension += 1;
+    for &size in &sizes[..dims_left] {
+        width = usize::from(size) + width;
     }
     width
 }

@@ -6,9 +6,7 @@ ghost use Rattle.paving.specs.Grid.{Room, size_of, width_of, grid, chosen, Clear
 ghost use Rattle.plain_boxes.specs.Digits.{digits};
 ghost use Rattle.plain_boxes.specs.Groups.{grown, MarkedGroup};
 
-use casts::u16_to_usize;
 use paving::place::size_of;
-use paving::row::bit;
 use plain_boxes::{digit, width_of};
 
 // Whether a box lies in marked intervals of the last `dims_left` dimensions, whose marks stand from `base` on.
@@ -17,14 +15,12 @@ fn is_marked(sizes: &[u16], marks: &[u8], box_index: usize, dims_left: usize, ba
     requires dims_left_in_bounds_2 { base + width_of sizes.now dims_left ≤ length marks.now }
     ensures { result ≡ inside eqb (chosen marks.now sizes.now dims_left base) (digits sizes.now dims_left box_index) }
 {
-    let mut dimension = dims_left;
     let mut place = base;
-    while dimension > 0 {
-        dimension -= 1;
+    for dimension in (0..dims_left).rev() {
         if marks[place + digit(sizes, box_index, dimension)] != 1 {
             return false;
         }
-        place += u16_to_usize(sizes[dimension]);
+        place += usize::from(sizes[dimension]);
     }
     true
 }
@@ -43,15 +39,11 @@ fn is_good(
     ensures { result ≡ agree eqb value (chosen marks.now sizes.now dims_left base) (grid cells.now sizes.now dims_left block) }
 {
     let size = size_of(sizes, dims_left);
-    let mut box_index = block * size;
-    let end = box_index + size;
-    while box_index < end {
-        if cells[box_index] != value {
-            if is_marked(sizes, marks, box_index, dims_left, base) {
-                return false;
-            }
+    let begin = block * size;
+    for box_index in begin..begin + size {
+        if cells[box_index] != value && is_marked(sizes, marks, box_index, dims_left, base) {
+            return false;
         }
-        box_index += 1;
     }
     true
 }
@@ -64,11 +56,10 @@ fn grow(cells: &[u16], sizes: &[u16], marks: &mut [u8], first: usize, dimension:
     ensures { marks.new ≡ grown cells.now sizes.now first dimension marks.old }
 {
     let value = cells[first];
-    let width = u16_to_usize(sizes[dimension]);
+    let width = usize::from(sizes[dimension]);
     let block = first / size_of(sizes, dimension + 1);
     let base = width_of(sizes, 4) - width_of(sizes, dimension + 1);
-    let mut interval = 0;
-    while interval < width {
+    for interval in 0..width {
         let good = is_good(
             cells,
             sizes,
@@ -78,8 +69,7 @@ fn grow(cells: &[u16], sizes: &[u16], marks: &mut [u8], first: usize, dimension:
             block * width + interval,
             base + width,
         );
-        marks[base + interval] = bit(good);
-        interval += 1;
+        marks[base + interval] = u8::from(good);
     }
 }
 
@@ -90,10 +80,9 @@ pub fn mark_group(cells: &[u16], sizes: &[u16], marks: &mut [u8], first: usize)
     requires first_bound { first < size_of sizes.now 4 }
     ensures { MarkedGroup cells.now sizes.now first 4 0 0 marks.old marks.new }
 {
-    grow(cells, sizes, marks, first, 0);
-    grow(cells, sizes, marks, first, 1);
-    grow(cells, sizes, marks, first, 2);
-    grow(cells, sizes, marks, first, 3);
+    for dimension in 0..4 {
+        grow(cells, sizes, marks, first, dimension);
+    }
 }
 
 // "Empty the box": every box in marked intervals of all dimensions has no day any more.
@@ -102,11 +91,9 @@ pub fn empty_group(cells: &mut [u16], sizes: &[u16], marks: &[u8])
     ensures { Cleared cells.old cells.new sizes.now 4 0 (chosen marks.now sizes.now 4 0) }
 {
     let boxes = size_of(sizes, 4);
-    let mut box_index = 0;
-    while box_index < boxes {
+    for box_index in 0..boxes {
         if is_marked(sizes, marks, box_index, 4, 0) {
             cells[box_index] = 0;
         }
-        box_index += 1;
     }
 }

@@ -43,6 +43,7 @@ fn pop_class(
     let boxes = size_of(sizes, 4);
     let mut next = start;
     let mut first = next_cell(cells, classes, class, 0, boxes);
+    // From group to group, not box by box: `for` is no plainer.
     while first < boxes {
         let value = cells[first];
         mark_group(cells, sizes, marks, first);
@@ -70,12 +71,10 @@ pub fn pop_pages(
         cells.new marks.new pages.new result }
 {
     let mut next = 0;
-    let mut class: u8 = 1;
-    while class <= 5 {
+    for class in 1..=5u8 {
         next = pop_class(
             cells, classes, sizes, marks, row_starts, cuts, pages, class, next,
         );
-        class += 1;
     }
     next
 }

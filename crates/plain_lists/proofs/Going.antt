@@ -12,7 +12,6 @@ use borrow.Author.Tests.{not-true, not-false}
 use Rattle.laws.specs.Lists.{from, All}
 use Rattle.laws.proofs.Lists.{All-map, All-append, any_none}
 use Rattle.laws.proofs.Numbers.{Mem-from}
-use Rattle.definition.specs.Field.{long_list, many_lists}
 use Rattle.definition.specs.Rule.{Rule}
 use Rattle.definition.specs.Sheet.{sheet_limits}
 use Rattle.definition.specs.Point.{combinations}
@@ -27,7 +26,8 @@ use Rattle.tables.specs.Cuts.{ToList}
 use Rattle.tables.specs.Lists.{list_of, Earlier, Within, box_of, start_of}
 use Rattle.tables.specs.Plain.{base, plain_step, overfull, some_overfull}
 use Rattle.tables.proofs.Lists.{list_length, box_in}
-use Rattle.plain_lists.specs.declared.Listed.TheVariants.{Held, Refused}
+use Rattle.std.specs.Prelude.{Ok, Err}
+use Rattle.answers.specs.declared.refusal.Reason.TheVariants.{LongList, ManyLists}
 use Rattle.plain_lists.specs.Covers.{covers_box, Coverable}
 use Rattle.plain_lists.specs.Draw.{HaveLists, Drew}
 use Rattle.plain_lists.specs.Listing.{Listing}
@@ -115,7 +115,7 @@ module _ (replacing counts ranges rows sizes table : List ℕ) (n : ℕ) (lists 
         (λ box l. (have.each box (omega arith)).short))
 
     -- 6
-    pub going-long : room ≡ false → (rs : List Rule) → ToList replacing counts ranges rows sizes table n rs → Listing rows sizes table lists' rs (Refused long_list k)
+    pub going-long : room ≡ false → (rs : List Rule) → ToList replacing counts ranges rows sizes table n rs → Listing rows sizes table lists' rs (Err record { reason = LongList; place = k })
     unfolding Listing
     going-long e rs t = first-long sheet_limits rs k (omega (arith, t.0.0.many)) (going rs t).1 (not-false (long sheet_limits rs k) (sym (told rs t) ∙ e))
 
@@ -150,7 +150,7 @@ module _ (replacing counts ranges rows sizes table : List ℕ) (n : ℕ) (lists 
             ∙ many-lists replacing counts ranges rows sizes table n rs t k here (list_of lists') (next rs t).list
 
         -- 14
-        pub going-many : over ≡ true → (rs : List Rule) → ToList replacing counts ranges rows sizes table n rs → Listing rows sizes table lists' rs (Refused many_lists k)
+        pub going-many : over ≡ true → (rs : List Rule) → ToList replacing counts ranges rows sizes table n rs → Listing rows sizes table lists' rs (Err record { reason = ManyLists; place = k })
         unfolding Listing
         going-many e rs t = first-many sheet_limits rs k (omega (arith, t.0.0.many)) (going rs t).1 (passes rs t) (sym (many-told rs t) ∙ e)
 
@@ -164,7 +164,7 @@ module _ (replacing counts ranges rows sizes table : List ℕ) (n : ℕ) (lists 
 -- ## The end
 pub going_end : (replacing counts ranges rows sizes table : List ℕ) (n : ℕ) (lists : List ℕ) (k boxes : ℕ) → boxes ≡ size_of sizes 4 → HaveLists lists boxes
     → size_of sizes 4 * list_places ≤ length lists → Going replacing counts ranges rows sizes table n lists k → n ≤ k → k ≤ n
-    → (rs : List Rule) → ToList replacing counts ranges rows sizes table n rs → Listing rows sizes table lists rs Held
+    → (rs : List Rule) → ToList replacing counts ranges rows sizes table n rs → Listing rows sizes table lists rs (Ok tt)
 unfolding Listing
 going_end replacing counts ranges rows sizes table n lists k boxes e have room going l m rs t =
     let all : k ≡ length rs = omega (arith, t.0.0.many) in

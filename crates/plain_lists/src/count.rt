@@ -8,7 +8,6 @@ ghost use Rattle.tables.specs.Lists.{list_of};
 ghost use Rattle.plain_lists.specs.Draw.{HasList, HaveLists};
 ghost use Rattle.plain_lists.specs.Kinds.{Kinds};
 
-use casts::u16_to_usize;
 use limits::lists_over;
 use tables::LIST_PLACES;
 
@@ -19,13 +18,11 @@ fn same_list(lists: &[u16], first: usize, second: usize) -> bool
 {
     let one = first * LIST_PLACES;
     let other = second * LIST_PLACES;
-    let end = u16_to_usize(lists[one]) + 1;
-    let mut place: usize = 0;
-    while place < end {
+    let end = usize::from(lists[one]) + 1;
+    for place in 0..end {
         if lists[one + place] != lists[other + place] {
             return false;
         }
-        place += 1;
     }
     true
 }
@@ -35,12 +32,10 @@ fn is_known(lists: &[u16], kinds: &[u16], count: usize, box_index: usize) -> boo
     requires { HasList lists.now box_index × (count ≤ length kinds.now) × ((kind : ℕ) → kind < count → HasList lists.now (get_or kinds.now kind 0)) }
     ensures { result ≡ any_of (λ kind. same_list eqb (list_of lists.now (get_or kinds.now kind 0)) (list_of lists.now box_index)) (from 0 count) }
 {
-    let mut kind: usize = 0;
-    while kind < count {
-        if same_list(lists, u16_to_usize(kinds[kind]), box_index) {
+    for kind in 0..count {
+        if same_list(lists, usize::from(kinds[kind]), box_index) {
             return true;
         }
-        kind += 1;
     }
     false
 }
@@ -50,10 +45,7 @@ fn note(lists: &[u16], kinds: &mut [u16], count: usize, box_index: usize) -> usi
     requires { HaveLists lists.now (box_index + 1) × (count < length kinds.old) × Kinds lists.now kinds.old count box_index }
     ensures { (result ≤ count + 1) × Kinds lists.now kinds.new result (box_index + 1) }
 {
-    if lists[box_index * LIST_PLACES] == 0 {
-        return count;
-    }
-    if is_known(lists, kinds, count, box_index) {
+    if lists[box_index * LIST_PLACES] == 0 || is_known(lists, kinds, count, box_index) {
         return count;
     }
     kinds[count] = box_index as u16;
@@ -65,14 +57,12 @@ fn counts_over(lists: &[u16], kinds: &mut [u16], boxes: usize) -> bool
     requires { HaveLists lists.now boxes × (sheet_limits.lists < length kinds.old) }
     ensures { result ≡ ltb sheet_limits.lists (length (distinct_lists (map (list_of lists.now) (from 0 boxes)))) }
 {
-    let mut count: usize = 0;
-    let mut box_index: usize = 0;
-    while box_index < boxes {
+    let mut count = 0;
+    for box_index in 0..boxes {
         count = note(lists, kinds, count, box_index);
         if lists_over(count) {
             return true;
         }
-        box_index += 1;
     }
     false
 }

@@ -15,19 +15,13 @@ ghost use Rattle.plain_lists.specs.Covers.{covers_box, Coverable};
 ghost use Rattle.plain_lists.specs.Draw.{HasList, HaveLists, Appended, Drew};
 ghost use Rattle.plain_lists.specs.Listing.{Listing};
 
-use casts::u16_to_usize;
+use answers::{Reason, Refusal};
 use count::too_many;
 use cover::covers;
 use limits::entry_allowed;
 use paving::place::size_of;
 use tables::LIST_PLACES;
-
-// A list for each box; or a refusal: its code, and the rule after which it was met.
-#[derive(Clone, Copy)]
-pub enum Listed {
-    Held,
-    Refused(u64, u64),
-}
+use tables::lent::{Cuts, DrainedRules};
 
 // Puts a rule at the end of a box's list, or alone where it replaces. Answers no, and changes nothing, where the list has no room for it.
 fn append(lists: &mut [u16], box_index: usize, rule: u16, replaces: bool) -> bool
@@ -39,7 +33,7 @@ fn append(lists: &mut [u16], box_index: usize, rule: u16, replaces: bool) -> boo
     if !entry_allowed(count) {
         return false;
     }
-    lists[count_at + 1 + u16_to_usize(count)] = rule;
+    lists[count_at + 1 + usize::from(count)] = rule;
     lists[count_at] = count + 1;
     true
 }
@@ -47,78 +41,51 @@ fn append(lists: &mut [u16], box_index: usize, rule: u16, replaces: bool) -> boo
 // Puts a rule into the list of each box that it covers. Answers no where a list has no room for it.
 fn draw_rule(
     lists: &mut [u16],
-    row_starts: &[u16],
-    sizes: &[u16],
-    cuts: &[u16],
-    range_counts: &[u16],
-    ranges: &[u16],
+    rules: DrainedRules,
+    cuts: Cuts,
     rule: usize,
     replaces: bool,
     boxes: usize,
 ) -> bool
     requires have_lists { HaveLists lists.old boxes × (rule < 65536) }
-    requires coverable { Coverable row_starts.now sizes.now cuts.now range_counts.now ranges.now rule }
+    requires coverable { Coverable cuts.row_starts.now cuts.sizes.now cuts.cuts.now rules.range_counts.now rules.ranges.now rule }
     ensures { Drew lists.old lists.new boxes rule replaces
-        (covers_box row_starts.now sizes.now cuts.now range_counts.now ranges.now rule) result }
+        (covers_box cuts.entry.row_starts.now cuts.entry.sizes.now cuts.entry.cuts.now rules.entry.range_counts.now rules.entry.ranges.now rule) result }
 {
-    let mut box_index: usize = 0;
-    while box_index < boxes {
-        if covers(
-            row_starts,
-            sizes,
-            cuts,
-            range_counts,
-            ranges,
-            rule,
-            box_index,
-        ) {
-            if !append(lists, box_index, rule as u16, replaces) {
-                return false;
-            }
+    for box_index in 0..boxes {
+        if covers(rules, cuts, rule, box_index)
+            && !append(lists, box_index, rule as u16, replaces)
+        {
+            return false;
         }
-        box_index += 1;
     }
     true
 }
 
-// Makes the lists of all boxes, rule by rule, where they are empty at first.
-pub fn list_rules(
-    lists: &mut [u16],
-    row_starts: &[u16],
-    sizes: &[u16],
-    cuts: &[u16],
-    replacing: &[u8],
-    range_counts: &[u16],
-    ranges: &[u16],
-    rules: usize,
-) -> Listed
-    requires to_list { (rs : List Rule) × ToList replacing.now range_counts.now ranges.now row_starts.now sizes.now cuts.now rules rs }
-    requires sizes_bound { (size_of sizes.now 4 ≤ sheet_limits.boxes) × (size_of sizes.now 4 * list_places ≤ length lists.old)
-        × ((box : ℕ) → box < size_of sizes.now 4 → get_or lists.old (box * list_places) 0 ≡ 0) }
+// Makes the lists of all boxes, rule by rule, where they are empty at first; or refuses (6, 14) at the rule after which that was met.
+pub fn list_rules(lists: &mut [u16], rules: DrainedRules, cuts: Cuts) -> Result<(), Refusal>
+    requires to_list { (rs : List Rule) × ToList rules.replacing.now rules.range_counts.now rules.ranges.now cuts.row_starts.now cuts.sizes.now cuts.cuts.now (length rules.states.now) rs }
+    requires sizes_bound { (size_of cuts.sizes.now 4 ≤ sheet_limits.boxes) × (size_of cuts.sizes.now 4 * list_places ≤ length lists.old)
+        × ((box : ℕ) → box < size_of cuts.sizes.now 4 → get_or lists.old (box * list_places) 0 ≡ 0) }
     ensures { (rs : List Rule)
-        → ToList replacing.now range_counts.now ranges.now row_starts.now sizes.now cuts.now rules rs
-        → Listing row_starts.now sizes.now cuts.now lists.new rs result }
+        → ToList rules.entry.replacing.now rules.entry.range_counts.now rules.entry.ranges.now cuts.entry.row_starts.now cuts.entry.sizes.now cuts.entry.cuts.now (length rules.entry.states.now) rs
+        → Listing cuts.entry.row_starts.now cuts.entry.sizes.now cuts.entry.cuts.now lists.new rs result }
 {
-    let boxes = size_of(sizes, 4);
-    let mut rule: usize = 0;
-    while rule < rules {
-        if !draw_rule(
-            lists,
-            row_starts,
-            sizes,
-            cuts,
-            range_counts,
-            ranges,
-            rule,
-            replacing[rule] == 1,
-            boxes,
-        ) {
-            return Listed::Refused(6, rule as u64);
+    let boxes = size_of(cuts.sizes, 4);
+    for rule in 0..rules.states.len() {
+        let replaces = rules.replacing[rule] == 1;
+        if !draw_rule(lists, rules, cuts, rule, replaces, boxes) {
+            return Err(Refusal {
+                reason: Reason::LongList,
+                place: rule,
+            });
         }
         if too_many(lists, boxes) {
-            return Listed::Refused(14, rule as u64);
+            return Err(Refusal {
+                reason: Reason::ManyLists,
+                place: rule,
+            });
         }
-        rule += 1;
     }
-    Listed::Held
+    Ok(())
 }

@@ -11,6 +11,7 @@ use lib.ListN.{length, get_or, set}
 use lib.Seq.{get_or-set_same, get_or-set_other}
 use borrow.Author.Count.{below_more}
 use borrow.Author.Tests.{eq-eqb, ne_eqb}
+use Rattle.std.specs.Int.{from_bool}
 use Rattle.laws.proofs.Flags.{bit-flag}
 use Rattle.tables.specs.Cuts.{cut_of}
 use Rattle.plain_lists.specs.Covers.{holds_in}
@@ -33,16 +34,25 @@ bit-low : (b : Bool) → cond b 1 0 ≤ 1
 bit-low true = omega arith
 bit-low false = omega arith
 
+-- a flag as a number
+flag-number : (b : Bool) → from_bool b ≡ cond b 1 0
+flag-number true = refl
+flag-number false = refl
+
+pub flag-low : (b : Bool) → from_bool b ≤ 1
+flag-low true = omega arith
+flag-low false = omega arith
+
 module _ (counts ranges : List ℕ) (i : ℕ) where
   pub marks-start : (value : ℕ) → 0 ≡ marks_of counts ranges 0 i value
   unfolding marks_of
   marks-start value = refl
 
-  pub marks-more : (k value marks bit : ℕ) (held : Bool) → marks ≡ marks_of counts ranges k i value → held ≡ holds_in counts ranges k i value → bit ≡ cond held 1 0
+  pub marks-more : (k value marks bit : ℕ) (held : Bool) → marks ≡ marks_of counts ranges k i value → held ≡ holds_in counts ranges k i value → bit ≡ from_bool held
       → marks * 2 + bit ≡ marks_of counts ranges (k + 1) i value
   unfolding marks_of
   marks-more k value marks bit held e t b =
-      ap₂ (λ m n. m * 2 + n) e (b ∙ ap (λ h. cond h 1 0) t) ∙ ap (λ n. marks_of counts ranges n i value) (let z : suc k ≡ k + 1 = omega arith in z)
+      ap₂ (λ m n. m * 2 + n) e (b ∙ flag-number held ∙ ap (λ h. cond h 1 0) t) ∙ ap (λ n. marks_of counts ranges n i value) (let z : suc k ≡ k + 1 = omega arith in z)
 
   marks-low : (k value : ℕ) → marks_of counts ranges k i value < 2 ^ k
   unfolding marks_of

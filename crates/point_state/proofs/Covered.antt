@@ -1,7 +1,7 @@
--- A RULE COVERS A POINT where some combination of its ranges does: a law for each way out of the tests of the four dimensions, and what they come to. Where no
+-- A RULE COVERS A POINT where some combination of its ranges does: what the tests of the four dimensions come to. Where no
 -- days are typed twice, it covers the point once. Rests on the values that a rule's ranges hold.
-use mathlib.Core.Path.{◌≡◌, refl, sym, ap, ap₂, ◌∙◌, subst}
-use mathlib.Core.Bool.{Bool, true, false, ◌&&◌, not}
+use mathlib.Core.Path.{◌≡◌, refl, ap, ap₂, ◌∙◌, subst}
+use mathlib.Core.Bool.{◌&&◌, not}
 use mathlib.Core.List.{List, [], ◌∷◌, map}
 use mathlib.Core.Option.{none}
 use Prim.Native.Nat.{ℕ, zero, suc, ◌≤◌, ◌<◌}
@@ -25,22 +25,11 @@ use Rattle.plain_lists.proofs.Covering.{ranges-there, held-row, some-both}
 use Rattle.point_state.specs.Point.{covers_point}
 
 module _ (counts ranges : List ℕ) (rule : ℕ) where
-  -- ## The tests, one after the other
-  -- no dimension is left
-  pub none_left : true ≡ covers_point counts ranges rule 0 []
+  -- the tests of the four dimensions, one after the other
+  pub point-asked : (weekday week month year : ℕ) → covers_point counts ranges rule 4 (weekday ∷ week ∷ month ∷ year ∷ [])
+      ≡ ((holds_in counts ranges rule 0 year && holds_in counts ranges rule 1 month) && holds_in counts ranges rule 2 week) && holds_in counts ranges rule 3 weekday
   unfolding covers_point
-  none_left = refl
-
-  -- a dimension more, where the point is covered in those before
-  pub one_more : (i x value : ℕ) (p : List ℕ) (covered held : Bool) → covered ≡ covers_point counts ranges rule i p → covered ≡ true → value ≡ x
-      → held ≡ holds_in counts ranges rule i value → held ≡ covers_point counts ranges rule (suc i) (x ∷ p)
-  unfolding covers_point
-  one_more i x value p covered held a t e b = b ∙ ap (holds_in counts ranges rule i) e ∙ ap (λ c. c && holds_in counts ranges rule i x) (sym t ∙ a)
-
-  -- and where it is not, no later one helps
-  pub not_covered : (i x : ℕ) (p : List ℕ) → false ≡ covers_point counts ranges rule i p → false ≡ covers_point counts ranges rule (suc i) (x ∷ p)
-  unfolding covers_point
-  not_covered i x p e = ap (λ b. b && holds_in counts ranges rule i x) e
+  point-asked weekday week month year = refl
 
   -- ## What they come to
   pub covers-combined : RangesThere counts ranges rule → (l : ℕ) → l ≤ 4 → (p : List ℕ)

@@ -19,47 +19,37 @@ use Rattle.definition.proofs.Points.{times_covered, indexes-next, indexes-rules}
 use Rattle.codes.specs.Number.{closed_number}
 use Rattle.tables.specs.Rules.{rule_at}
 use Rattle.plain_lists.proofs.Covering.{ranges-there}
-use Rattle.state_at.specs.declared.StateFound.{StateFound}
-use Rattle.state_at.specs.declared.StateFound.TheVariants.{State, Unsettled}
+use Rattle.std.specs.Prelude.{Option, Some, None}
 use Rattle.state_at.specs.Found.{looked, onward, over_rule, over_list}
 use Rattle.state_at.proofs.Meaning.{rule-there, rules-answered}
 use Rattle.point_state.specs.Point.{covers_point, after_rule, RuleThere, PointRules}
 use Rattle.point_state.proofs.Covered.{rules-once, covers-times}
 
 -- ## What comes next
-onward-again : (r : StateFound) (f g : ℕ → StateFound) → onward r (λ n. onward (f n) g) ≡ onward (onward r f) g
-onward-again (State n) f g = refl
-onward-again Unsettled f g = refl
+onward-again : (r : Option ℕ) (f g : ℕ → Option ℕ) → onward r (λ n. onward (f n) g) ≡ onward (onward r f) g
+onward-again (Some n) f g = refl
+onward-again None f g = refl
 
-onward-end : (r : StateFound) → onward r State ≡ r
-onward-end (State n) = refl
-onward-end Unsettled = refl
+onward-end : (r : Option ℕ) → onward r (λ n. Some n) ≡ r
+onward-end (Some n) = refl
+onward-end None = refl
 
 module _ (states counts spans : List ℕ) (m : ℕ) where
   -- ## Ways out
   -- a rule alone; at the end of a list; and where the list before is unsettled
-  module _ (rule : ℕ) (replacing : Bool) (before : StateFound) where
-    pub rule-alone : replacing ≡ true → (r : StateFound) → r ≡ over_rule states counts spans m closed_number rule → r ≡ after_rule states counts spans m rule replacing before
+  module _ (rule : ℕ) (replacing : Bool) (before : Option ℕ) where
+    pub rule-alone : replacing ≡ true → (r : Option ℕ) → r ≡ over_rule states counts spans m closed_number rule → r ≡ after_rule states counts spans m rule replacing before
     unfolding after_rule
     rule-alone t r e = rw t e
 
-    pub rule-ended : replacing ≡ false → (shown : ℕ) → before ≡ State shown → (r : StateFound) → r ≡ over_rule states counts spans m shown rule
+    pub rule-ended : replacing ≡ false → (shown : ℕ) → before ≡ Some shown → (r : Option ℕ) → r ≡ over_rule states counts spans m shown rule
         → r ≡ after_rule states counts spans m rule replacing before
     unfolding after_rule
     rule-ended f shown b r e = rw (f, b) e
 
-    pub rule-unsettled : replacing ≡ false → before ≡ Unsettled → Unsettled ≡ after_rule states counts spans m rule replacing before
+    pub rule-unsettled : replacing ≡ false → before ≡ None → None ≡ after_rule states counts spans m rule replacing before
     unfolding after_rule
     rule-unsettled f b = rw (f, b)
-
-    -- and what a rule leaves at a point, by whether it covers it
-    module _ (covers covered : Bool) (told : covered ≡ covers) where
-      pub rule-passed : covered ≡ false → before ≡ cond covers (after_rule states counts spans m rule replacing before) before
-      rule-passed f = ap (λ b. cond b (after_rule states counts spans m rule replacing before) before) (sym f ∙ told)
-
-      pub rule-drawn : covered ≡ true → (r : StateFound) → r ≡ after_rule states counts spans m rule replacing before
-          → r ≡ cond covers (after_rule states counts spans m rule replacing before) before
-      rule-drawn t r e = e ∙ ap (λ b. cond b (after_rule states counts spans m rule replacing before) before) (sym t ∙ told)
 
   -- ## Lists
   over-append : (shown : ℕ) (ks js : List ℕ) → over_list states counts spans m shown (ks ++ js) ≡ onward (over_list states counts spans m shown ks) (λ n. over_list states counts spans m n js)
@@ -124,15 +114,15 @@ module _ (states counts spans replacing range_counts ranges : List ℕ) (rs : Li
       (put_low k (times_covered (rule_at rs k) p) (replaces (rule_at rs k)) (indexes_at (take k rs) p) (once k h) (indexes-low k (omega arith)))
 
   -- the state by the point's list after the first k rules
-  abbrev pub StateBy : ℕ → ℕ → StateFound → Type 0
+  abbrev pub StateBy : ℕ → ℕ → Option ℕ → Type 0
   StateBy m k found = found ≡ over_list states counts spans m closed_number (indexes_at (take k rs) p)
 
-  pub state-start : (m : ℕ) → StateBy m 0 (State closed_number)
+  pub state-start : (m : ℕ) → StateBy m 0 (Some closed_number)
   unfolding over_list indexes_from
   state-start m = refl
 
   -- ONE RULE MORE
-  pub state-next : (m k : ℕ) → k < length states → (found : StateFound) → StateBy m k found
+  pub state-next : (m k : ℕ) → k < length states → (found : Option ℕ) → StateBy m k found
       → StateBy m (k + 1)
       (cond (covers_point range_counts ranges k 4 p) (after_rule states counts spans m k (eqb (get_or replacing k 0) 1) found) found)
   state-next m k h found e =
@@ -145,7 +135,7 @@ module _ (states counts spans replacing range_counts ranges : List ℕ) (rs : Li
       ∙ ap (λ n. over_list states counts spans m closed_number (indexes_at (take n rs) p)) (let z : suc k ≡ k + 1 = omega arith in z)
 
   -- AFTER THE LAST RULE
-  pub state-end : (m k : ℕ) → length states ≤ k → k ≤ length states → (found : StateFound) → StateBy m k found → looked found ≡ state_at [] (list_at rs p) m
+  pub state-end : (m k : ℕ) → length states ≤ k → k ≤ length states → (found : Option ℕ) → StateBy m k found → looked found ≡ state_at [] (list_at rs p) m
   state-end m k l h found e =
       let all : k ≡ length rs = omega (arith, many) in
       ap looked (e ∙ ap (λ n. over_list states counts spans m closed_number (indexes_at (take n rs) p)) all)

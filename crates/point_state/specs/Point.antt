@@ -6,7 +6,7 @@ use Rattle.definition.specs.Overlap.{first_overlap}
 use Rattle.codes.specs.Number.{closed_number}
 use Rattle.tables.specs.Rules.{RuleTimes, RuleDays, Replacing}
 use Rattle.plain_lists.specs.Covers.{RangesThere, holds_in}
-use Rattle.state_at.specs.declared.StateFound.{StateFound}
+use Rattle.std.specs.Prelude.{Option}
 use Rattle.state_at.specs.Found.{onward, InTables, over_rule}
 
 -- does a rule cover a point of l dimensions, the last one first?
@@ -17,7 +17,7 @@ covers_point counts ranges rule (suc i) (x ∷ p) = covers_point counts ranges r
 
 module _ (states counts spans : List ℕ) (m : ℕ) where
   -- the state by a list that a rule is put at the end of, or alone where it replaces, from the state by the list before
-  unfoldable pub after_rule : ℕ → Bool → StateFound → StateFound
+  unfoldable pub after_rule : ℕ → Bool → Option ℕ → Option ℕ
   after_rule rule replaces before = cond replaces (over_rule states counts spans m closed_number rule) (onward before (λ shown. over_rule states counts spans m shown rule))
 
 -- what is read of a rule's tables

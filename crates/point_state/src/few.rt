@@ -1,14 +1,13 @@
 // Whether some drained rules can't be refused for their lists (6, 14), told by counting alone. A list has no rule twice, so 32 rules make none that is too
 // long. And there are no more different lists than boxes; nor than combinations of one kind of columns for each dimension, where columns are of one kind that no rule tells
 // apart, as the years before all ranges and those behind them.
-ghost use Rattle.std.specs.Prelude.{◌≡◌, true, cond, List, ℕ, ◌+◌, ◌≤◌, ◌<◌, length, get_or};
+ghost use Rattle.std.specs.Prelude.{◌≡◌, true, List, ℕ, ◌+◌, ◌≤◌, ◌<◌, length, get_or};
 ghost use Rattle.std.proofs.Math.Option.{none};
 ghost use Rattle.definition.specs.Rule.{Rule};
 ghost use Rattle.definition.specs.Sheet.{sheet_limits};
 ghost use Rattle.definition.specs.Lists.{first_refused};
 ghost use Rattle.point_state.specs.Few.{AllThere, marks_of, Kinds, DaysCut};
 
-use casts::u16_to_usize;
 use limits::lists_over;
 use paving::place::size_of;
 use plain_lists::cover::holds_in;
@@ -16,23 +15,14 @@ use plain_lists::cover::holds_in;
 // The most columns of a dimension that are compared with each other: more would cost more than drawing.
 const MOST_COMPARED: usize = 32;
 
-// A flag as a number.
-fn bit(flag: bool) -> u64
-    ensures { (result ≡ cond flag 1 0) × (result ≤ 1) }
-{
-    if flag { 1 } else { 0 }
-}
-
 // Which rules hold a value of a dimension: a bit for each, the last rule's lowest.
 fn marks_of(range_counts: &[u16], ranges: &[u16], rules: usize, dimension: usize, value: u16) -> u64
     requires { AllThere range_counts.now ranges.now rules × (dimension < 4) × (rules ≤ 32) }
     ensures { result ≡ marks_of range_counts.now ranges.now rules dimension value }
 {
     let mut marks: u64 = 0;
-    let mut rule: usize = 0;
-    while rule < rules {
-        marks = marks * 2 + bit(holds_in(range_counts, ranges, rule, dimension, value));
-        rule += 1;
+    for rule in 0..rules {
+        marks = marks * 2 + u64::from(holds_in(range_counts, ranges, rule, dimension, value));
     }
     marks
 }
@@ -42,14 +32,7 @@ fn seen_before(marks: &[u64], column: usize) -> bool
     requires { column < length marks.now }
     ensures { result ≡ true → (x : ℕ) × (x < column) × (get_or marks.now x 0 ≡ get_or marks.now column 0) }
 {
-    let mut earlier: usize = 0;
-    while earlier < column {
-        if marks[earlier] == marks[column] {
-            return true;
-        }
-        earlier += 1;
-    }
-    false
+    marks[..column].contains(&marks[column])
 }
 
 // How many kinds of columns there are among the first `size` of a dimension, whose marks are put into a buffer that is lent.
@@ -68,16 +51,12 @@ fn count_kinds(
     ensures { (result ≤ size)
         × Kinds range_counts.now ranges.now rules row_starts.now cuts.now dimension size result }
 {
-    let first = u16_to_usize(row_starts[dimension]);
+    let first = usize::from(row_starts[dimension]);
     let mut kinds: usize = 0;
-    let mut column: usize = 0;
-    while column < size {
+    for column in 0..size {
         marks[column] = marks_of(range_counts, ranges, rules, dimension, cuts[first + column]);
-        if seen_before(marks, column) {
-            column += 1;
-        } else {
+        if !seen_before(marks, column) {
             kinds += 1;
-            column += 1;
         }
     }
     kinds
@@ -99,7 +78,7 @@ fn kinds_in(
     ensures { (result < 65536) × Kinds range_counts.now ranges.now rules row_starts.now cuts.now dimension
         (get_or sizes.now dimension 0) result }
 {
-    let size = u16_to_usize(sizes[dimension]);
+    let size = usize::from(sizes[dimension]);
     if size > MOST_COMPARED {
         return size;
     }

@@ -26,8 +26,9 @@ use Rattle.tables.specs.Rules.{AllFit, RuleTimes, RuleDays}
 use Rattle.draining.specs.Table.{Tabled, rules_from}
 use Rattle.draining.proofs.Begun.{rules-noted}
 use Rattle.prepare.specs.Prepared.{Prepared, JudgesDays, Judges}
-use Rattle.prepare.specs.declared.Judged.{Judged}
-use Rattle.prepare.specs.declared.Judged.TheVariants.{Fine, Refused}
+use Rattle.std.specs.Prelude.{Result, Ok, Err}
+use Rattle.answers.specs.declared.refusal.Refusal.{Refusal}
+use Rattle.draining.specs.declared.Drained.{Drained}
 
 module _ (form : Form) (sheet : List ℕ) (bytes : Bytes sheet) (begins : List ℕ) (rs : List Rule) (end count : ℕ) (reading : SheetRead form sheet begins rs end) (many : count ≡ length rs) where
   same : rules_from form (sheet_bits sheet) begins 0 count ≡ rs
@@ -95,11 +96,11 @@ module _ (form : Form) (sheet : List ℕ) (bytes : Bytes sheet) (begins : List �
         }
 
         -- THE TABLES AND THE CUTS are those of the drained rules, and so is the refusal
-        pub sheet-judged : (reason : ℕ) → reason ≡ why (rules_from form (sheet_bits sheet) begins 0 count) → (rows sizes cuts : List ℕ) (r : Judged)
+        pub sheet-judged : (reason : ℕ) → reason ≡ why (rules_from form (sheet_bits sheet) begins 0 count) → (rows sizes cuts : List ℕ) (r : Result Drained Refusal)
             → JudgesDays rows sizes cuts n reason (drained rs) r → Judges states counts spans replacing range_counts ranges rows sizes cuts rs r
         unfolding JudgesDays Judges
-        sheet-judged reason w rows sizes cuts (Refused c p) h = h
-        sheet-judged reason w rows sizes cuts (Fine k v) h = (
+        sheet-judged reason w rows sizes cuts (Err f) h = h
+        sheet-judged reason w rows sizes cuts (Ok d) h = (
           subst (Prepared states counts spans replacing range_counts ranges rows sizes cuts (drained rs)) (sym h.0) (record {
             rules-many = drained-many;
             times = drained-times;

@@ -17,8 +17,10 @@ use Rattle.paving_cuts.proofs.ByRules.{boxes-counted}
 use Rattle.tables.specs.Cuts.{Drawable}
 use Rattle.tables.specs.ToDraw.{ToDraw}
 use Rattle.prepare.specs.Prepared.{Prepared, Judges}
-use Rattle.prepare.specs.declared.Judged.{Judged}
-use Rattle.prepare.specs.declared.Judged.TheVariants.{Fine, Refused}
+use Rattle.std.specs.Prelude.{Result, Ok, Err}
+use Rattle.answers.specs.Refusal.{code_of}
+use Rattle.answers.specs.declared.refusal.Refusal.{Refusal}
+use Rattle.draining.specs.declared.Drained.{Drained}
 
 pub boxes-few : (states counts spans replacing range_counts ranges rows sizes cuts : List ℕ) (rs : List Rule)
     → ToDraw states counts spans replacing range_counts ranges rows sizes cuts rs → box_count dimensions rs ≤ sheet_limits.boxes
@@ -39,13 +41,13 @@ module _ (states counts spans replacing range_counts ranges rows sizes cuts : Li
   }
 
 -- ## What the answer says
-module _ (states counts spans replacing range_counts ranges rows sizes cuts : List ℕ) (rs : List Rule) (r : Judged)
+module _ (states counts spans replacing range_counts ranges rows sizes cuts : List ℕ) (rs : List Rule) (r : Result Drained Refusal)
     (answer : Judges states counts spans replacing range_counts ranges rows sizes cuts rs r) where
-  pub judged-fine : (n reason : ℕ) → r ≡ Fine n reason
-      → Prepared states counts spans replacing range_counts ranges rows sizes cuts (drained rs) n × (reason ≡ why rs)
+  pub judged-fine : (d : Drained) → r ≡ Ok d
+      → Prepared states counts spans replacing range_counts ranges rows sizes cuts (drained rs) d.rules × (d.why ≡ why rs)
   unfolding Judges
-  judged-fine n reason e = subst (Judges states counts spans replacing range_counts ranges rows sizes cuts rs) e answer
+  judged-fine d e = subst (Judges states counts spans replacing range_counts ranges rows sizes cuts rs) e answer
 
-  pub judged-refused : (c p : ℕ) → r ≡ Refused c p → drain sheet_limits (drained rs) ≡ over c p
+  pub judged-refused : (f : Refusal) → r ≡ Err f → drain sheet_limits (drained rs) ≡ over (code_of f.reason) f.place
   unfolding Judges
-  judged-refused c p e = subst (Judges states counts spans replacing range_counts ranges rows sizes cuts rs) e answer
+  judged-refused f e = subst (Judges states counts spans replacing range_counts ranges rows sizes cuts rs) e answer

@@ -1,5 +1,5 @@
 -- What `prepare` answers of a sheet that was read, and leaves of it: the tables of its drained rules, and the rows of their cuts.
-use Rattle.std.specs.Prelude.{◌≡◌, List, ℕ, ◌*◌, length, take}
+use Rattle.std.specs.Prelude.{◌≡◌, List, ℕ, ◌*◌, length, take, Result, Ok, Err}
 use Rattle.definition.specs.Rule.{Rule}
 use Rattle.definition.specs.Sheet.{Form, sheet_limits}
 use Rattle.definition.specs.Stop.{drained, why}
@@ -8,8 +8,9 @@ use Rattle.sheet.specs.Parts.{SheetRead}
 use Rattle.tables.specs.Rules.{RuleTimes}
 use Rattle.tables.specs.Cuts.{Cut, Drawable}
 use Rattle.tables.specs.ToDraw.{Passed}
-use Rattle.prepare.specs.declared.Judged.{Judged}
-use Rattle.prepare.specs.declared.Judged.TheVariants.{Fine, Refused}
+use Rattle.answers.specs.Refusal.{code_of}
+use Rattle.answers.specs.declared.refusal.Refusal.{Refusal}
+use Rattle.draining.specs.declared.Drained.{Drained}
 
 -- ## A sheet
 -- so many rules are read from a sheet, and it is noted where they begin
@@ -22,9 +23,9 @@ EachReading form sheet begins n P = (rs : List Rule) (end : ℕ) → SheetRead f
 
 -- ## Its drained rules
 -- THE ANSWER about so many rules ds in tables: the rows of their cuts; or the definition's refusal
-unfoldable pub JudgesDays : (rows sizes cuts : List ℕ) → ℕ → ℕ → List Rule → Judged → Type 0
-JudgesDays rows sizes cuts rules reason ds (Fine n v) = (n ≡ rules) × (v ≡ reason) × Cut rows sizes cuts ds × Passed sizes ds
-JudgesDays rows sizes cuts rules reason ds (Refused c p) = drain sheet_limits ds ≡ over c p
+unfoldable pub JudgesDays : (rows sizes cuts : List ℕ) → ℕ → ℕ → List Rule → Result Drained Refusal → Type 0
+JudgesDays rows sizes cuts rules reason ds (Ok d) = (d.rules ≡ rules) × (d.why ≡ reason) × Cut rows sizes cuts ds × Passed sizes ds
+JudgesDays rows sizes cuts rules reason ds (Err r) = drain sheet_limits ds ≡ over (code_of r.reason) r.place
 
 -- THE TABLES of so many rules, and the rows of their cuts
 pub record Prepared (states counts spans replacing range_counts ranges rows sizes cuts : List ℕ) (rs : List Rule) (n : ℕ) : Type 0 where
@@ -34,7 +35,7 @@ pub record Prepared (states counts spans replacing range_counts ranges rows size
   pub passed : Passed sizes rs
 
 -- THE ANSWER about a sheet's rules: the tables of the drained ones, and why the next one stopped; or the definition's refusal
-unfoldable pub Judges : (states counts spans replacing range_counts ranges rows sizes cuts : List ℕ) → List Rule → Judged → Type 0
-Judges states counts spans replacing range_counts ranges rows sizes cuts rs (Fine n reason) =
-    Prepared states counts spans replacing range_counts ranges rows sizes cuts (drained rs) n × (reason ≡ why rs)
-Judges states counts spans replacing range_counts ranges rows sizes cuts rs (Refused c p) = drain sheet_limits (drained rs) ≡ over c p
+unfoldable pub Judges : (states counts spans replacing range_counts ranges rows sizes cuts : List ℕ) → List Rule → Result Drained Refusal → Type 0
+Judges states counts spans replacing range_counts ranges rows sizes cuts rs (Ok d) =
+    Prepared states counts spans replacing range_counts ranges rows sizes cuts (drained rs) d.rules × (d.why ≡ why rs)
+Judges states counts spans replacing range_counts ranges rows sizes cuts rs (Err r) = drain sheet_limits (drained rs) ≡ over (code_of r.reason) r.place

@@ -9,41 +9,41 @@ ghost use Rattle.tables.specs.Sizes.{row_places};
 ghost use Rattle.tables.specs.Rules.{RuleDays};
 ghost use Rattle.prepare.specs.Prepared.{RulesRead, EachReading, JudgesDays, Judges};
 
+use answers::{Reason, Refusal};
+use draining::Drained;
 use forms::Form;
 use limits::boxes_over;
 
-// The drained rules can be drawn: how many there are, and why the next rule stopped. Or they are refused: code and place.
-#[derive(Clone, Copy)]
-pub enum Judged {
-    Fine(usize, u64),
-    Refused(u64, u64),
-}
-
 // Judges so many rules out of the tables of their days: 11 where one has days typed twice; then, with the rows of their cuts made, 5 where there are
-// too many boxes between them. Rules that pass are answered with why the next one stopped, as it was told.
+// too many boxes between them. Rules that pass are answered as they were told: how many, and why the next one stopped.
 fn judge(
     cuts: &mut [u16],
     sizes: &mut [u16],
     row_starts: &mut [u16],
     range_counts: &[u16],
     ranges: &[u16],
-    rules: usize,
-    why: u64,
-) -> Judged
-    requires rule_days { (ds : List Rule) × RuleDays range_counts.now ranges.now rules ds }
-    requires row_starts_len { (length row_starts.old ≡ 4) × (length sizes.old ≡ 4) × (4 * row_places rules ≤ length cuts.old) }
-    ensures { (ds : List Rule) → RuleDays range_counts.now ranges.now rules ds
-        → JudgesDays row_starts.new sizes.new cuts.new rules why ds result }
+    drained: Drained,
+) -> Result<Drained, Refusal>
+    requires rule_days { (ds : List Rule) × RuleDays range_counts.now ranges.now drained.rules ds }
+    requires row_starts_len { (length row_starts.old ≡ 4) × (length sizes.old ≡ 4) × (4 * row_places drained.rules ≤ length cuts.old) }
+    ensures { (ds : List Rule) → RuleDays range_counts.now ranges.now drained.rules ds
+        → JudgesDays row_starts.new sizes.new cuts.new drained.rules drained.why ds result }
 {
-    let twice = overlap::first_overlap(range_counts, ranges, rules);
-    if twice < rules {
-        return Judged::Refused(11, twice as u64);
+    let twice = overlap::first_overlap(range_counts, ranges, drained.rules);
+    if twice < drained.rules {
+        return Err(Refusal {
+            reason: Reason::DaysTwice,
+            place: twice,
+        });
     }
-    let boxes = cutting::cut_all(cuts, sizes, row_starts, range_counts, ranges, rules);
+    let boxes = cutting::cut_all(cuts, sizes, row_starts, range_counts, ranges, drained.rules);
     if boxes_over(boxes) {
-        return Judged::Refused(5, boxes);
+        return Err(Refusal {
+            reason: Reason::ManyBoxes,
+            place: boxes as usize,
+        });
     }
-    Judged::Fine(rules, why)
+    Ok(drained)
 }
 
 // The drained rules of a sheet that was read, in tables, and the rows of their cuts; or 11 where one of them has days typed twice, or 5 where there
@@ -62,7 +62,7 @@ pub fn prepare(
     row_starts: &mut [u16],
     sizes: &mut [u16],
     cuts: &mut [u16],
-) -> Judged
+) -> Result<Drained, Refusal>
     requires rules_read { RulesRead (as_form form) sheet.now begins.now count }
     requires count_in_bounds { (count ≤ length states.old) × (count ≤ length span_counts.old) × (count * 16 ≤ length spans.old) × (count ≤ length replacing.old) }
     requires count_in_bounds_2 { (count * 4 ≤ length range_counts.old) × (count * 256 ≤ length ranges.old) }
@@ -83,13 +83,5 @@ pub fn prepare(
         range_counts,
         ranges,
     );
-    judge(
-        cuts,
-        sizes,
-        row_starts,
-        range_counts,
-        ranges,
-        drained.rules,
-        drained.why,
-    )
+    judge(cuts, sizes, row_starts, range_counts, ranges, drained)
 }

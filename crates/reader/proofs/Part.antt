@@ -40,12 +40,9 @@ module _ (w : ℕ) (s : List ℕ) (p : ℕ) where
           (x, leb-false (p + w) (length s) l)
 
 -- ## The sheet from the field's first byte on
-module _ (s : List ℕ) (at w : ℕ) (within : at / 8 ≤ length s) where
-  abbrev part : List ℕ
-  part = take (length s - at / 8) (drop (at / 8) s)
-
+module _ (s : List ℕ) (at w : ℕ) (within : at / 8 ≤ length s) (part : List ℕ) (is : part ≡ take (length s - at / 8) (drop (at / 8) s)) where
   part-drops : part ≡ drop (at / 8) s
-  part-drops = take_all (length s - at / 8) (drop (at / 8) s) (omega (arith, length-drop (at / 8) s))
+  part-drops = is ∙ take_all (length s - at / 8) (drop (at / 8) s) (omega (arith, length-drop (at / 8) s))
 
   length_part : length (sheet_bits part) + 8 * (at / 8) ≡ 8 * length s
   length_part = omega (arith, length-sheet_bits part, ap length part-drops, length-drop (at / 8) s)
@@ -58,14 +55,12 @@ module _ (s : List ℕ) (at w : ℕ) (within : at / 8 ≤ length s) where
       ∙ ap (λ bs. number (take w (drop (at % 8) bs))) (sym (drop-bytes s (at / 8) within))
       ∙ ap (λ bs. number (take w bs)) (drop-drop (at % 8) (8 * (at / 8)) (sheet_bits s) ∙ ap (λ p. drop p (sheet_bits s)) place)
 
-  module _ (v n : ℕ) (e : (plain w).read (sheet_bits part) (at % 8) ≡ got v n) where
+  module _ (v n : ℕ) (e : got v n ≡ (plain w).read (sheet_bits part) (at % 8)) where
     pub part-within : at + w ≤ 8 * length s
-    part-within = omega (arith, (got-within w (sheet_bits part) (at % 8) v n e).1, length_part)
+    part-within = omega (arith, (got-within w (sheet_bits part) (at % 8) v n (sym e)).1, length_part)
 
     pub part-value : got v (at + w) ≡ (plain w).read (sheet_bits s) at
-    part-value = take-value s at w v ((got-within w (sheet_bits part) (at % 8) v n e).0 ∙ same-field) part-within
+    part-value = take-value s at w v ((got-within w (sheet_bits part) (at % 8) v n (sym e)).0 ∙ same-field) part-within
 
-  pub part-short : (c q : ℕ) → (plain w).read (sheet_bits part) (at % 8) ≡ refused c q → refused c at ≡ (plain w).read (sheet_bits s) at
-  part-short c q e =
-      let past = refused-past w (sheet_bits part) (at % 8) c q e in
-      ap (λ code. refused code at) past.0 ∙ take_short s at w (omega (arith, past.1, length_part))
+  pub part-short : (c q : ℕ) → refused c q ≡ (plain w).read (sheet_bits part) (at % 8) → refused past_end at ≡ (plain w).read (sheet_bits s) at
+  part-short c q e = take_short s at w (omega (arith, (refused-past w (sheet_bits part) (at % 8) c q (sym e)).1, length_part))

@@ -9,7 +9,7 @@ ghost use Rattle.forms.specs.Form.{as_form};
 ghost use Rattle.field.specs.Answer.{as_read};
 ghost use Rattle.reader.specs.Says.{Says};
 
-use field::Taken;
+use answers::{Read, Reason, Refusal};
 use forms::{Form, mark, mark_width};
 use limits::width_over;
 
@@ -19,37 +19,27 @@ pub struct Reader<'a> {
     pub at: usize,
 }
 
-// The definition's reading of a field. `TooLarge` stands where no such answer can be given: the field is wider than the 32 bits that
-// crate `field` reads, or it lies so far into the sheet that no `usize` holds the bit after it.
-#[derive(Clone, Copy)]
-pub enum Reading {
-    Field(Taken),
-    TooLarge,
-}
-
-// A field of any value, at any bit of any sheet. Crate `field` requires a small place, so it is given the sheet from the field's first
-// byte on, and the place within that byte.
-pub fn read_at(sheet: &[u8], at: usize, width: usize) -> Reading
+// A field of any value, at any bit of any sheet. `None` where no reading can be given: the field is wider than the 32 bits that crate `field`
+// reads, or it lies so far into the sheet that no `usize` holds the bit after it. Crate `field` requires a small place, so it is given the sheet
+// from the field's first byte on, and the place within that byte.
+pub fn read_at(sheet: &[u8], at: usize, width: usize) -> Option<Read<u64>>
     ensures { Says result sheet.now at width }
 {
     if width_over(width) {
-        return Reading::TooLarge;
+        return None;
     }
-    let before = at / 8;
-    if before > sheet.len() {
-        return Reading::Field(Taken::Refused(1, at));
-    }
-    let taken = field::take_at(&sheet[before..], at % 8, width);
-    match taken {
-        Taken::Refused(code, _) => Reading::Field(Taken::Refused(code, at)),
-        Taken::Value(value, _) => {
-            if at > usize::MAX - width {
-                Reading::TooLarge
-            } else {
-                Reading::Field(Taken::Value(value, at + width))
-            }
-        }
-    }
+    let past_end = Err(Refusal {
+        reason: Reason::PastEnd,
+        place: at,
+    });
+    let Some(rest) = sheet.get(at / 8..) else {
+        return Some(past_end);
+    };
+    let Ok((value, _)) = field::take_at(rest, at % 8, width) else {
+        return Some(past_end);
+    };
+    let next = at.checked_add(width)?;
+    Some(Ok((value, next)))
 }
 
 // A view of the whole sheet, at its first bit.
@@ -70,34 +60,31 @@ pub fn moved<'a>(reader: Reader<'a>, at: usize) -> Reader<'a>
 }
 
 // The field of so many bits where the view stands.
-pub fn take<'a>(reader: Reader<'a>, width: usize) -> Reading
+pub fn take<'a>(reader: Reader<'a>, width: usize) -> Option<Read<u64>>
     ensures { Says result reader.entry.sheet.now reader.entry.at width }
 {
     read_at(reader.sheet, reader.at, width)
 }
 
 // A sheet's first field, through a view of it.
-pub fn first(sheet: &[u8], width: usize) -> Reading
+pub fn first(sheet: &[u8], width: usize) -> Option<Read<u64>>
     ensures { Says result sheet.now 0 width }
 {
     take(open(sheet), width)
 }
 
-// How many rules a sheet has. Its first field is the form's mark, refused by 2 where it is another; the count stands behind it. The mark is
-// never too large to be answered, so the first return is never taken.
-pub fn rule_count(form: Form, sheet: &[u8]) -> Taken
+// How many rules a sheet has. Its first field is the form's mark, refused as unlawful where it is another; the count stands behind it. A mark has
+// four bits at most, so that it is read in any sheet.
+pub fn rule_count(form: Form, sheet: &[u8]) -> Read<u64>
     ensures { as_read result ≡ (opening (as_form form) sheet_limits).read (sheet_bits sheet.now) 0 }
 {
-    let reading = first(sheet, mark_width(form));
-    let Reading::Field(taken) = reading else {
-        return Taken::Refused(1, 0);
-    };
-    let Taken::Value(value, next) = taken else {
-        return taken;
-    };
+    let (value, next) = first(sheet, mark_width(form)).unwrap()?;
     if value == mark(form) {
         field::rule_count_at(form, sheet, next)
     } else {
-        Taken::Refused(2, 0)
+        Err(Refusal {
+            reason: Reason::Unlawful,
+            place: 0,
+        })
     }
 }

@@ -1,6 +1,5 @@
 // Does the calendar say of a date what a record tells? Told: YEAR MONTH DAY in eight bytes each, WEEKDAY WEEK, 9 and 99 for no date.
 use crate::record::{long_number, number};
-use calendar::Dated;
 
 pub fn agrees(told: &[u8]) -> bool {
     if told.len() < 30 {
@@ -11,12 +10,12 @@ pub fn agrees(told: &[u8]) -> bool {
     let weekday = number(told, 24);
     let week = number(told, 27);
     match calendar::point_of(year, month, long_number(told, 16)) {
-        Dated::Point {
-            weekday: w,
-            week: k,
-            month: m,
-            year: y,
-        } => w as usize == weekday && k as usize == week && m as u64 == month && y as u64 == year,
-        Dated::NoDate => weekday == 9 && week == 99,
+        Some(point) => {
+            usize::from(point.weekday) == weekday
+                && usize::from(point.week) == week
+                && u64::from(point.month) == month
+                && u64::from(point.year) == year
+        }
+        None => weekday == 9 && week == 99,
     }
 }

@@ -29,12 +29,8 @@ enum Sort {
     Year,
 }
 
-#[derive(Clone, Copy)]
-enum Compared {
-    Same,
-    Differing,
-    NoRecord,
-}
+// More records than any file here has: a proved loop has to end.
+const RECORDS: usize = 1000000;
 
 #[derive(Clone, Copy)]
 struct Tally {
@@ -65,52 +61,41 @@ fn agrees_body(sort: Sort, form: u64, body: &[u8], length: usize, out: &mut [u8]
     agrees(sort, form, &body[..length], &body[length..], out)
 }
 
-// The file's next record, compared: the form in eight bytes, the sheet's length, the length of all that follows, the sheet, and what is told of it.
-// A file that ends behind the three numbers differs.
-fn compare_record(file: &mut File, sort: Sort, body: &mut [u8], out: &mut [u8]) -> Compared {
+// Whether the file's next record comes out, where there is one: the form in eight bytes, the sheet's length, the length of all that follows, the sheet,
+// and what is told of it. A file that ends behind the three numbers differs.
+fn compare_record(file: &mut File, sort: Sort, body: &mut [u8], out: &mut [u8]) -> Option<bool> {
     let mut numbers = [0u8; 14];
     if record::read_full(file, &mut numbers) < 14 {
-        return Compared::NoRecord;
+        return None;
     }
     let form = record::long_number(&numbers, 0);
     let length = record::number(&numbers, 8);
     let size = record::number(&numbers, 11);
     let taken = record::take(file, body, size);
     if taken < size {
-        return Compared::Differing;
+        return Some(false);
     }
-    if agrees_body(sort, form, &body[..taken], length, out) {
-        Compared::Same
-    } else {
-        Compared::Differing
-    }
+    Some(agrees_body(sort, form, &body[..taken], length, out))
 }
 
-// Record after record to the end of the file. A proved loop has to end, so it stops at a million, which no file here has. Both buffers are made once,
-// since clearing them takes longer than most records.
+// Record after record to the end of the file. Both buffers are made once, since clearing them takes longer than most records.
 fn replay(file: &mut File, sort: Sort) -> Tally {
     let mut body = [0u8; 65536];
     let mut out = [0u8; 65536];
     let mut differing: usize = 0;
-    let mut turn: usize = 0;
-    while turn < 1000000 {
-        let compared = compare_record(file, sort, &mut body, &mut out);
-        match compared {
-            Compared::Same => {}
-            Compared::Differing => {
-                differing += 1;
-            }
-            Compared::NoRecord => {
-                return Tally {
-                    compared: turn,
-                    differing,
-                };
-            }
+    for compared in 0..RECORDS {
+        let Some(same) = compare_record(file, sort, &mut body, &mut out) else {
+            return Tally {
+                compared,
+                differing,
+            };
+        };
+        if !same {
+            differing += 1;
         }
-        turn += 1;
     }
     Tally {
-        compared: turn,
+        compared: RECORDS,
         differing,
     }
 }

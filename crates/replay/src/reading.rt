@@ -2,22 +2,17 @@
 // is neither is refused before that, and no reading is stored in one.
 use crate::record::number;
 use forms::Form;
-use sheet::check::Checked;
+use sheet::check::check;
 
 // Do the rules begin where the record says?
 fn begin_so(begins: &[usize; 256], rules: usize, places: &[u8]) -> bool {
-    if 256 < rules {
+    if 256 < rules || places.len() != 3 * rules {
         return false;
     }
-    if places.len() != 3 * rules {
-        return false;
-    }
-    let mut i: usize = 0;
-    while i < rules {
+    for i in 0..rules {
         if begins[i] != number(places, 3 * i) {
             return false;
         }
-        i += 1;
     }
     true
 }
@@ -27,19 +22,20 @@ fn read_so(form: Form, sheet: &[u8], told: &[u8]) -> bool {
         return false;
     }
     let mut begins = [0usize; 256];
-    let checked = sheet::check::check(form, sheet, &mut begins);
-    match checked {
-        Checked::Rules(rules, end) => {
-            let numbers = number(told, 0) == 0
+    match check(form, sheet, &mut begins) {
+        Ok(rules) => {
+            number(told, 0) == 0
                 && number(told, 3) == 0
-                && number(told, 6) == rules
-                && number(told, 9) == end;
-            numbers && begin_so(&begins, rules, &told[12..])
+                && number(told, 6) == rules.count
+                && number(told, 9) == rules.end
+                && begin_so(&begins, rules.count, &told[12..])
         }
-        Checked::Refused(code, place) => number(told, 0) == code as usize
-            && number(told, 3) == place
-            && number(told, 6) == 0
-            && number(told, 9) == 0,
+        Err(refusal) => {
+            number(told, 0) == usize::from(refusal.reason.code())
+                && number(told, 3) == refusal.place
+                && number(told, 6) == 0
+                && number(told, 9) == 0
+        }
     }
 }
 

@@ -1,7 +1,6 @@
 // Records of a file of stored answers: numbers of three bytes, or of eight, the high byte first, and bytes behind them.
 ghost use Rattle.std.specs.Prelude.{◌+◌, ◌≤◌, ◌<◌, ◌^◌, length, take, ◌≡◌};
 
-use casts::u8_to_usize;
 use std::fs::File;
 use std::io::Read;
 
@@ -10,15 +9,15 @@ pub fn number(s: &[u8], at: usize) -> usize
     requires { at + 3 ≤ length s.now }
     ensures { result < 2 ^ 24 }
 {
-    u8_to_usize(s[at]) * 65536 + u8_to_usize(s[at + 1]) * 256 + u8_to_usize(s[at + 2])
+    usize::from(s[at]) * 65536 + usize::from(s[at + 1]) * 256 + usize::from(s[at + 2])
 }
 
 // The number of eight bytes at a place.
 pub fn long_number(s: &[u8], at: usize) -> u64
     requires { at + 8 ≤ length s.now }
 {
-    let high = (number(s, at) * 256 + u8_to_usize(s[at + 3])) as u64;
-    let low = (number(s, at + 4) * 256 + u8_to_usize(s[at + 7])) as u64;
+    let high = (number(s, at) * 256 + usize::from(s[at + 3])) as u64;
+    let low = (number(s, at + 4) * 256 + usize::from(s[at + 7])) as u64;
     high * 4294967296 + low
 }
 

@@ -4,7 +4,6 @@
 ghost use Rattle.std.specs.Prelude.{◌≤◌};
 
 use crate::record::long_number;
-use calendar::Dated;
 
 // A day more; none where there is no such date.
 fn with_day(digest: u64, year: u64, month: u64, day: u64) -> u64
@@ -12,10 +11,11 @@ fn with_day(digest: u64, year: u64, month: u64, day: u64) -> u64
     ensures { result ≤ 9999999999999936 }
 {
     match calendar::point_of(year, month, day) {
-        Dated::Point { weekday, week, .. } => {
-            (digest * 500 + (8 * week as u64 + weekday as u64)) % 9999999999999937
+        Some(point) => {
+            (digest * 500 + (8 * u64::from(point.week) + u64::from(point.weekday)))
+                % 9999999999999937
         }
-        Dated::NoDate => digest,
+        None => digest,
     }
 }
 
@@ -25,20 +25,16 @@ fn with_month(digest: u64, year: u64, month: u64) -> u64
     ensures { result ≤ 9999999999999936 }
 {
     let mut digest = digest;
-    let mut day: u64 = 1;
-    while day <= 31 {
+    for day in 1..32 {
         digest = with_day(digest, year, month, day);
-        day += 1;
     }
     digest
 }
 
 fn of_year(year: u64) -> u64 {
     let mut digest: u64 = 0;
-    let mut month: u64 = 1;
-    while month <= 12 {
+    for month in 1..13 {
         digest = with_month(digest, year, month);
-        month += 1;
     }
     digest
 }

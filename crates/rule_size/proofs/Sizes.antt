@@ -1,7 +1,7 @@
 -- How long what is written is: items of a sort, times, repeats, spans, rows and a whole rule.
 use mathlib.Core.Path.{◌≡◌, refl, ap, ◌∙◌}
-use mathlib.Core.List.{List, [], ◌∷◌, ◌++◌, flat_map}
-use Prim.Native.Nat.{ℕ, ◌+◌, ◌*◌, ◌-◌, ◌/◌, ◌%◌, ◌≤◌, ◌<◌, ◌^◌}
+use mathlib.Core.List.{List, [], ◌∷◌, ◌++◌, map, flat_map}
+use Prim.Native.Nat.{ℕ, ◌+◌, ◌*◌, ◌/◌, ◌%◌, ◌≤◌, ◌<◌, ◌^◌}
 use native.Mathlib.Nat.{mul-le-mul_right}
 use native.Mathlib.Omega.{arith}
 use lib.ListN.{length, get_or, length-append}
@@ -11,11 +11,11 @@ use Rattle.definition.specs.Sheet.{year_range, monthday_of, monthday_range, week
 use Rattle.definition.proofs.Bits.{length-bits}
 use Rattle.codes.specs.Number.{time_at, repeats_at, span_at}
 use Rattle.item_writer.proofs.Items.{days-bits, fixed-bits, variable-bits, no-repeats, repeats-bits, span-bits}
-use Rattle.rule_writer.specs.Rows.{item_bits, row_bits, rows_bits, spans_at, title_of, counts_of}
+use Rattle.rule_writer.specs.Rows.{item_bits, row_bits, rows_bits, title_of, counts_of}
 use Rattle.tables.specs.Items.{ends_at, row_place}
 use Rattle.rule_writer.specs.Written.{rule_bits}
 use Rattle.rule_writer.proofs.Items.{as-years, as-months, as-weeks, as-weekdays}
-use Rattle.rule_writer.proofs.Rows.{rows_none, rows_more, ends-length, row_inside, spans-none, spans-more}
+use Rattle.rule_writer.proofs.Rows.{rows_none, rows_more, ends-length, row_inside, spans_from, spans-none, spans-more}
 use Rattle.rule_writer.proofs.Laid.{rule-parts}
 
 -- ## Fields
@@ -110,15 +110,14 @@ module _ (n s e : ℕ) (starts : s ≡ n / 8589934592) (ends : e ≡ n / 16384 %
   pub repeated-size : (n % 8192 ≡ 0 → ⊥) → length (span.write (span_at n)) ≡ a + b + 1 + 1 + 12
   repeated-size k = span-size 13 (repeats-size (n % 8192) k) ∙ omega arith
 
-module _ (spans : List ℕ) (first many : ℕ) where
-  pub no-spans : many ≡ 0 → length (flat_map span.write (spans_at spans first many)) ≡ 0
-  no-spans e = ap length (spans-none spans first many e)
+module _ (spans : List ℕ) (k : ℕ) where
+  pub no-spans : length spans ≤ k → length (flat_map span.write (spans_from spans k)) ≡ 0
+  no-spans l = ap length (spans-none spans k l)
 
-  pub spans-size : (many ≡ 0 → ⊥) → first + many ≤ length spans → (n behind : ℕ) → length (span.write (span_at (get_or spans first 0))) ≡ n
-      → length (flat_map span.write (spans_at spans (first + 1) (many - 1))) ≡ behind → length (flat_map span.write (spans_at spans first many)) ≡ n + behind
-  spans-size some h n behind k b =
-      ap length (spans-more spans first many some h)
-      ∙ omega (arith, length-append (span.write (span_at (get_or spans first 0))) (flat_map span.write (spans_at spans (first + 1) (many - 1))), k, b)
+  pub spans-size : k < length spans → (n : ℕ) → length (span.write (span_at (get_or spans k 0))) ≡ n
+      → length (flat_map span.write (spans_from spans k)) ≡ n + length (flat_map span.write (spans_from spans (k + 1)))
+  spans-size l n e =
+      ap length (spans-more spans k l) ∙ omega (arith, length-append (span.write (span_at (get_or spans k 0))) (flat_map span.write (spans_from spans (k + 1))), e)
 
 -- ## A rule
 module _ (form : Form) where
@@ -142,22 +141,21 @@ module _ (form : Form) where
         three w w w (get_or row_counts 2 0) (get_or row_counts 3 0) many,
       )
 
-  pub rule-size : (operator state : ℕ) (ends row_counts spans : List ℕ) (first many rows times : ℕ) → row_place row_counts 4 ≤ length ends
-      → first + many ≤ length spans
-      → length (rows_bits ends row_counts 0) ≡ rows → length (flat_map span.write (spans_at spans first many)) ≡ times
-      → length (rule_bits form operator state ends row_counts (spans_at spans first many)) ≡ head_width form + rows + times
-  rule-size operator state ends row_counts spans first many rows times h k r t =
-      let all = flat_map span.write (spans_at spans first many) in
+  pub rule-size : (operator state : ℕ) (ends row_counts spans : List ℕ) (rows times : ℕ) → row_place row_counts 4 ≤ length ends
+      → length (rows_bits ends row_counts 0) ≡ rows → length (flat_map span.write (map span_at spans)) ≡ times
+      → length (rule_bits form operator state ends row_counts (map span_at spans)) ≡ head_width form + rows + times
+  rule-size operator state ends row_counts spans rows times h r t =
+      let all = flat_map span.write (map span_at spans) in
       let body = rows_bits ends row_counts 0 ++ all in
-      let counted = (counts form sheet_limits).write (counts_of row_counts many) in
-      ap length (rule-parts form operator state ends row_counts spans first many h k)
+      let counted = (counts form sheet_limits).write (counts_of row_counts (length spans)) in
+      ap length (rule-parts form operator state ends row_counts spans h)
       ∙ omega (
         arith,
         length-append ((title form sheet_limits).write (title_of operator state)) (counted ++ body),
         length-append counted body,
         length-append (rows_bits ends row_counts 0) all,
         title-size operator state,
-        counts-size row_counts many,
+        counts-size row_counts (length spans),
         r,
         t,
       )

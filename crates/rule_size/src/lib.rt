@@ -1,18 +1,17 @@
 // How many bits items, rows, spans and a whole rule take, before anything is written: the lengths of what `rule_writer` writes.
 #![tactic(auto)]
 
-ghost use Rattle.std.specs.Prelude.{◌≡◌, ℕ, ◌+◌, ◌*◌, ◌≤◌, ◌<◌, ◌^◌, length, get_or};
-ghost use mathlib.Core.List.{List, flat_map};
+ghost use Rattle.std.specs.Prelude.{◌≡◌, ℕ, ◌*◌, ◌≤◌, ◌<◌, ◌^◌, length, get_or};
+ghost use mathlib.Core.List.{List, map, flat_map};
 ghost use Rattle.definition.specs.Field.{Layout};
 ghost use Rattle.definition.specs.Range.{Ends};
 ghost use Rattle.definition.specs.Sheet.{time, span};
 ghost use Rattle.forms.specs.Form.{as_form};
 ghost use Rattle.codes.specs.Number.{time_at, span_at};
-ghost use Rattle.rule_writer.specs.Rows.{item_bits, rows_bits, spans_at};
+ghost use Rattle.rule_writer.specs.Rows.{item_bits, rows_bits};
 ghost use Rattle.tables.specs.Items.{row_place};
 ghost use Rattle.rule_writer.specs.Written.{rule_bits};
 
-use casts::u16_to_usize;
 use field::width;
 use forms::{Form, head_width};
 
@@ -30,16 +29,16 @@ fn item_bits(sort: usize) -> usize
     }
 }
 
-// The rows of the sorts from `sort` on, whatever their ends.
-fn rows_bits(item_counts: &[u16], sort: usize) -> usize
-    requires { (4 ≤ length item_counts.now) × ((s : ℕ) → get_or item_counts.now s 0 < 2 ^ 12) × (sort ≤ 4) }
-    ensures { ((ends : List ℕ) → row_place item_counts.now 4 ≤ length ends → length (rows_bits ends item_counts.now sort) ≡ result) × (result + 180224 * sort ≤ 720896) }
+// The rows of the four sorts, whatever their ends.
+fn rows_bits(item_counts: &[u16]) -> usize
+    requires { (4 ≤ length item_counts.now) × ((s : ℕ) → get_or item_counts.now s 0 < 2 ^ 12) }
+    ensures { ((ends : List ℕ) → row_place item_counts.now 4 ≤ length ends → length (rows_bits ends item_counts.now 0) ≡ result) × (result ≤ 720896) }
 {
-    if sort == 4 {
-        return 0;
+    let mut bits: usize = 0;
+    for sort in 0..4 {
+        bits += usize::from(item_counts[sort]) * item_bits(sort);
     }
-    let behind = rows_bits(item_counts, sort + 1);
-    u16_to_usize(item_counts[sort]) * item_bits(sort) + behind
+    bits
 }
 
 fn time_bits(number: u64) -> usize
@@ -64,31 +63,23 @@ fn span_bits(number: u64) -> usize
     }
 }
 
-fn spans_bits(spans: &[u64], first: usize, span_count: usize) -> usize
-    requires { (first + span_count ≤ length spans.now) × (span_count < 2 ^ 10) }
-    ensures { (length (flat_map span.write (spans_at spans.now first span_count)) ≡ result) × (result ≤ 52 * span_count) }
+fn spans_bits(spans: &[u64]) -> usize
+    requires { length spans.now < 2 ^ 10 }
+    ensures { (length (flat_map span.write (map span_at spans.now)) ≡ result) × (result ≤ 52 * length spans.now) }
 {
-    if span_count == 0 {
-        return 0;
+    let mut bits: usize = 0;
+    for span in spans {
+        bits += span_bits(*span);
     }
-    let behind = spans_bits(spans, first + 1, span_count - 1);
-    span_bits(spans[first]) + behind
+    bits
 }
 
 // A whole rule, whatever its operator, its state and its ends.
-pub fn rule_bits(
-    form: Form,
-    item_counts: &[u16],
-    spans: &[u64],
-    first: usize,
-    span_count: usize,
-) -> usize
+pub fn rule_bits(form: Form, item_counts: &[u16], spans: &[u64]) -> usize
     requires in_bounds { (4 ≤ length item_counts.now) × ((s : ℕ) → get_or item_counts.now s 0 < 2 ^ 12) }
-    requires span_count_in_bounds { (first + span_count ≤ length spans.now) × (span_count < 2 ^ 10) }
+    requires span_count_in_bounds { length spans.now < 2 ^ 10 }
     ensures { ((operator state : ℕ) (ends : List ℕ) → row_place item_counts.now 4 ≤ length ends
-        → length (rule_bits (as_form form) operator state ends item_counts.now (spans_at spans.now first span_count)) ≡ result) × (result < 2 ^ 20) }
+        → length (rule_bits (as_form form) operator state ends item_counts.now (map span_at spans.now)) ≡ result) × (result < 2 ^ 20) }
 {
-    let rows = rows_bits(item_counts, 0);
-    let times = spans_bits(spans, first, span_count);
-    head_width(form) + rows + times
+    head_width(form) + rows_bits(item_counts) + spans_bits(spans)
 }

@@ -1,5 +1,5 @@
 -- Rows of items: their tales step by step, and how many bits they take at most.
-use mathlib.Core.Path.{◌≡◌, refl, sym, ap, ap₂, ◌∙◌}
+use mathlib.Core.Path.{◌≡◌, refl, sym, ap, ap₂, ◌∙◌, subst}
 use mathlib.Core.List.{List, [], ◌∷◌, ◌++◌, append-nil, append_assoc}
 use mathlib.Core.Bool.{Bool, true, false, not, ◌||◌, or-false}
 use Prim.Native.Nat.{ℕ, zero, suc, ◌+◌, ◌*◌, ◌-◌, ◌≤◌, ◌<◌}
@@ -15,6 +15,9 @@ use Rattle.definition.specs.Text.{Text, ascii}
 use Rattle.definition.specs.Line.{year_text, month_text, week_text, weekday_text, is_plain, span_text}
 use Rattle.definition.proofs.Reading.{Short}
 use Rattle.definition.proofs.Lengths.{years-short, monthdays-short, weeks-short, weekdays-short, span-short}
+use Rattle.item.specs.declared.sort.Sort.{Sort}
+use Rattle.item.specs.declared.sort.Sort.TheVariants.{Years, Monthdays, Weeks, Weekdays, Spans}
+use Rattle.item.specs.Sort.{number_of}
 use Rattle.item.proofs.Sorts.{of-each}
 use Rattle.text.specs.Put.{Put, Within}
 use Rattle.text.proofs.Putting.{put-none, put_then}
@@ -48,6 +51,11 @@ pub record Ahead (whole : Tale) (sort : ℕ) (s l : List ℕ) (place at to : ℕ
 
 pub ahead-start : (sort n : ℕ) (s : List ℕ) (p : ℕ) (l : List ℕ) (place : ℕ) → Ahead (others_told sort n s p) sort s l place p place false n l
 ahead-start sort n s p l place = record { done = []; put = put-none l place; rest = refl }
+
+-- so many left, said otherwise
+pub ahead-as : {whole : Tale} {sort : ℕ} {s l : List ℕ} {place at to : ℕ} {wordless : Bool} {left left' : ℕ} {m : List ℕ} → left ≡ left'
+    → Ahead whole sort s l place at to wordless left m → Ahead whole sort s l place at to wordless left' m
+ahead-as {whole} {sort} {s} {l} {place} {at} {to} {wordless} {left} {left'} {m} e a = subst (λ n. Ahead whole sort s l place at to wordless n m) e a
 
 module _ {whole : Tale} {sort : ℕ} {s l : List ℕ} {place at to : ℕ} {wordless : Bool} {left : ℕ} {m : List ℕ}
     (ahead : Ahead whole sort s l place at to wordless left m) where
@@ -149,10 +157,18 @@ module _ (sort : ℕ) (s : List ℕ) (p : ℕ) where
       go true e = omega (arith, ap (λ x. x.next) (part_none n (eqb-true n 0 e)))
       go false e = omega (arith, ap (λ x. x.next) (part-some n (eqb-false n 0 e)), items-near n)
 
-pub opening-weeks : (sort : ℕ) → sort ≡ 2 → opening sort ≡ 119 ∷ 101 ∷ 101 ∷ 107 ∷ 32 ∷ []
+-- "the weeks after `week `"
+pub opening-weeks : (sort : Sort) → sort ≡ Weeks → opening (number_of sort) ≡ 119 ∷ 101 ∷ 101 ∷ 107 ∷ 32 ∷ []
 unfolding opening ascii
-opening-weeks sort e = rw (eq-eqb sort 2 e)
+opening-weeks sort e = rw e refl
 
 pub opening-none : (sort : ℕ) → (sort ≡ 2 → ⊥) → opening sort ≡ []
 unfolding opening
-opening-none sort e = rw (ne_eqb sort 2 e)
+opening-none sort f = rw (ne_eqb sort 2 f)
+
+pub opening-other : (sort : Sort) → (sort ≡ Weeks → ⊥) → opening (number_of sort) ≡ []
+opening-other Years f = opening-none 0 (λ e. omega arith)
+opening-other Monthdays f = opening-none 1 (λ e. omega arith)
+opening-other Weeks f = absurd (f refl)
+opening-other Weekdays f = opening-none 3 (λ e. omega arith)
+opening-other Spans f = opening-none 4 (λ e. omega arith)

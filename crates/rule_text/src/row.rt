@@ -1,43 +1,36 @@
 // A row of items as text, and the part of a rule that it makes.
-ghost use Rattle.std.specs.Prelude.{◌≡◌, ◌||◌, ◌+◌, ◌*◌, ◌<◌, ◌^◌};
+ghost use Rattle.std.specs.Prelude.{◌+◌, ◌*◌, ◌<◌, ◌^◌};
 ghost use Rattle.definition.specs.Field.{sheet_bits};
+ghost use Rattle.item.specs.Sort.{number_of};
 ghost use Rattle.text.specs.Put.{Put, Within};
 ghost use Rattle.rule_text.specs.Shows.{Shows};
 ghost use Rattle.rule_text.specs.Row.{others_told, items_told, opening, part_told};
 
 use crate::shown::{Shown, show_item};
+use item::sort::Sort;
 use text::{put_byte, put_word};
-
-// Whether one or both of two flags are set.
-pub fn either(one: bool, other: bool) -> bool
-    ensures { result ≡ one || other }
-{
-    if one { true } else { other }
-}
 
 // The items behind the first: "`,` between items".
 fn show_others(
     sheet: &[u8],
     start: usize,
-    sort: usize,
+    sort: Sort,
     count: u64,
     out: &mut [u8],
     place: usize,
 ) -> Shown
-    requires { (start + count * 52 < 2 ^ 29) × Within place (others_told sort count (sheet_bits sheet.now) start).text }
-    ensures { Shows (others_told sort count (sheet_bits sheet.now) start) out.old place result out.new }
+    requires { (start + count * 52 < 2 ^ 29) × Within place (others_told (number_of sort) count (sheet_bits sheet.now) start).text }
+    ensures { Shows (others_told (number_of sort) count (sheet_bits sheet.now) start) out.old place result out.new }
 {
     let mut at = start;
     let mut to = place;
     let mut wordless = false;
-    let mut left = count;
-    while 0 < left {
+    for _item in 0..count {
         let comma = put_byte(out, to, b',');
         let item = show_item(sheet, at, sort, out, comma);
         at = item.at;
         to = item.to;
-        wordless = either(wordless, item.wordless);
-        left -= 1;
+        wordless |= item.wordless;
     }
     Shown { at, to, wordless }
 }
@@ -46,13 +39,13 @@ fn show_others(
 pub fn show_items(
     sheet: &[u8],
     at: usize,
-    sort: usize,
+    sort: Sort,
     count: u64,
     out: &mut [u8],
     place: usize,
 ) -> Shown
-    requires { (at + count * 52 < 2 ^ 29) × Within place (items_told sort count (sheet_bits sheet.now) at).text }
-    ensures { Shows (items_told sort count (sheet_bits sheet.now) at) out.old place result out.new }
+    requires { (at + count * 52 < 2 ^ 29) × Within place (items_told (number_of sort) count (sheet_bits sheet.now) at).text }
+    ensures { Shows (items_told (number_of sort) count (sheet_bits sheet.now) at) out.old place result out.new }
 {
     if count == 0 {
         return Shown {
@@ -66,32 +59,32 @@ pub fn show_items(
     Shown {
         at: others.at,
         to: others.to,
-        wordless: either(first.wordless, others.wordless),
+        wordless: first.wordless | others.wordless,
     }
 }
 
 // "the weeks after `week `".
-fn put_opening(out: &mut [u8], place: usize, sort: usize) -> usize
-    requires { Within place (opening sort) }
-    ensures { Put out.old place (opening sort) result out.new }
+fn put_opening(out: &mut [u8], place: usize, sort: Sort) -> usize
+    requires { Within place (opening (number_of sort)) }
+    ensures { Put out.old place (opening (number_of sort)) result out.new }
 {
-    if sort == 2 {
-        return put_word(out, place, b"week ");
+    match sort {
+        Sort::Weeks => put_word(out, place, b"week "),
+        _ => place,
     }
-    place
 }
 
 // A part of the days, with the space behind it; nothing where it has no items.
 pub fn show_part(
     sheet: &[u8],
     at: usize,
-    sort: usize,
+    sort: Sort,
     count: u64,
     out: &mut [u8],
     place: usize,
 ) -> Shown
-    requires { (at + count * 52 < 2 ^ 29) × Within place (part_told sort count (sheet_bits sheet.now) at).text }
-    ensures { Shows (part_told sort count (sheet_bits sheet.now) at) out.old place result out.new }
+    requires { (at + count * 52 < 2 ^ 29) × Within place (part_told (number_of sort) count (sheet_bits sheet.now) at).text }
+    ensures { Shows (part_told (number_of sort) count (sheet_bits sheet.now) at) out.old place result out.new }
 {
     if count == 0 {
         return Shown {

@@ -6,15 +6,17 @@ ghost use Rattle.definition.specs.Point.{is_normal};
 ghost use Rattle.definition.specs.Show.{wordless};
 ghost use Rattle.forms.specs.Form.{as_form};
 ghost use Rattle.sheet.specs.Begin.{rule_read_at, Readable};
+ghost use Rattle.sheet.specs.Head.{AllAtMost};
 ghost use Rattle.text.specs.Put.{Put, Within};
 ghost use Rattle.rule_text.specs.Shows.{Shows};
 ghost use Rattle.rule_text.specs.Rule.{days_told, body_text, start_text, shown_text, lacks_words, Tells};
 
-use crate::row::{either, show_items, show_part};
+use crate::row::{show_items, show_part};
 use crate::shown::Shown;
 use forms::{Form, title_width};
+use item::sort::Sort;
 use item_text::state::{put_before, put_state};
-use sheet::rule::{CountsRead, TitleRead};
+use sheet::rule::{Counts, counts_at, title_at};
 
 // The place after a rule's text; and whether the rule has no words.
 #[derive(Clone, Copy)]
@@ -24,52 +26,53 @@ pub struct Told {
 }
 
 // "days in the order years, months, week numbers, weekdays".
-fn show_days(
-    sheet: &[u8],
-    at: usize,
-    years: u64,
-    monthdays: u64,
-    weeks: u64,
-    weekdays: u64,
-    out: &mut [u8],
-    place: usize,
-) -> Shown
-    requires at_bound { (at < 2 ^ 27) × (years ≤ 16) × (monthdays ≤ 16) × (weeks ≤ 16) × (weekdays ≤ 16) }
-    requires within { Within place (days_told years monthdays weeks weekdays (sheet_bits sheet.now) at).text }
-    ensures { Shows (days_told years monthdays weeks weekdays (sheet_bits sheet.now) at) out.old place result out.new }
+fn show_days(sheet: &[u8], at: usize, counts: Counts, out: &mut [u8], place: usize) -> Shown
+    requires at_bound { (at < 2 ^ 27) × AllAtMost 16 counts }
+    requires within { Within place (days_told counts.years counts.monthdays counts.weeks counts.weekdays (sheet_bits sheet.now) at).text }
+    ensures { Shows (days_told counts.years counts.monthdays counts.weeks counts.weekdays (sheet_bits sheet.now) at) out.old place result out.new }
 {
-    let first = show_part(sheet, at, 0, years, out, place);
-    let second = show_part(sheet, first.at, 1, monthdays, out, first.to);
-    let third = show_part(sheet, second.at, 2, weeks, out, second.to);
-    let fourth = show_part(sheet, third.at, 3, weekdays, out, third.to);
-    let later = either(third.wordless, fourth.wordless);
+    let first = show_part(sheet, at, Sort::Years, counts.years, out, place);
+    let second = show_part(
+        sheet,
+        first.at,
+        Sort::Monthdays,
+        counts.monthdays,
+        out,
+        first.to,
+    );
+    let third = show_part(sheet, second.at, Sort::Weeks, counts.weeks, out, second.to);
+    let fourth = show_part(
+        sheet,
+        third.at,
+        Sort::Weekdays,
+        counts.weekdays,
+        out,
+        third.to,
+    );
     Shown {
         at: fourth.at,
         to: fourth.to,
-        wordless: either(first.wordless, either(second.wordless, later)),
+        wordless: first.wordless | (second.wordless | (third.wordless | fourth.wordless)),
     }
 }
 
-// The days and the spans of the rule at a bit. "a rule with 0 spans" has no words.
+// The days and the spans of the rule at a bit. "a rule with 0 spans" has no words. The counts were read before, so the first return is never taken.
 fn show_body(form: Form, sheet: &[u8], at: usize, out: &mut [u8], place: usize) -> Told
     requires readable { Readable (as_form form) (sheet_bits sheet.now) at }
     requires at_bound { (at < 2 ^ 25) × Within place (body_text (rule_read_at (as_form form) (sheet_bits sheet.now) at)) }
     ensures { Tells (body_text (rule_read_at (as_form form) (sheet_bits sheet.now) at)) (wordless (rule_read_at (as_form form) (sheet_bits sheet.now) at)) out.old place result out.new }
 {
-    let counts = sheet::rule::counts_at(form, sheet, at + title_width(form));
-    match counts {
-        CountsRead::Counts(years, monthdays, weeks, weekdays, spans, items) => {
-            let days = show_days(sheet, items, years, monthdays, weeks, weekdays, out, place);
-            let times = show_items(sheet, days.at, 4, spans, out, days.to);
-            Told {
-                to: times.to,
-                wordless: either(days.wordless, either(times.wordless, spans == 0)),
-            }
-        }
-        CountsRead::Refused(code, bit) => Told {
+    let Ok((counts, items)) = counts_at(form, sheet, at + title_width(form)) else {
+        return Told {
             to: place,
             wordless: true,
-        },
+        };
+    };
+    let days = show_days(sheet, items, counts, out, place);
+    let times = show_items(sheet, days.at, Sort::Spans, counts.spans, out, days.to);
+    Told {
+        to: times.to,
+        wordless: days.wordless | (times.wordless | (counts.spans == 0)),
     }
 }
 
@@ -88,10 +91,10 @@ fn put_start(out: &mut [u8], place: usize, first: bool, operator: u64) -> usize
 fn begins_wrong(first: bool, operator: u64) -> bool
     ensures { result ≡ first && not (is_normal (operator_of operator)) }
 {
-    if first { operator != 0 } else { false }
+    first && operator != 0
 }
 
-// The rule at a bit, the first one or a later one.
+// The rule at a bit, the first one or a later one. Its title was read before, so the first return is never taken.
 pub fn show_rule(
     form: Form,
     sheet: &[u8],
@@ -105,19 +108,16 @@ pub fn show_rule(
     ensures { Tells (shown_text first (rule_read_at (as_form form) (sheet_bits sheet.now) at)) (lacks_words first (rule_read_at (as_form form) (sheet_bits sheet.now) at))
         out.old place result out.new }
 {
-    let title = sheet::rule::title_at(form, sheet, at);
-    match title {
-        TitleRead::Title(operator, kind, comment, next) => {
-            let start = put_start(out, place, first, operator);
-            let body = show_body(form, sheet, at, out, start);
-            Told {
-                to: put_state(out, body.to, kind, comment),
-                wordless: either(begins_wrong(first, operator), body.wordless),
-            }
-        }
-        TitleRead::Refused(code, bit) => Told {
+    let Ok((title, _)) = title_at(form, sheet, at) else {
+        return Told {
             to: place,
             wordless: true,
-        },
+        };
+    };
+    let start = put_start(out, place, first, title.operator);
+    let body = show_body(form, sheet, at, out, start);
+    Told {
+        to: put_state(out, body.to, title.kind, title.comment),
+        wordless: begins_wrong(first, title.operator) | body.wordless,
     }
 }

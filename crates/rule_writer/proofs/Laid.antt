@@ -2,7 +2,7 @@
 -- their items.
 use mathlib.Core.Path.{◌≡◌, refl, sym, ap, ap₂, ◌∙◌}
 use mathlib.Core.List.{List, [], ◌∷◌, ◌++◌, map, flat_map, append_assoc}
-use Prim.Native.Nat.{ℕ, ◌+◌, ◌≤◌}
+use Prim.Native.Nat.{ℕ, ◌≤◌}
 use native.Mathlib.Omega.{arith}
 use lib.ListN.{length, length-map}
 use Rattle.laws.specs.Lists.{from}
@@ -15,11 +15,12 @@ use Rattle.definition.specs.Range.{Ends}
 use Rattle.definition.specs.Sheet.{year_range, monthday_range, week_range, week_day_range, span, Form, sheet_limits, title, counts, Counts, head, body, rule}
 use Rattle.definition.specs.Point.{Dimension}
 use Rattle.definition.specs.Group.{items_of, laid_over}
+use Rattle.codes.specs.Number.{span_at}
 use Rattle.item_writer.specs.Written.{years_from, weeks_from, days_from}
-use Rattle.rule_writer.specs.Rows.{item_bits, row_bits, rows_bits, spans_at, title_of, counts_of}
+use Rattle.rule_writer.specs.Rows.{item_bits, row_bits, rows_bits, title_of, counts_of}
 use Rattle.tables.specs.Items.{row_place, row, over_items, rows_below}
 use Rattle.rule_writer.specs.Written.{items_in, rule_bits}
-use Rattle.rule_writer.proofs.Rows.{row-length, spans-length}
+use Rattle.rule_writer.proofs.Rows.{row-length}
 
 -- items of one sort, one behind the other
 as_row : {A : Type 0} (L : Layout A) (make : Ends → A) (sort : ℕ) → ((e : Ends) → L.write (make e) ≡ item_bits sort e) → (es : List Ends)
@@ -108,17 +109,17 @@ module _ (form : Form) (ends row_counts : List ℕ) where
       )
 
 -- with the spans that lie in a slice
-pub rule-parts : (form : Form) (operator state : ℕ) (ends row_counts spans : List ℕ) (first many : ℕ) → row_place row_counts 4 ≤ length ends → first + many ≤ length spans
-    → rule_bits form operator state ends row_counts (spans_at spans first many)
+pub rule-parts : (form : Form) (operator state : ℕ) (ends row_counts spans : List ℕ) → row_place row_counts 4 ≤ length ends
+    → rule_bits form operator state ends row_counts (map span_at spans)
     ≡ (title form sheet_limits).write (title_of operator state) ++
-    ((counts form sheet_limits).write (counts_of row_counts many) ++ (rows_bits ends row_counts 0 ++ flat_map span.write (spans_at spans first many)))
-rule-parts form operator state ends row_counts spans first many h k =
-    rule-bits form ends row_counts operator state (spans_at spans first many) h
+    ((counts form sheet_limits).write (counts_of row_counts (length spans)) ++ (rows_bits ends row_counts 0 ++ flat_map span.write (map span_at spans)))
+rule-parts form operator state ends row_counts spans h =
+    rule-bits form ends row_counts operator state (map span_at spans) h
     ∙ ap
     (λ n.
     (title form sheet_limits).write (title_of operator state) ++
-    ((counts form sheet_limits).write (counts_of row_counts n) ++ (rows_bits ends row_counts 0 ++ flat_map span.write (spans_at spans first many))))
-    (spans-length spans first many k)
+    ((counts form sheet_limits).write (counts_of row_counts n) ++ (rows_bits ends row_counts 0 ++ flat_map span.write (map span_at spans))))
+    (length-map spans span_at)
 
 -- A RULE LAID OVER RUNS IS THE RULE OVER THEIR ITEMS
 pub over-laid : (ds : List Dimension) (Rs : List (List Range)) (r : Rule) → laid_over ds Rs r ≡ over_items ds (items_in ds Rs) r

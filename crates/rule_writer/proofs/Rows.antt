@@ -2,16 +2,17 @@
 -- the same for spans.
 use mathlib.Core.Path.{◌≡◌, refl, sym, ap, ap₂, ◌∙◌, subst}
 use mathlib.Core.List.{List, [], ◌∷◌, ◌++◌, map, flat_map}
-use Prim.Native.Nat.{ℕ, zero, suc, ◌+◌, ◌*◌, ◌-◌, ◌≤◌, ◌<◌}
+use Prim.Native.Nat.{ℕ, zero, suc, ◌+◌, ◌*◌, ◌-◌, ◌/◌, ◌≤◌, ◌<◌}
 use native.Mathlib.Omega.{arith}
 use lib.ListN.{length, take, drop, get_or, length-map, length-drop}
-use lib.Seq.{drop-cons, length-take-le}
+use lib.Seq.{drop-cons, take_all, length-take-le}
+use Rattle.std.proofs.lemmas.List.{drop_all}
 use Rattle.laws.specs.Lists.{from, All}
 use Rattle.definition.specs.Rule.{Span}
 use Rattle.definition.specs.Range.{Ends}
 use Rattle.definition.specs.Sheet.{span}
 use Rattle.codes.specs.Number.{span_at}
-use Rattle.rule_writer.specs.Rows.{item_bits, row_bits, rows_bits, spans_at}
+use Rattle.rule_writer.specs.Rows.{pairs_of, item_bits, row_bits, rows_bits, spans_at}
 use Rattle.tables.specs.Items.{pairs, ends_at, row_place, row}
 
 -- ## A row of pairs
@@ -53,12 +54,40 @@ module _ (ends : List ℕ) (place many : ℕ) where
     ends-cons : ends_at ends place many ≡ (a, b) ∷ ends_at ends (place + 2) (many - 1)
     ends-cons = ends_more ends place many some inside ∙ ap (◌∷ ends_at ends (place + 2) (many - 1)) (λ i. (sym first i, sym second i))
 
-    pub row_more : (sort : ℕ) → row_bits sort (ends_at ends place many) ≡ item_bits sort (a, b) ++ row_bits sort (ends_at ends (place + 2) (many - 1))
-    unfolding row_bits flat_map
-    row_more sort = ap (row_bits sort) ends-cons
+-- the pairs of a row of ends from one on
+module _ (row : List ℕ) where
+  abbrev pub pairs_from : ℕ → List Ends
+  pairs_from k = ends_at row (2 * k) (length row / 2 - k)
 
-    pub row_lawful : (P : Ends → Type 0) → All P (ends_at ends place many) → P (a, b) × All P (ends_at ends (place + 2) (many - 1))
-    row_lawful P h = subst (All P) ends-cons h
+  pub pairs-all : pairs_of row ≡ pairs_from 0
+  unfolding pairs_of
+  pairs-all = let z : 0 ≡ 2 * 0 = omega arith in let n : length row / 2 ≡ length row / 2 - 0 = omega arith in ap₂ (ends_at row) z n
+
+  pub pairs-none : (sort k : ℕ) → length row / 2 ≤ k → row_bits sort (pairs_from k) ≡ []
+  pairs-none sort k l = row-none row (2 * k) (length row / 2 - k) sort (omega arith)
+
+  module _ (k : ℕ) (l : k < length row / 2) (a b : ℕ) (first : a ≡ get_or row (2 * k) 0) (second : b ≡ get_or row (2 * k + 1) 0) where
+    pairs-cons : pairs_from k ≡ (a, b) ∷ pairs_from (k + 1)
+    pairs-cons =
+        let p : 2 * k + 2 ≡ 2 * (k + 1) = omega arith in
+        let n : length row / 2 - k - 1 ≡ length row / 2 - (k + 1) = omega arith in
+        ends-cons row (2 * k) (length row / 2 - k) (λ z. omega arith) (omega arith) a b first second ∙ ap₂ (λ i m. (a, b) ∷ ends_at row i m) p n
+
+    pub pairs-more : (sort : ℕ) → row_bits sort (pairs_from k) ≡ item_bits sort (a, b) ++ row_bits sort (pairs_from (k + 1))
+    unfolding row_bits flat_map
+    pairs-more sort = ap (row_bits sort) pairs-cons
+
+    pub pairs-lawful : (P : Ends → Type 0) → All P (pairs_from k) → P (a, b) × All P (pairs_from (k + 1))
+    pairs-lawful P h = subst (All P) pairs-cons h
+
+-- a row that lies among others
+pub pairs-within : (ends : List ℕ) (place many long : ℕ) → place + 2 * many ≤ length ends → long ≡ 2 * many → pairs_of (take long (drop place ends)) ≡ ends_at ends place many
+unfolding pairs_of ends_at
+pairs-within ends place many long h e =
+    let row = take long (drop place ends) in
+    let size : length row ≡ 2 * many = length-take-le long (drop place ends) (omega (arith, length-drop place ends)) ∙ e in
+    let half : 2 * (length row / 2) ≡ 2 * many = omega (arith, size) in
+    ap (λ n. pairs (take n row)) half ∙ ap pairs (take_all (2 * many) row (omega (arith, size)) ∙ ap (λ n. take n (drop place ends)) e)
 
 -- ## The rows, sort by sort
 module _ (ends counts : List ℕ) where
@@ -102,28 +131,28 @@ unfolding row
 row-length ends counts sort l h = ends-length (get_or counts sort 0) ends (row_place counts sort) (row_inside ends counts sort l h)
 
 -- ## Spans
-module _ (spans : List ℕ) (first many : ℕ) where
-  pub spans-none : many ≡ 0 → flat_map span.write (spans_at spans first many) ≡ []
-  unfolding spans_at flat_map
-  spans-none e = rw e refl
+module _ (spans : List ℕ) (k : ℕ) where
+  -- those from one on
+  abbrev pub spans_from : List Span
+  spans_from = map span_at (drop k spans)
 
-  module _ (some : many ≡ 0 → ⊥) (inside : first + many ≤ length spans) where
-    spans-cons : spans_at spans first many ≡ span_at (get_or spans first 0) ∷ spans_at spans (first + 1) (many - 1)
-    unfolding spans_at
-    spans-cons =
-        let e : many ≡ suc (many - 1) = omega arith in
-        let next : suc first ≡ first + 1 = omega arith in
-        ap₂ (λ n l. map span_at (take n l)) e (drop-cons spans first 0 (omega arith))
-        ∙ ap (λ j. span_at (get_or spans first 0) ∷ map span_at (take (many - 1) (drop j spans))) next
+  pub spans-none : length spans ≤ k → flat_map span.write spans_from ≡ []
+  unfolding flat_map
+  spans-none l = ap (λ s. flat_map span.write (map span_at s)) (drop_all k spans l)
 
-    pub spans-more : flat_map span.write (spans_at spans first many)
-        ≡ span.write (span_at (get_or spans first 0)) ++ flat_map span.write (spans_at spans (first + 1) (many - 1))
+  module _ (l : k < length spans) where
+    pub spans-cons : spans_from ≡ span_at (get_or spans k 0) ∷ map span_at (drop (k + 1) spans)
+    spans-cons = let next : suc k ≡ k + 1 = omega arith in ap (map span_at) (drop-cons spans k 0 l ∙ ap (λ j. get_or spans k 0 ∷ drop j spans) next)
+
+    pub spans-more : flat_map span.write spans_from ≡ span.write (span_at (get_or spans k 0)) ++ flat_map span.write (map span_at (drop (k + 1) spans))
     unfolding flat_map
     spans-more = ap (flat_map span.write) spans-cons
 
-    pub spans-lawful : (P : Span → Type 0) → All P (spans_at spans first many) → P (span_at (get_or spans first 0)) × All P (spans_at spans (first + 1) (many - 1))
+    pub spans-lawful : (P : Span → Type 0) → All P spans_from → P (span_at (get_or spans k 0)) × All P (map span_at (drop (k + 1) spans))
     spans-lawful P h = subst (All P) spans-cons h
 
-  pub spans-length : first + many ≤ length spans → length (spans_at spans first many) ≡ many
-  unfolding spans_at
-  spans-length h = length-map (take many (drop first spans)) span_at ∙ length-take-le many (drop first spans) (omega (arith, length-drop first spans))
+-- so many from a place on
+pub spans-length : (spans : List ℕ) (first many : ℕ) → first + many ≤ length spans → length (spans_at spans first many) ≡ many
+unfolding spans_at
+spans-length spans first many h =
+    length-map (take many (drop first spans)) span_at ∙ length-take-le many (drop first spans) (omega (arith, length-drop first spans))

@@ -1,14 +1,18 @@
 -- What the parts of a rule are when they lie in slices: rows of ends, start, end, start, end .., by sorts (0 years, 1 months, 2 weeks,
 -- 3 weekdays), how many pairs each row has, spans by their numbers; and the bits of items and rows.
 use mathlib.Core.List.{List, map, flat_map}
-use Rattle.std.specs.Prelude.{ℕ, ◌-◌, take, drop, get_or}
+use Rattle.std.specs.Prelude.{ℕ, ◌-◌, ◌/◌, length, take, drop, get_or}
 use Rattle.laws.specs.Lists.{from}
 use Rattle.definition.specs.Rule.{months, operator_of, Span}
 use Rattle.definition.specs.Range.{Ends}
 use Rattle.definition.specs.Sheet.{year_range, monthday_range, week_range, week_day_range, Title, Counts}
 use Rattle.codes.specs.Number.{state_coded, span_at}
 use Rattle.item_writer.specs.Written.{years_from, weeks_from, days_from}
-use Rattle.tables.specs.Items.{by_sort, row}
+use Rattle.tables.specs.Items.{by_sort, ends_at, row}
+
+-- the pairs that a row of ends makes
+unfoldable pub pairs_of : List ℕ → List Ends
+pairs_of row = ends_at row 0 (length row / 2)
 
 unfoldable pub item_bits : ℕ → Ends → List ℕ
 item_bits sort e =

@@ -9,10 +9,9 @@ ghost use Rattle.item_writer.specs.Written.{RoomFor, Wrote};
 ghost use Rattle.tables.specs.Items.{FewItems};
 ghost use Rattle.rule_writer.specs.Rows.{title_of, counts_of};
 
-use casts::{u8_to_u64, u16_to_u64};
 use field::width;
 use forms::{Form, comment_width, item_count_width};
-use item_writer::put::{put_three, put_two};
+use item_writer::put::Fields;
 
 // "Rule: operator 2 (0 Normal, 1 Additional, 2 Fallback); kind 2 (0 Open, 1 Closed, 2 Unknown); comment 16", 24 in form 2.
 pub fn put_title(form: Form, out: &mut [u8], at: usize, operator: u64, state: u64) -> usize
@@ -20,16 +19,10 @@ pub fn put_title(form: Form, out: &mut [u8], at: usize, operator: u64, state: u6
     requires room_for { RoomFor (length out.old) at ((sheet.title (as_form form) sheet_limits).write (title_of operator state)) }
     ensures { Wrote out.old at ((sheet.title (as_form form) sheet_limits).write (title_of operator state)) out.new result }
 {
-    put_three(
-        out,
-        at,
-        width::CHOICE,
-        operator,
-        width::CHOICE,
-        u8_to_u64(codes::kind_of(state)),
-        comment_width(form),
-        codes::comment_of(state),
-    )
+    let title = Fields::new(width::CHOICE, operator)
+        .then(width::CHOICE, u64::from(codes::kind_of(state)))
+        .then(comment_width(form), codes::comment_of(state));
+    title.put(out, at)
 }
 
 // "five counts of 10 each: years, monthdays, weeks, weekdays, spans", of 12 in form 2.
@@ -39,22 +32,10 @@ pub fn put_counts(form: Form, out: &mut [u8], at: usize, item_counts: &[u16], sp
     ensures { Wrote out.old at ((sheet.counts (as_form form) sheet_limits).write (counts_of item_counts.now spans)) out.new result }
 {
     let width = item_count_width(form);
-    let weekdays_at = put_three(
-        out,
-        at,
-        width,
-        u16_to_u64(item_counts[0]),
-        width,
-        u16_to_u64(item_counts[1]),
-        width,
-        u16_to_u64(item_counts[2]),
-    );
-    put_two(
-        out,
-        weekdays_at,
-        width,
-        u16_to_u64(item_counts[3]),
-        width,
-        spans,
-    )
+    let dates = Fields::new(width, u64::from(item_counts[0]))
+        .then(width, u64::from(item_counts[1]))
+        .then(width, u64::from(item_counts[2]));
+    let weekdays_at = dates.put(out, at);
+    let rest = Fields::new(width, u64::from(item_counts[3])).then(width, spans);
+    rest.put(out, weekdays_at)
 }

@@ -1,19 +1,19 @@
 // Rows of items: pairs of ends of one sort, the four sorts one behind the other, and spans from their numbers.
-ghost use mathlib.Core.List.{flat_map};
-ghost use Rattle.std.specs.Prelude.{◌+◌, ◌*◌, ◌≤◌, length};
+ghost use mathlib.Core.List.{map, flat_map};
+ghost use Rattle.std.specs.Prelude.{length};
 ghost use Rattle.laws.specs.Lists.{All};
 ghost use Rattle.definition.specs.Field.{Layout};
 ghost use Rattle.definition.specs.Sheet.{span};
 ghost use Rattle.item_writer.specs.Written.{RoomFor, Wrote};
-ghost use Rattle.rule_writer.specs.Rows.{item_bits, row_bits, rows_bits, spans_at};
-ghost use Rattle.tables.specs.Items.{upper_of, Below, ends_at, Rows};
+ghost use Rattle.codes.specs.Number.{span_at};
+ghost use Rattle.rule_writer.specs.Rows.{pairs_of, item_bits, row_bits, rows_bits};
+ghost use Rattle.tables.specs.Items.{upper_of, Below, Rows};
 ghost use Rattle.tables.specs.Days.{FitsSpan};
 
-use casts::{u16_to_u64, u16_to_usize};
 use item_writer::day::{put_months, put_weekdays, put_weeks, put_years};
 use item_writer::time::put_span;
 
-// An item of a sort: 0 years, 1 months, 2 weeks, 3 weekdays.
+// An item of a sort: 0 years, 1 months, 2 weeks, 3 weekdays. A sort is the place of its count among the counts, so it stays a number.
 fn put_item(out: &mut [u8], at: usize, sort: usize, start: u64, end: u64) -> usize
     requires below { Below (upper_of sort) (start, end) }
     requires room_for { RoomFor (length out.old) at (item_bits sort (start, end)) }
@@ -27,33 +27,17 @@ fn put_item(out: &mut [u8], at: usize, sort: usize, start: u64, end: u64) -> usi
     }
 }
 
-// Writes a row: `item_count` pairs of ends from `place` on.
-pub fn put_row(
-    out: &mut [u8],
-    at: usize,
-    sort: usize,
-    ends: &[u16],
-    place: usize,
-    item_count: usize,
-) -> usize
-    requires item_count_in_bounds { place + 2 * item_count ≤ length ends.now }
-    requires all { All (Below (upper_of sort)) (ends_at ends.now place item_count) }
-    requires room_for { RoomFor (length out.old) at (row_bits sort (ends_at ends.now place item_count)) }
-    ensures { Wrote out.old at (row_bits sort (ends_at ends.now place item_count)) out.new result }
+// Writes a row: its pairs of ends.
+pub fn put_row(out: &mut [u8], at: usize, sort: usize, row: &[u16]) -> usize
+    requires all { All (Below (upper_of sort)) (pairs_of row.now) }
+    requires room_for { RoomFor (length out.old) at (row_bits sort (pairs_of row.now)) }
+    ensures { Wrote out.old at (row_bits sort (pairs_of row.now)) out.new result }
 {
     let mut next = at;
-    let mut from = place;
-    let mut items_left = item_count;
-    while items_left > 0 {
-        next = put_item(
-            out,
-            next,
-            sort,
-            u16_to_u64(ends[from]),
-            u16_to_u64(ends[from + 1]),
-        );
-        from += 2;
-        items_left -= 1;
+    for pair in 0..row.len() / 2 {
+        let start = u64::from(row[2 * pair]);
+        let end = u64::from(row[2 * pair + 1]);
+        next = put_item(out, next, sort, start, end);
     }
     next
 }
@@ -66,30 +50,23 @@ pub fn put_rows(out: &mut [u8], at: usize, ends: &[u16], item_counts: &[u16]) ->
 {
     let mut next = at;
     let mut place: usize = 0;
-    let mut sort: usize = 0;
-    while sort < 4 {
-        let item_count = u16_to_usize(item_counts[sort]);
-        next = put_row(out, next, sort, ends, place, item_count);
-        place += 2 * item_count;
-        sort += 1;
+    for sort in 0..4 {
+        let behind = place + 2 * usize::from(item_counts[sort]);
+        next = put_row(out, next, sort, &ends[place..behind]);
+        place = behind;
     }
     next
 }
 
-// Writes `span_count` spans, whose numbers stand from `first` on.
-pub fn put_spans(out: &mut [u8], at: usize, spans: &[u64], first: usize, span_count: usize) -> usize
-    requires span_count_in_bounds { first + span_count ≤ length spans.now }
-    requires all { All FitsSpan (spans_at spans.now first span_count) }
-    requires room_for { RoomFor (length out.old) at (flat_map span.write (spans_at spans.now first span_count)) }
-    ensures { Wrote out.old at (flat_map span.write (spans_at spans.now first span_count)) out.new result }
+// Writes spans, from their numbers.
+pub fn put_spans(out: &mut [u8], at: usize, spans: &[u64]) -> usize
+    requires all { All FitsSpan (map span_at spans.now) }
+    requires room_for { RoomFor (length out.old) at (flat_map span.write (map span_at spans.now)) }
+    ensures { Wrote out.old at (flat_map span.write (map span_at spans.now)) out.new result }
 {
     let mut next = at;
-    let mut from = first;
-    let mut spans_left = span_count;
-    while spans_left > 0 {
-        next = put_span(out, next, spans[from]);
-        from += 1;
-        spans_left -= 1;
+    for span in spans {
+        next = put_span(out, next, *span);
     }
     next
 }

@@ -1,6 +1,10 @@
 -- Where items end: how far each goes, and a row of items one by one.
 use mathlib.Core.Path.{◌≡◌, refl, sym, ap, ◌∙◌, subst}
 use mathlib.Core.List.{List}
+use Rattle.std.specs.Prelude.{Result, Err}
+use Rattle.std.specs.Result.{IsErrAnd}
+use Rattle.std.proofs.lemmas.Result.{err_from_is_err_and}
+use Rattle.answers.specs.declared.refusal.Refusal.{Refusal}
 use Prim.Native.Nat.{ℕ, zero, suc, ◌+◌, ◌*◌, ◌≤◌, ◌<◌}
 use native.Mathlib.Omega.{arith}
 use Rattle.definition.specs.Field.{Read, got, refused, and_then, Layout}
@@ -9,9 +13,11 @@ use Rattle.definition.proofs.Faithful.{clash}
 use Rattle.definition.proofs.Reading.{Short}
 use Rattle.definition.proofs.Lengths.{years-short, monthdays-short, weeks-short, weekdays-short, span-short}
 use Rattle.item.proofs.Sorts.{of-each}
-use Rattle.sheet.specs.declared.end.Step.{Step}
-use Rattle.sheet.specs.declared.end.Step.TheVariants.{At, Refused}
-use Rattle.sheet.specs.End.{End, ends, as_step, item_ends, skip_all}
+use Rattle.sheet.specs.End.{End, ends, item_ends, skip_all}
+
+-- a refusal that a `?` passes on
+pub fails_on : {T P : Type 0} (f : Result T Refusal → P) (r : Result T Refusal) (e : Refusal) (whole : P) → IsErrAnd r (λ y. y ≡ e) → whole ≡ f (Err e) → f r ≡ whole
+fails_on f r e whole h w = let p = err_from_is_err_and r h in ap f (p.1 ∙ ap Err p.2) ∙ sym w
 
 -- what is known to end was read
 pub ends-got : {A : Type 0} (w : Read A) (q : ℕ) → ends w ≡ got tt q → (x : A) × (w ≡ got x q)
@@ -29,12 +35,6 @@ item-short sort s p q =
     (end_short week_day_range 33 weekdays-short (omega arith) s p q) (end_short span 52 span-short (omega arith) s p q)
 
 -- ## A row of items, one by one
-pub went : {r : End} (t : Step) (q : ℕ) → as_step t ≡ r → t ≡ At q → r ≡ got tt q
-went t q e k = sym e ∙ ap as_step k
-
-pub halted : {r : End} (t : Step) (c p : ℕ) → as_step t ≡ r → t ≡ Refused c p → r ≡ refused c p
-halted t c p e k = sym e ∙ ap as_step k
-
 module _ (r : List ℕ → ℕ → End) (s : List ℕ) (p : ℕ) where
   pub skip-goes : (n m q : ℕ) → n ≡ suc m → r s p ≡ got tt q → skip_all r n s p ≡ skip_all r m s q
   unfolding skip_all

@@ -1,5 +1,4 @@
 pub mod Ends
-pub mod Heads
 pub mod WideHeads
 pub mod Rows
 pub mod RuleEnds

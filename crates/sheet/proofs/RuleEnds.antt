@@ -1,16 +1,10 @@
 -- Where a rule ends: its title, its counts, its items. One lemma for each return of `counted_end` and `rule_end`.
-use mathlib.Core.Path.{◌≡◌, refl, sym, ap, ◌∙◌}
+use mathlib.Core.Path.{◌≡◌, refl}
 use mathlib.Core.List.{List}
 use Prim.Native.Nat.{ℕ}
 use Rattle.definition.specs.Field.{Read, got, refused, and_then, ◌then◌, via, tagged}
-use Rattle.definition.specs.Rule.{operator_of, kind_of}
 use Rattle.definition.specs.Sheet.{Form, sheet_limits, Title, Counts, Body, rule_with, title, counts, head, body, rule}
-use Rattle.sheet.specs.declared.rule.CountsRead.{CountsRead}
-use Rattle.sheet.specs.declared.rule.CountsRead.TheVariants as counts_read
-use Rattle.sheet.specs.declared.rule.TitleRead.{TitleRead}
-use Rattle.sheet.specs.declared.rule.TitleRead.TheVariants as title_read
 use Rattle.sheet.specs.End.{ends}
-use Rattle.sheet.specs.Head.{as_title, as_counts}
 use Rattle.sheet.specs.Rules.{counted_ends}
 
 module _ (form : Form) where
@@ -41,16 +35,3 @@ module _ (form : Form) where
     pub rule-stops : (c q : ℕ) → (title form sheet_limits).read s p ≡ refused c q → ends ((rule form sheet_limits).read s p) ≡ refused c q
     unfolding rule tagged head ◌then◌
     rule-stops c q e = rw e
-
--- what a reader of the head says, once its case is known
-pub took-counts : {r : Read Counts} (t : CountsRead) (y m w d n q : ℕ) → as_counts t ≡ r → t ≡ counts_read.Counts y m w d n q → r ≡ got (y, (m, (w, (d, n)))) q
-took-counts t y m w d n q e k = sym e ∙ ap as_counts k
-
-pub stopped-counts : {r : Read Counts} (t : CountsRead) (c p : ℕ) → as_counts t ≡ r → t ≡ counts_read.Refused c p → r ≡ refused c p
-stopped-counts t c p e k = sym e ∙ ap as_counts k
-
-pub took-title : {r : Read Title} (t : TitleRead) (o k c q : ℕ) → as_title t ≡ r → t ≡ title_read.Title o k c q → r ≡ got (operator_of o, (kind_of k, c)) q
-took-title t o k c q e h = sym e ∙ ap as_title h
-
-pub stopped-title : {r : Read Title} (t : TitleRead) (c p : ℕ) → as_title t ≡ r → t ≡ title_read.Refused c p → r ≡ refused c p
-stopped-title t c p e k = sym e ∙ ap as_title k

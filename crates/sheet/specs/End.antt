@@ -1,9 +1,9 @@
 -- Where readings end: a reading without its values, just the bit after it, or the refusal.
-use Rattle.std.specs.Prelude.{List, ℕ, zero, suc}
+use Rattle.std.specs.Prelude.{List, ℕ, zero, suc, Result, Ok, Err}
 use Rattle.definition.specs.Field.{Read, got, refused, and_then}
+use Rattle.answers.specs.Refusal.{code_of}
+use Rattle.answers.specs.declared.refusal.Refusal.{Refusal}
 use Rattle.item.specs.Sort.{of_sort}
-use Rattle.sheet.specs.declared.end.Step.{Step}
-use Rattle.sheet.specs.declared.end.Step.TheVariants.{At, Refused}
 
 -- only that something was read, and up to where
 abbrev pub End : Type 0
@@ -13,9 +13,9 @@ abbrev pub ends : {A : Type 0} → Read A → End
 ends (got x q) = got tt q
 ends (refused c p) = refused c p
 
-abbrev pub as_step : Step → End
-as_step (At q) = got tt q
-as_step (Refused c p) = refused c p
+abbrev pub as_step : Result ℕ Refusal → End
+as_step (Ok q) = got tt q
+as_step (Err r) = refused (code_of r.reason) r.place
 
 -- an item of a sort
 abbrev pub item_ends : ℕ → List ℕ → ℕ → End

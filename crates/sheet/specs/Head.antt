@@ -1,26 +1,16 @@
 -- What the readers of a rule's head say.
-use Rattle.definition.specs.Field.{Read, got, refused}
+use Rattle.std.specs.Prelude.{ℕ, ◌≤◌}
 use Rattle.definition.specs.Rule.{operator_of, kind_of}
 use Rattle.definition.specs.Sheet.{Title, Counts}
-use Rattle.field.specs.declared.Taken.{Taken}
-use Rattle.field.specs.declared.Taken.TheVariants.{Value}
-use Rattle.sheet.specs.declared.rule.TitleRead.{TitleRead}
-use Rattle.sheet.specs.declared.rule.TitleRead.TheVariants as title_read
-use Rattle.sheet.specs.declared.rule.CountsRead.{CountsRead}
-use Rattle.sheet.specs.declared.rule.CountsRead.TheVariants as counts_read
+use Rattle.sheet.specs.declared.rule.Title as title
+use Rattle.sheet.specs.declared.rule.Counts as counts
 
-abbrev pub as_title : TitleRead → Read Title
-as_title (title_read.Title o k c q) = got (operator_of o, (kind_of k, c)) q
-as_title (title_read.Refused c p) = refused c p
+abbrev pub as_title : title.Title → Title
+as_title t = (operator_of t.operator, (kind_of t.kind, t.comment))
 
-abbrev pub title_refused : Taken → TitleRead
-title_refused (Value v q) = title_read.Refused 0 0
-title_refused (Taken.Refused c p) = title_read.Refused c p
+abbrev pub as_counts : counts.Counts → Counts
+as_counts n = (n.years, (n.monthdays, (n.weeks, (n.weekdays, n.spans))))
 
-abbrev pub as_counts : CountsRead → Read Counts
-as_counts (counts_read.Counts y m w d s q) = got (y, (m, (w, (d, s)))) q
-as_counts (counts_read.Refused c p) = refused c p
-
-abbrev pub counts_refused : Taken → CountsRead
-counts_refused (Value v q) = counts_read.Refused 0 0
-counts_refused (Taken.Refused c p) = counts_read.Refused c p
+-- no sort has more items than that
+abbrev pub AllAtMost : ℕ → counts.Counts → Type 0
+AllAtMost limit n = (n.years ≤ limit) × (n.monthdays ≤ limit) × (n.weeks ≤ limit) × (n.weekdays ≤ limit) × (n.spans ≤ limit)

@@ -1,12 +1,13 @@
 -- A whole sheet: its rules one behind the other, where each begins, and what a check of the sheet answers.
-use Rattle.std.specs.Prelude.{List, map, ℕ, zero, suc, ◌+◌, ◌*◌, ◌≤◌, ◌<◌, ◌^◌, length, get_or, set}
+use Rattle.std.specs.Prelude.{List, map, ℕ, zero, suc, ◌+◌, ◌*◌, ◌≤◌, ◌<◌, ◌^◌, length, get_or, set, Result, Ok, Err}
 use Rattle.std.proofs.Math.Option.{Option, none, some}
 use Rattle.laws.specs.Lists.{from}
 use Rattle.definition.specs.Field.{Read, got, refused, and_then, sheet_bits}
 use Rattle.definition.specs.Rule.{Rule}
 use Rattle.definition.specs.Sheet.{Form, sheet_limits, counts, body, rule, opening, ended, decode}
-use Rattle.sheet.specs.declared.check.Checked.{Checked}
-use Rattle.sheet.specs.declared.check.Checked.TheVariants.{Rules, Refused}
+use Rattle.answers.specs.Refusal.{code_of}
+use Rattle.answers.specs.declared.refusal.Refusal.{Refusal}
+use Rattle.sheet.specs.declared.check.Rules.{Rules}
 use Rattle.sheet.specs.End.{End, ends, skip_all}
 use Rattle.sheet.specs.Begin.{rule_read_at, Readable}
 
@@ -20,9 +21,9 @@ place_or end (some p) = p
 abbrev pub Places : ℕ → ℕ → Type 0
 Places bytes places = (i : ℕ) → i < sheet_limits.rules → i * 70 ≤ 8 * bytes → i < places
 
-abbrev pub as_checked : Checked → Read ℕ
-as_checked (Rules n q) = got n q
-as_checked (Refused c p) = refused c p
+abbrev pub as_checked : Result Rules Refusal → Read ℕ
+as_checked (Ok r) = got r.count r.end
+as_checked (Err r) = refused (code_of r.reason) r.place
 
 module _ (form : Form) where
   -- behind a rule's title: its counts, and the items that they count

@@ -7,8 +7,7 @@ ghost use Rattle.forms.specs.Form.{as_form};
 ghost use Rattle.answers.specs.Numbers.{write_numbers};
 ghost use Rattle.sheet.specs.Rules.{Places};
 
-use crate::check::Checked;
-use answers::Written;
+use answers::{Reason, Refusal, Written};
 use forms::Form;
 use limits::lacks_room;
 
@@ -18,17 +17,15 @@ fn copy_back(sheet: &[u8], out: &mut [u8]) -> Written
         × (out.new ≡ buffer (written_into (length out.old) sheet.now).result out.old) }
 {
     if lacks_room(out.len(), sheet.len()) {
-        return Written {
-            code: 7,
-            bytes: 0,
+        return Written::refused(Refusal {
+            reason: Reason::NoRoom,
             place: sheet.len(),
-        };
+        });
     }
-    let written = sheet.len();
-    out[..written].copy_from_slice(sheet);
+    out[..sheet.len()].copy_from_slice(sheet);
     Written {
         code: 0,
-        bytes: written,
+        bytes: sheet.len(),
         place: 0,
     }
 }
@@ -39,13 +36,8 @@ pub fn write_back(form: Form, sheet: &[u8], begins: &mut [usize], out: &mut [u8]
     ensures { (write_numbers result ≡ written_numbers (write_back (as_form form) sheet_limits (length out.old) sheet.now))
         × (out.new ≡ buffer (write_back (as_form form) sheet_limits (length out.old) sheet.now).result out.old) }
 {
-    let checked = crate::check::check(form, sheet, begins);
-    match checked {
-        Checked::Rules(count, end) => copy_back(sheet, out),
-        Checked::Refused(code, place) => Written {
-            code,
-            bytes: 0,
-            place,
-        },
+    match crate::check::check(form, sheet, begins) {
+        Ok(_) => copy_back(sheet, out),
+        Err(refusal) => Written::refused(refusal),
     }
 }

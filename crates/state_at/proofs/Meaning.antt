@@ -5,7 +5,7 @@ use mathlib.Core.Bool.{Bool, true, false, not, cond}
 use mathlib.Core.List.{List, [], ◌∷◌, ◌++◌, map, flat_map}
 use Prim.Native.Nat.{ℕ, ◌+◌, ◌*◌, ◌-◌, ◌≤◌, ◌<◌}
 use native.Mathlib.Omega.{arith}
-use lib.ListN.{length, get_or}
+use lib.ListN.{length, get_or, take, drop}
 use Rattle.laws.specs.Lists.{from, any_of, All}
 use Rattle.laws.proofs.Lists.{All-map, All-at}
 use Rattle.definition.specs.Field.{unsettled}
@@ -14,14 +14,15 @@ use Rattle.definition.specs.Day.{Stated, simple, within, stated, flattened, last
 use Rattle.definition.specs.Lookup.{Looked, refusal, found, state_at}
 use Rattle.codes.specs.Number as number
 use Rattle.words.specs.Words.{part}
-use Rattle.tables.specs.Sizes.{list_places, list_limit}
+use Rattle.words.proofs.Sets.{part-taken}
+use Rattle.tables.specs.Sizes.{list_places}
 use Rattle.tables.specs.Lists.{list_of}
 use Rattle.definition.specs.Rule.{no_rule}
 use Rattle.tables.specs.Rules.{rule_at, RuleTimes}
 use Rattle.tables.proofs.Times.{entry_at, entry-back}
-use Rattle.state_at.specs.Found.{looked, over_spans, onward, InTables, over_rule, over_list, numbers_from}
-use Rattle.state_at.specs.declared.StateFound.{StateFound}
-use Rattle.state_at.specs.declared.StateFound.TheVariants.{State}
+use Rattle.state_at.proofs.Walk.{part-named}
+use Rattle.state_at.specs.Found.{looked, over_spans, onward, InTables, over_rule, over_list}
+use Rattle.std.specs.Prelude.{Option, Some}
 
 -- ## Spans
 -- what the definition answers for some spans, where a state is shown before them
@@ -42,7 +43,7 @@ cond-state true m n = refl
 cond-state false m n = refl
 
 -- a rule's spans, before whatever comes next
-spans-looked : (m S shown : ℕ) (ws : List ℕ) (next : ℕ → StateFound) (rest : List Stated) → ((n : ℕ) → looked (next n) ≡ settled (number.state_coded n) rest m)
+spans-looked : (m S shown : ℕ) (ws : List ℕ) (next : ℕ → Option ℕ) (rest : List Stated) → ((n : ℕ) → looked (next n) ≡ settled (number.state_coded n) rest m)
     → looked (onward (over_spans m S shown ws) next) ≡ settled (number.state_coded shown) (stated (number.state_coded S, map number.span_at ws) ++ rest) m
 unfolding over_spans
 spans-looked m S shown [] next rest h = h shown
@@ -87,21 +88,25 @@ module _ (states counts spans : List ℕ) where
     rules-answered m ks named = list-looked m number.closed_number ks ∙ ap (λ es. settled rule.closed (flattened es) m) (entries-named ks named)
 
     -- ## The list at a place
-    module _ (lists : List ℕ) (node many : ℕ) (named : All (λ k. k < length rs) (list_of lists node)) (counted : many ≡ get_or lists (node * list_places) 0) where
-      list-numbers : numbers_from lists (node * list_places + 1) 0 many ≡ list_of lists node
+    module _ (lists : List ℕ) (node many : ℕ) (named : All (λ k. k < length rs) (list_of lists node)) (counted : many ≡ get_or lists (node * list_places) 0)
+        (there : node * list_places + 1 + many ≤ length lists) where
+      list-taken : take (node * list_places + 1 + many - (node * list_places + 1)) (drop (node * list_places + 1) lists) ≡ list_of lists node
       unfolding list_of
-      list-numbers = let z : many - 0 ≡ many = omega arith in ap (λ n. map (λ k. get_or lists (node * list_places + 1 + k) 0) (from 0 n)) (z ∙ counted)
+      list-taken =
+          let z : node * list_places + 1 + many - (node * list_places + 1) ≡ many = omega arith in
+          ap (λ n. take n (drop (node * list_places + 1) lists)) z ∙ part-taken lists (node * list_places + 1) many there
+          ∙ part-named lists (node * list_places + 1) 0 (node * list_places + 1) many (omega arith)
+          ∙ ap (λ n. map (λ k. get_or lists (node * list_places + 1 + k) 0) (from 0 n)) counted
 
       -- it can be walked
-      pub list-ready : node * list_places + list_places ≤ length lists → get_or lists (node * list_places) 0 ≤ list_limit
-          → (node * list_places + 1 + many ≤ length lists) × All (InTables states counts spans) (numbers_from lists (node * list_places + 1) 0 many)
-      list-ready there short = (omega arith, subst (All (InTables states counts spans)) (sym list-numbers) (All-map rule-there (list_of lists node) named))
+      pub list-ready : All (InTables states counts spans) (take (node * list_places + 1 + many - (node * list_places + 1)) (drop (node * list_places + 1) lists))
+      list-ready = subst (All (InTables states counts spans)) (sym list-taken) (All-map rule-there (list_of lists node) named)
 
-      pub list-answered : (m : ℕ) (r : StateFound) → r ≡ over_list states counts spans m number.closed_number (numbers_from lists (node * list_places + 1) 0 many)
+      pub list-answered : (m : ℕ) (r : Option ℕ) → r ≡ over_list states counts spans m number.closed_number (take (node * list_places + 1 + many - (node * list_places + 1)) (drop (node * list_places + 1) lists))
           → looked r ≡ state_at [] (map (rule_at rs) (list_of lists node)) m
-      list-answered m r h = ap looked (h ∙ ap (over_list states counts spans m number.closed_number) list-numbers) ∙ rules-answered m (list_of lists node) named
+      list-answered m r h = ap looked (h ∙ ap (over_list states counts spans m number.closed_number) list-taken) ∙ rules-answered m (list_of lists node) named
 
 -- the empty list leaves plain Closed
-pub empty-answered : (m : ℕ) → looked (State number.closed_number) ≡ state_at [] [] m
+pub empty-answered : (m : ℕ) → looked (Some number.closed_number) ≡ state_at [] [] m
 unfolding state_at number.state_coded flattened flat_map any_of last_over
 empty-answered m = refl

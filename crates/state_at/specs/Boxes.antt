@@ -5,11 +5,12 @@ use Rattle.definition.specs.Sheet.{sheet_limits}
 use Rattle.paving.specs.Grid.{size_of, Node}
 use Rattle.tables.specs.Cuts.{cut_of}
 use Rattle.tables.specs.Lists.{box_of}
+use Rattle.calendar.specs.Dated.{point_list}
 use Rattle.state_at.specs.declared.Moment.{Moment}
 
 -- the point of a moment, weekdays first
 abbrev pub moment_point : Moment → List ℕ
-moment_point m = m.weekday ∷ m.week ∷ m.month ∷ m.year ∷ []
+moment_point m = point_list m.point
 
 -- each number of a point lies in its dimension's bounds
 abbrev pub InBounds : List Range → List ℕ → Type 0

@@ -3,28 +3,26 @@ ghost use Rattle.std.specs.Prelude.{◌≡◌};
 ghost use Rattle.state_at.specs.Found.{looked};
 ghost use Rattle.answers.specs.Numbers.{looked_up};
 
-use super::StateFound;
 use answers::Answer;
-use casts::u32_to_u64;
 use codes::{comment_of, kind_of};
 
 const UNSETTLED: u64 = 9;
 
-// The numbers of what is found.
-pub fn numbers_of(found: StateFound) -> Answer
+// The numbers of the state that is found, or that a span which is not simple leaves it unsettled.
+pub fn numbers_of(found: Option<u32>) -> Answer
     ensures { looked_up result ≡ looked found }
 {
     match found {
-        StateFound::State(state) => {
-            let number = u32_to_u64(state);
+        Some(state) => {
+            let number = u64::from(state);
             Answer {
                 code: 0,
-                kind: kind_of(number) as u64,
+                kind: u64::from(kind_of(number)),
                 comment: comment_of(number),
                 place: 0,
             }
         }
-        StateFound::Unsettled => Answer {
+        None => Answer {
             code: UNSETTLED,
             kind: 0,
             comment: 0,

@@ -15,27 +15,17 @@ ghost use Rattle.state_at.specs.Found.{looked};
 ghost use Rattle.state_at.specs.Boxes.{InBounds, moment_point};
 
 use boxes::box_at;
-use casts::u16_to_usize;
+use calendar::Point;
 use list::{CLOSED, list_state};
 
-// A state by its number, or that a span which is not simple leaves it unsettled.
-#[derive(Clone, Copy)]
-pub enum StateFound {
-    State(u32),
-    Unsettled,
-}
-
-// A point in numbers, and a minute of its days.
-#[derive(Clone, Copy)]
+// A point, and a minute of its days.
+#[derive(Clone, Copy, PartialEq, Eq)]
 pub struct Moment {
-    pub weekday: u8,
-    pub week: u8,
-    pub month: u8,
-    pub year: u16,
+    pub point: Point,
     pub minute: u16,
 }
 
-// The state at a moment, by drained rules in tables and the lists of their boxes: `cells` has the number of each box's list, 0 for the empty list,
+// The number of the state at a moment, none where a span that is not simple leaves it unsettled: by drained rules in tables and the lists of their boxes: `cells` has the number of each box's list, 0 for the empty list,
 // whose state is plain Closed.
 pub fn look(
     states: &[u32],
@@ -47,7 +37,7 @@ pub fn look(
     sizes: &[u16],
     cuts: &[u16],
     moment: Moment,
-) -> StateFound
+) -> Option<u32>
     requires by_index { (rs : List Rule) × (used : ℕ) × RuleTimes states.now span_counts.now spans.now rs
         × BoxLists row_starts.now sizes.now cuts.now cells.now lists.now used rs }
     requires in_bounds { InBounds all_bounds (moment_point moment) }
@@ -55,18 +45,10 @@ pub fn look(
         → BoxLists row_starts.now sizes.now cuts.now cells.now lists.now used rs
         → looked result ≡ state_at [] (list_at rs (moment_point moment)) moment.minute }
 {
-    let box_index = box_at(
-        row_starts,
-        sizes,
-        cuts,
-        moment.weekday,
-        moment.week,
-        moment.month,
-        moment.year,
-    );
-    let number = u16_to_usize(cells[box_index]);
+    let box_index = box_at(row_starts, sizes, cuts, moment.point);
+    let number = usize::from(cells[box_index]);
     if number == 0 {
-        return StateFound::State(CLOSED);
+        return Some(CLOSED);
     }
     list_state(states, span_counts, spans, lists, number - 1, moment.minute)
 }

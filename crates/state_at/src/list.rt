@@ -1,18 +1,15 @@
 // The state at a minute by a list: rule after rule, and each rule's spans in order.
-ghost use Rattle.std.specs.Prelude.{◌≡◌, true, cond, List, [], map, ◌+◌, ◌*◌, ◌-◌, ◌≤◌, ◌<◌, length, get_or};
+ghost use Rattle.std.specs.Prelude.{◌≡◌, true, cond, List, [], map, ◌+◌, ◌*◌, ◌≤◌, ◌<◌, length, get_or};
 ghost use Rattle.laws.specs.Lists.{All};
 ghost use Rattle.definition.specs.Rule.{Rule};
 ghost use Rattle.definition.specs.Day.{simple, within};
 ghost use Rattle.definition.specs.Lookup.{state_at};
 ghost use Rattle.codes.specs.Number.{closed_number, span_at};
-ghost use Rattle.words.specs.Words.{part};
 ghost use Rattle.tables.specs.Sizes.{list_places, list_limit};
 ghost use Rattle.tables.specs.Lists.{list_of};
 ghost use Rattle.tables.specs.Rules.{rule_at, RuleTimes};
-ghost use Rattle.state_at.specs.Found.{over_spans, over_rule, over_list, InTables, numbers_from, looked};
+ghost use Rattle.state_at.specs.Found.{over_spans, over_rule, over_list, InTables, looked};
 
-use super::StateFound;
-use casts::{u8_to_usize, u16_to_usize};
 use codes::{end_of, fixed_time, is_simple, start_of};
 use tables::LIST_PLACES;
 
@@ -25,37 +22,25 @@ fn after_span(span: u64, minute: u16, state: u32, before: u32) -> u32
     ensures { result ≡ cond (within (span_at span) minute) state before }
 {
     let time = fixed_time(minute);
-    if start_of(span) <= time {
-        if time < end_of(span) { state } else { before }
+    if start_of(span) <= time && time < end_of(span) {
+        state
     } else {
         before
     }
 }
 
-// The state after some spans of a rule, all of one state.
-fn over_spans(
-    spans: &[u64],
-    first: usize,
-    end: usize,
-    minute: u16,
-    state: u32,
-    before: u32,
-) -> StateFound
-    requires { end ≤ length spans.now }
-    ensures { result ≡ over_spans minute state before (part spans.now first (end - first)) }
+// The state after some spans of a rule, all of one state; none after a span that is not simple.
+fn over_spans(spans: &[u64], minute: u16, state: u32, before: u32) -> Option<u32>
+    ensures { result ≡ over_spans minute state before spans.now }
 {
     let mut shown = before;
-    let mut at = first;
-    while at < end {
-        let span = spans[at];
-        if is_simple(span) {
-            shown = after_span(span, minute, state, shown);
-            at += 1;
-        } else {
-            return StateFound::Unsettled;
+    for span in spans {
+        if !is_simple(*span) {
+            return None;
         }
+        shown = after_span(*span, minute, state, shown);
     }
-    StateFound::State(shown)
+    Some(shown)
 }
 
 // The state after a rule's spans.
@@ -66,50 +51,32 @@ pub fn over_rule(
     rule: u16,
     minute: u16,
     before: u32,
-) -> StateFound
+) -> Option<u32>
     requires { InTables states.now span_counts.now spans.now rule }
     ensures { result ≡ over_rule states.now span_counts.now spans.now minute before rule }
 {
-    let row = u16_to_usize(rule);
+    let row = usize::from(rule);
     let first = row * 16;
-    let end = first + u8_to_usize(span_counts[row]);
-    over_spans(spans, first, end, minute, states[row], before)
+    let end = first + usize::from(span_counts[row]);
+    over_spans(&spans[first..end], minute, states[row], before)
 }
 
-// The state after the rules that so many numbers from a place on name.
+// The state after some rules, which are named by their numbers.
 fn over_list(
     states: &[u32],
     span_counts: &[u8],
     spans: &[u64],
-    lists: &[u16],
-    first: usize,
-    rule_count: usize,
+    rules: &[u16],
     minute: u16,
-) -> StateFound
-    requires rule_count_in_bounds { first + rule_count ≤ length lists.now }
-    requires all { All (InTables states.now span_counts.now spans.now) (numbers_from lists.now first 0 rule_count) }
-    ensures { result ≡ over_list states.now span_counts.now spans.now minute closed_number (numbers_from lists.now first 0 rule_count) }
+) -> Option<u32>
+    requires { All (InTables states.now span_counts.now spans.now) rules.now }
+    ensures { result ≡ over_list states.now span_counts.now spans.now minute closed_number rules.now }
 {
     let mut shown = CLOSED;
-    let mut next: usize = 0;
-    while next < rule_count {
-        let found = over_rule(
-            states,
-            span_counts,
-            spans,
-            lists[first + next],
-            minute,
-            shown,
-        );
-        match found {
-            StateFound::State(after) => {
-                shown = after;
-                next += 1;
-            }
-            StateFound::Unsettled => return StateFound::Unsettled,
-        }
+    for rule in rules {
+        shown = over_rule(states, span_counts, spans, *rule, minute, shown)?;
     }
-    StateFound::State(shown)
+    Some(shown)
 }
 
 // The state at a minute by the list at a place.
@@ -120,21 +87,14 @@ pub fn list_state(
     lists: &[u16],
     place: usize,
     minute: u16,
-) -> StateFound
+) -> Option<u32>
     requires rule_times { (rs : List Rule) × RuleTimes states.now span_counts.now spans.now rs × All (λ k. k < length rs) (list_of lists.now place) }
     requires list_places_in_bounds { (place * list_places + list_places ≤ length lists.now) × (get_or lists.now (place * list_places) 0 ≤ list_limit) }
     ensures { (rs : List Rule) → RuleTimes states.now span_counts.now spans.now rs → All (λ k. k < length rs) (list_of lists.now place)
         → looked result ≡ state_at [] (map (rule_at rs) (list_of lists.now place)) minute }
 {
     let at = place * LIST_PLACES;
-    let rule_count = u16_to_usize(lists[at]);
-    over_list(
-        states,
-        span_counts,
-        spans,
-        lists,
-        at + 1,
-        rule_count,
-        minute,
-    )
+    let first = at + 1;
+    let end = first + usize::from(lists[at]);
+    over_list(states, span_counts, spans, &lists[first..end], minute)
 }

@@ -1,21 +1,22 @@
 -- Items of each sort: what their readers say is why the definition's items stop.
-use mathlib.Core.Path.{◌≡◌, refl, ap}
+use mathlib.Core.Path.{◌≡◌, refl}
 use mathlib.Core.Bool.{Bool, true, false, ◌&&◌, ◌||◌, not, cond}
 use Prim.Native.Nat.{ℕ}
 use lib.Dec.{eqb}
 use borrow.Author.Tests.{eq-eqb}
 use Rattle.definition.specs.Rule.{Time, fixed, variable}
 use Rattle.definition.specs.Stop.{stays_today, every_nth}
-use Rattle.item.specs.declared.day.Stepped.{Stepped}
-use Rattle.item.specs.declared.day.Stepped.TheVariants as stepped
-use Rattle.item.specs.Answer.{as_stepped}
-use Rattle.stopping.specs.Part.{reasoned, step_reason, days_reason}
+use Rattle.std.specs.Prelude.{Result, Ok, Err}
+use Rattle.std.specs.Result.{result_unwrap_or}
+use Rattle.answers.specs.Refusal.{read_as}
+use Rattle.answers.specs.declared.refusal.Refusal.{Refusal}
+use Rattle.stopping.specs.Part.{found, reasoned, days_reason}
 
--- years or weeks, by their step
-pub steps-as : {A : Type 0} (make : ℕ × (ℕ × ℕ) → A) (f : A → ℕ) (k : ℕ) → ((x : ℕ × (ℕ × ℕ)) → step_reason k x ≡ f (make x)) → (p : ℕ) (read : Stepped)
-    → reasoned (step_reason k) p (as_stepped (λ x. x) read) ≡ reasoned f p (as_stepped make read)
-steps-as make f k same p (stepped.Item a b c q) = ap (λ z. reasoned (λ x. z) p (as_stepped (λ x. x) (stepped.Item a b c q))) (same (a, (b, c)))
-steps-as make f k same p (stepped.Refused c b) = refl
+-- the number that was read with the bit after it, or none at the bit itself
+pub or-none : (r : Result (ℕ × ℕ) Refusal) (p : ℕ)
+    → found (result_unwrap_or r (0, p)).0 (result_unwrap_or r (0, p)).1 ≡ reasoned (λ n. n) p (read_as (λ n. n) r)
+or-none (Ok v) p = refl
+or-none (Err e) p = refl
 
 -- weekdays that aren't moved
 pub days-stand : (o s e : ℕ) (t : Bool) → o ≡ 0 → t ≡ eqb o 0 && (eqb s every_nth && eqb e every_nth) → days_reason o s e ≡ cond t 0 8

@@ -1,7 +1,7 @@
 -- Rows of items, one by one: how many bits they take at most, and what is found in a row that was read.
 use mathlib.Core.Path.{◌≡◌, refl, sym, ap, ap₂, ◌∙◌}
 use mathlib.Core.List.{List, []}
-use Prim.Native.Nat.{ℕ, zero, suc, ◌+◌, ◌*◌, ◌-◌, ◌≤◌, ◌<◌}
+use Prim.Native.Nat.{ℕ, zero, suc, ◌+◌, ◌*◌, ◌≤◌}
 use native.Mathlib.Omega.{arith}
 use Rattle.definition.specs.Field.{Read, got, refused, read_all, Layout}
 use Rattle.definition.specs.Sheet.{year_range, monthday_range, week_range, week_day_range, span}
@@ -37,21 +37,14 @@ pub row-reached : (sort n : ℕ) (s : List ℕ) (p : ℕ) (r : Reasoned) → r �
 row-reached sort n s p r e = rw e (row_near sort n s (begun p))
 
 -- ## One item more, and the end
-module _ (sort n : ℕ) (s : List ℕ) (a p : ℕ) where
-  pub row_more : 0 < n → let x = item_reasoned sort s p in row_reasoned sort (n - 1) s (found (earlier a x.reason) x.at) ≡ row_reasoned sort n s (found a p)
+module _ (sort n : ℕ) (s : List ℕ) (r : Reasoned) where
+  pub row_more : (m : ℕ) → n ≡ suc m → let x = item_reasoned sort s r.at in row_reasoned sort m s (found (earlier r.reason x.reason) x.at) ≡ row_reasoned sort n s r
   unfolding row_reasoned
-  row_more h = go n refl
-    where
-      go : (k : ℕ) → n ≡ k → let x = item_reasoned sort s p in row_reasoned sort (n - 1) s (found (earlier a x.reason) x.at) ≡ row_reasoned sort n s (found a p)
-      go zero e = absurd (omega arith)
-      go (suc k) e =
-          let x = item_reasoned sort s p in
-          let z : n - 1 ≡ k = omega arith in
-          ap (λ j. row_reasoned sort j s (found (earlier a x.reason) x.at)) z ∙ sym (ap (λ j. row_reasoned sort j s (found a p)) e)
+  row_more m e = sym (ap (λ j. row_reasoned sort j s r) e)
 
-  pub row_ends : n ≡ 0 → row_reasoned sort n s (found a p) ≡ found a p
+  pub row_ends : n ≡ 0 → row_reasoned sort n s r ≡ r
   unfolding row_reasoned
-  row_ends e = ap (λ j. row_reasoned sort j s (found a p)) e
+  row_ends e = ap (λ j. row_reasoned sort j s r) e
 
 -- ## A row that was read
 module _ {A : Type 0} (L : Layout A) (f : A → ℕ) (sort : ℕ) (same : (s : List ℕ) (p : ℕ) → reasoned f p (L.read s p) ≡ item_reasoned sort s p) where

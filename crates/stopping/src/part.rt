@@ -1,14 +1,18 @@
 // Why an item stops its rule.
 ghost use Rattle.std.specs.Prelude.{◌≡◌, ◌<◌, ◌^◌};
+ghost use Rattle.answers.specs.Refusal.{read_as};
 ghost use Rattle.definition.specs.Field.{sheet_bits};
 ghost use Rattle.definition.specs.Stop.{stays_today};
-ghost use Rattle.item.specs.Answer.{as_stepped, as_monthday, as_week_day, as_time, as_span};
+ghost use Rattle.item.specs.Answer.{as_parts, as_monthday, as_week_day, as_time, as_span};
+ghost use Rattle.item.specs.Sort.{number_of};
 ghost use Rattle.stopping.specs.Part.{reasoned, step_reason, monthday_reason, days_reason, weekday_reason, span_reason, item_reasoned};
 
-use item::day::{Monthday, Stepped, WeekDay};
-use item::time::{SpanRead, Time};
+use answers::Read;
+use item::day::{Monthday, Steps, WeekDay};
+use item::sort::Sort;
+use item::time::{Span, Time};
 
-// The number of what stops, 0 for nothing, and the bit after what was read.
+// The number of what stops, and the bit after what was read. It is the number that users get as `why`, with 0 for nothing, and so no enum.
 #[derive(Clone, Copy)]
 pub struct Reasoned {
     pub reason: u64,
@@ -16,36 +20,19 @@ pub struct Reasoned {
 }
 
 // "a step other than 1", of years or of weeks: each has a number of its own.
-fn of_steps(read: Stepped, at: usize, number: u64) -> Reasoned
-    ensures { result ≡ reasoned (step_reason number) at (as_stepped (λ x. x) read) }
+fn of_steps(steps: Steps, number: u64) -> u64
+    ensures { result ≡ step_reason number (as_parts steps) }
 {
-    match read {
-        Stepped::Item(start, end, step, next) => Reasoned {
-            reason: if step == 1 { 0 } else { number },
-            at: next,
-        },
-        Stepped::Refused(code, place) => Reasoned { reason: 0, at },
-    }
+    if steps.step == 1 { 0 } else { number }
 }
 
 // "a monthday of tag 1 or 2".
-fn of_monthday(read: Monthday, at: usize) -> Reasoned
-    ensures { result ≡ reasoned monthday_reason at (as_monthday read) }
+fn of_monthday(monthday: Monthday) -> u64
+    ensures { result ≡ monthday_reason (as_monthday monthday) }
 {
-    match read {
-        Monthday::Months(start, end, next) => Reasoned {
-            reason: 0,
-            at: next,
-        },
-        Monthday::MonthsOf(start, end, year, next) => Reasoned {
-            reason: 4,
-            at: next,
-        },
-        Monthday::Dated(reference, next) => Reasoned {
-            reason: 4,
-            at: next,
-        },
-        Monthday::Refused(code, place) => Reasoned { reason: 0, at },
+    match monthday {
+        Monthday::Months { .. } => 0,
+        Monthday::MonthsOf { .. } | Monthday::Dated { .. } => 4,
     }
 }
 
@@ -53,31 +40,27 @@ fn of_monthday(read: Monthday, at: usize) -> Reasoned
 fn of_days(offset: u64, from_start: u64, from_end: u64) -> u64
     ensures { result ≡ days_reason offset from_start from_end }
 {
-    if offset == 0 {
-        if item::day::every_week(offset, from_start, from_end) {
-            0
-        } else {
-            8
-        }
-    } else {
+    if offset != 0 {
         7
+    } else if item::day::every_week(offset, from_start, from_end) {
+        0
+    } else {
+        8
     }
 }
 
 // "a holiday", whatever its offset, or weekdays that aren't meant as they stand.
-fn of_weekday(read: WeekDay, at: usize) -> Reasoned
-    ensures { result ≡ reasoned weekday_reason at (as_week_day read) }
+fn of_weekday(weekday: WeekDay) -> u64
+    ensures { result ≡ weekday_reason (as_week_day weekday) }
 {
-    match read {
-        WeekDay::Fixed(start, end, offset, from_start, from_end, next) => Reasoned {
-            reason: of_days(offset, from_start, from_end),
-            at: next,
-        },
-        WeekDay::Holiday(kind, offset, next) => Reasoned {
-            reason: 6,
-            at: next,
-        },
-        WeekDay::Refused(code, place) => Reasoned { reason: 0, at },
+    match weekday {
+        WeekDay::Fixed {
+            offset,
+            from_start,
+            from_end,
+            ..
+        } => of_days(offset, from_start, from_end),
+        WeekDay::Holiday { .. } => 6,
     }
 }
 
@@ -85,38 +68,58 @@ fn of_weekday(read: WeekDay, at: usize) -> Reasoned
 fn stays_today(start: Time, end: Time) -> bool
     ensures { result ≡ stays_today (as_time start) (as_time end) }
 {
-    match end {
-        Time::Fixed(last) => match start {
-            Time::Fixed(first) => { if first < last { last <= 1440 } else { false } }
-            Time::Variable(event, offset) => last == 1440,
-        },
-        Time::Variable(event, offset) => false,
+    match (start, end) {
+        (Time::Fixed(first), Time::Fixed(last)) => first < last && last <= 1440,
+        (Time::Variable { .. }, Time::Fixed(last)) => last == 1440,
+        (_, Time::Variable { .. }) => false,
     }
 }
 
 // "a span that may reach tomorrow".
-fn of_span(read: SpanRead, at: usize) -> Reasoned
-    ensures { result ≡ reasoned span_reason at (as_span read) }
+fn of_span(span: Span) -> u64
+    ensures { result ≡ span_reason (as_span span) }
 {
-    match read {
-        SpanRead::Span(start, end, open_end, repeats, next) => Reasoned {
-            reason: if stays_today(start, end) { 0 } else { 2 },
-            at: next,
-        },
-        SpanRead::Refused(code, place) => Reasoned { reason: 0, at },
+    if stays_today(span.start, span.end) {
+        0
+    } else {
+        2
     }
 }
 
-// An item of a sort: 0 years, 1 monthdays, 2 weeks, 3 weekdays, else spans.
-pub fn item_reason(sheet: &[u8], at: usize, sort: usize) -> Reasoned
+// The number of an item of a sort, and the bit after the item.
+fn number_at(sheet: &[u8], at: usize, sort: Sort) -> Read<u64>
     requires { at < 2 ^ 29 }
-    ensures { result ≡ item_reasoned sort (sheet_bits sheet.now) at }
+    ensures { reasoned (λ n. n) at (read_as (λ n. n) result) ≡ item_reasoned (number_of sort) (sheet_bits sheet.now) at }
 {
     match sort {
-        0 => of_steps(item::day::year_range_at(sheet, at), at, 3),
-        1 => of_monthday(item::day::monthday_range_at(sheet, at), at),
-        2 => of_steps(item::day::week_range_at(sheet, at), at, 5),
-        3 => of_weekday(item::day::week_day_range_at(sheet, at), at),
-        _ => of_span(item::time::span_at(sheet, at), at),
+        Sort::Years => {
+            let (years, next) = item::day::year_range_at(sheet, at)?;
+            Ok((of_steps(years, 3), next))
+        }
+        Sort::Monthdays => {
+            let (monthday, next) = item::day::monthday_range_at(sheet, at)?;
+            Ok((of_monthday(monthday), next))
+        }
+        Sort::Weeks => {
+            let (weeks, next) = item::day::week_range_at(sheet, at)?;
+            Ok((of_steps(weeks, 5), next))
+        }
+        Sort::Weekdays => {
+            let (weekday, next) = item::day::week_day_range_at(sheet, at)?;
+            Ok((of_weekday(weekday), next))
+        }
+        Sort::Spans => {
+            let (span, next) = item::time::span_at(sheet, at)?;
+            Ok((of_span(span), next))
+        }
     }
+}
+
+// Why an item of a sort stops its rule; nothing is known of an item that isn't read, and it takes no bits.
+pub fn item_reason(sheet: &[u8], at: usize, sort: Sort) -> Reasoned
+    requires { at < 2 ^ 29 }
+    ensures { result ≡ item_reasoned (number_of sort) (sheet_bits sheet.now) at }
+{
+    let (reason, next) = number_at(sheet, at, sort).unwrap_or((0, at));
+    Reasoned { reason, at: next }
 }

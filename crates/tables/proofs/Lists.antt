@@ -1,18 +1,15 @@
--- A list at a place is as long as its count says, and has a rule more where one was put at its end; the number of a box is one of the boxes'; and cells
--- named anew, one after the other. Rests on the laws of nodes.
+-- A list at a place is as long as its count says, and has a rule more where one was put at its end; the number of a box is one of the boxes'. Rests on the laws of nodes.
 use mathlib.Core.Path.{◌≡◌, refl, sym, ap, ap₂, ◌∙◌}
 use mathlib.Core.List.{List, [], ◌∷◌, ◌++◌, map, map-append}
 use Prim.Native.Nat.{ℕ, zero, suc, ◌+◌, ◌*◌, ◌<◌}
 use native.Mathlib.Omega.{arith}
-use lib.ListN.{length, get_or, set, length-map}
-use lib.Seq.{get_or-set_same, get_or-set_other}
-use borrow.Author.Count.{below_more}
+use lib.ListN.{length, get_or, length-map}
 use Rattle.laws.specs.Lists.{from}
 use Rattle.laws.proofs.Numbers.{length_from, from-append, map-from}
 use Rattle.paving.specs.Grid.{Node}
 use Rattle.paving.proofs.Room.{node_in, node-child}
 use Rattle.tables.specs.Sizes.{list_places}
-use Rattle.tables.specs.Lists.{list_of, Within, box_of, Renamed}
+use Rattle.tables.specs.Lists.{list_of, Within, box_of}
 
 pub list_length : (lists : List ℕ) (node : ℕ) → length (list_of lists node) ≡ get_or lists (node * list_places) 0
 unfolding list_of
@@ -47,19 +44,3 @@ box_in len sizes zero c [] n w = node_in len sizes 0 c n
 box_in len sizes zero c (x ∷ p) n w = absurd w
 box_in len sizes (suc i) c [] n w = absurd w
 box_in len sizes (suc i) c (x ∷ p) n w = box_in len sizes i (c * get_or sizes i 0 + x) p (node-child len sizes i c (get_or sizes i 0) x refl w.0 n) w.1
-
--- ## Cells named anew
-pub renamed-none : (cells numbers : List ℕ) → Renamed cells numbers cells 0
-renamed-none cells numbers = record { anew = λ box l. absurd (omega arith); later = λ box l. refl }
-
-pub renamed-more : (cells numbers cells' : List ℕ) (box number : ℕ) → number ≡ get_or cells' box 0 → box < length cells' → Renamed cells numbers cells' box
-    → Renamed cells numbers (set cells' box (get_or numbers number 0)) (box + 1)
-renamed-more cells numbers cells' box number e h r = record {
-  anew = below_more (λ b. get_or (set cells' box v) b 0 ≡ get_or numbers (get_or cells b 0) 0) box
-      (λ b l. get_or-set_other cells' box b v 0 (omega arith) ∙ r.anew b l)
-      (get_or-set_same cells' box v 0 h ∙ ap (λ k. get_or numbers k 0) (e ∙ r.later box (omega arith)));
-  later = λ b l. get_or-set_other cells' box b v 0 (omega arith) ∙ r.later b (omega arith);
-}
-  where
-    v : ℕ
-    v = get_or numbers number 0

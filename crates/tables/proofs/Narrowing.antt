@@ -1,9 +1,8 @@
--- Search among rising numbers: what holds while the numbers left are halved, and where the search ends.
-use mathlib.Core.Path.{◌≡◌, subst}
-use mathlib.Core.List.{List}
-use Prim.Native.Nat.{ℕ, zero, suc, ◌+◌, ◌-◌, ◌≤◌, ◌<◌}
-use native.Mathlib.Omega.{arith}
-use lib.ListN.{get_or}
+-- Search among rising numbers: they do not fall, and where the library's search among some of them ends is the place sought.
+use Rattle.std.proofs.Common.{◌≡◌, ℕ, zero, suc, ◌+◌, ◌-◌, ◌≤◌, ◌<◌, true, false, ltb, ltb-true, ltb-false, List, length, get_or, take, drop, length-take, length-drop, ◌∙◌, arith}
+use Rattle.std.specs.List.Sorted.{IsNonDecreasingBy, IsPartitionPoint}
+use Rattle.std.proofs.lemmas.List.{get_or-take, get_or-drop}
+use Rattle.std.proofs.lemmas.List.Sorted.{IsNonDecreasingBy-from_default}
 use Rattle.tables.specs.Search.{Rising, PlaceOf}
 
 -- ## Rising numbers
@@ -17,43 +16,39 @@ rising_le s p e r j k l h m = go (k - j) j l (omega arith)
     go zero i a q = let z : i ≡ k = omega arith in rw z (omega arith)
     go (suc n) i a q = omega (arith, r i a (omega arith), go n (i + 1) (omega arith) (omega arith))
 
--- ## The search
--- the place lies among the `left` numbers from `at` on, or behind them
-pub record Narrowed (s : List ℕ) (p e x at left : ℕ) : Type 0 where
-  pub from_first : p ≤ at
-  pub to_end : at + left ≤ e
-  pub below : (k : ℕ) → p ≤ k → k < at → get_or s k 0 < x
-  pub reached : at + left < e → x ≤ get_or s (at + left) 0
+-- ## The search among the numbers from p up to e
+module _ (s : List ℕ) (p e : ℕ) (h : p ≤ e) (l : e ≤ length s) where
+  sought : List ℕ
+  sought = take (e - p) (drop p s)
 
-module _ (s : List ℕ) (p e x : ℕ) where
-  pub narrowed-first : p ≤ e → Narrowed s p e x p (e - p)
-  narrowed-first h = record { from_first = omega arith; to_end = omega arith; below = λ k l m. absurd (omega arith); reached = λ l. absurd (omega arith) }
+  sought-length : length sought ≡ e - p
+  unfolding sought
+  sought-length = simp (length-take, length-drop) (omega arith)
 
-  module _ (at left half : ℕ) (n : Narrowed s p e x at left) (l : half < left) where
-    pub narrowed-up : Rising s p e → get_or s (at + half) 0 < x → Narrowed s p e x (at + half + 1) (left - half - 1)
-    narrowed-up r h = record {
-      from_first = omega (arith, n.from_first);
-      to_end = omega (arith, n.to_end);
-      below = under;
-      reached = λ b. subst (λ k. x ≤ get_or s k 0) same (n.reached (omega arith));
-    }
-      where
-        same : at + left ≡ at + half + 1 + (left - half - 1)
-        same = omega arith
+  sought-at : (i : ℕ) → i < e - p → get_or sought i 0 ≡ get_or s (p + i) 0
+  unfolding sought
+  sought-at i m = get_or-take (e - p) (drop p s) i 0 m ∙ get_or-drop p s i 0
 
-        under : (k : ℕ) → p ≤ k → k < at + half + 1 → get_or s k 0 < x
-        under k a b = omega (arith, h, rising_le s p e r k (at + half) a (omega arith) (omega (arith, n.to_end)))
+  pub sought-rises : Rising s p e → IsNonDecreasingBy (λ y. y) (take (e - p) (drop p s))
+  unfolding sought
+  sought-rises r = IsNonDecreasingBy-from_default (λ y. y) sought 0
+      (λ i j a b. omega (
+        arith,
+        sought-length,
+        sought-at i (omega (arith, sought-length)),
+        sought-at j (omega (arith, sought-length)),
+        rising_le s p e r (p + i) (p + j) (omega arith) (omega arith) (omega (arith, sought-length)),
+      ))
 
-    pub narrowed-down : x ≤ get_or s (at + half) 0 → Narrowed s p e x at half
-    narrowed-down h = record { from_first = n.from_first; to_end = omega (arith, n.to_end); below = n.below; reached = λ _. h }
-
-  pub narrowed-last : (at left : ℕ) → Narrowed s p e x at left → left ≤ 0 → PlaceOf s p e x at
-  narrowed-last at left n h = record {
-    from_first = n.from_first;
-    to_end = omega (arith, n.to_end);
-    below = n.below;
-    reached = λ b. subst (λ k. x ≤ get_or s k 0) same (n.reached (omega arith));
+  pub place-found : (x i : ℕ) → i ≤ length (take (e - p) (drop p s))
+      → IsPartitionPoint (λ y. ltb y x ≡ true) (λ y. ltb y x ≡ false) (take (e - p) (drop p s)) i → PlaceOf s p e x (p + i)
+  unfolding sought
+  place-found x i short parted = record {
+    from_first = omega arith;
+    to_end = omega (arith, sought-length);
+    below = λ k a b. under k (k - p) (omega arith) (omega arith);
+    reached = λ b. omega (arith, ltb-false _ _ (parted.1 i 0 (omega arith) (omega (arith, sought-length))), sought-at i (omega arith));
   }
     where
-      same : at + left ≡ at
-      same = omega arith
+      under : (k j : ℕ) → k ≡ p + j → j < i → get_or s k 0 < x
+      under k j q a = rw q (omega (arith, ltb-true _ _ (parted.0 j 0 (omega arith) a), sought-at j (omega (arith, sought-length))))

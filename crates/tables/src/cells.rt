@@ -2,16 +2,12 @@
 ghost use Rattle.std.specs.Prelude.{ℕ, ◌<◌, length, get_or};
 ghost use Rattle.tables.specs.Lists.{Renamed};
 
-use casts::u16_to_usize;
-
 // Each cell gets what the table `numbers` has for the number that it had.
 pub fn rename(cells: &mut [u16], numbers: &[u16])
     requires { (box : ℕ) → get_or cells.old box 0 < length numbers.now }
     ensures { Renamed cells.old numbers.now cells.new (length cells.old) }
 {
-    let mut box_index: usize = 0;
-    while box_index < cells.len() {
-        cells[box_index] = numbers[u16_to_usize(cells[box_index])];
-        box_index += 1;
+    for cell in cells.iter_mut() {
+        *cell = numbers[usize::from(*cell)];
     }
 }

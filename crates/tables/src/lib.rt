@@ -5,6 +5,7 @@
 
 pub mod cells;
 pub mod copy;
+pub mod lent;
 pub mod page;
 pub mod search;
 

@@ -8,16 +8,5 @@ pub fn place_in(numbers: &[u16], first: usize, end: usize, value: u16) -> usize
     requires rising { Rising numbers.now first end }
     ensures { PlaceOf numbers.now first end value result }
 {
-    let mut at = first;
-    let mut left = end - first;
-    while left > 0 {
-        let half = left / 2;
-        if numbers[at + half] < value {
-            at = at + half + 1;
-            left = left - half - 1;
-        } else {
-            left = half;
-        }
-    }
-    at
+    first + numbers[first..end].partition_point(|number| *number < value)
 }

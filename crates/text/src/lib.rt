@@ -22,10 +22,8 @@ pub fn put_word(out: &mut [u8], place: usize, word: &[u8]) -> usize
     requires { Within place word.now }
     ensures { Put out.old place word.now result out.new }
 {
-    let mut i: usize = 0;
-    while i < word.len() {
-        put_byte(out, place + i, word[i]);
-        i += 1;
+    for (i, byte) in word.iter().enumerate() {
+        put_byte(out, place + i, *byte);
     }
     place + word.len()
 }

@@ -1,2 +1,3 @@
 pub mod Sets
 pub mod Rising
+pub mod Putting

@@ -6,14 +6,7 @@ ghost use Rattle.std.specs.Prelude.{◌≡◌, ◌+◌, ◌*◌, ◌-◌, ◌%�
 ghost use Rattle.std.proofs.lemmas.List.Edits.{sets};
 ghost use Rattle.definition.specs.Field.{bits, sheet_bits};
 
-use casts::u8_to_u64;
 use field::low_bits;
-
-fn smaller(x: usize, y: usize) -> usize
-    ensures { (result ≤ x) × (result ≤ y) × (0 < x → 0 < y → 0 < result) }
-{
-    if x < y { x } else { y }
-}
 
 // Two numbers as one: the bits of the first, then those of the second, which are `width`.
 pub fn joined(high: u64, width: usize, low: u64) -> u64
@@ -29,11 +22,9 @@ fn put_bytes(out: &mut [u8], first: usize, past: usize, number: u64)
     ensures { sheet_bits out.new ≡ sets (sheet_bits out.old) (8 * first) (bits (8 * (past - first)) number) }
 {
     let mut rest = number;
-    let mut index = past;
-    while first < index {
-        index -= 1;
+    for index in (first..past).rev() {
         out[index] = (rest % 256) as u8;
-        rest = rest / 256;
+        rest /= 256;
     }
 }
 
@@ -50,8 +41,8 @@ pub fn put_field(out: &mut [u8], at: usize, width: usize, value: u64)
     let first = at / 8;
     let past = (end + 7) / 8;
     let behind = 8 * past - end;
-    let kept = u8_to_u64(out[first]) >> (8 - at % 8);
-    let after = low_bits(u8_to_u64(out[past - 1]), behind);
+    let kept = u64::from(out[first]) >> (8 - at % 8);
+    let after = low_bits(u64::from(out[past - 1]), behind);
     put_bytes(
         out,
         first,
@@ -65,9 +56,10 @@ fn copy_fields(sheet: &[u8], from: usize, count: usize, out: &mut [u8], at: usiz
     requires { (from + count ≤ 8 * length sheet.now) × (at + count ≤ 8 * length out.old) × (from + count < 2 ^ 32) × (at + count < 2 ^ 62) }
     ensures { sheet_bits out.new ≡ sets (sheet_bits out.old) at (take count (drop from (sheet_bits sheet.now))) }
 {
+    // Not a plain walk: each step is 32 bits, but the last one as long as what is left.
     let mut done: usize = 0;
     while done < count {
-        let width = smaller(32, count - done);
+        let width = (count - done).min(32);
         put_field(
             out,
             at + done,
@@ -85,11 +77,9 @@ fn copy_bytes(sheet: &[u8], from: usize, count: usize, out: &mut [u8], first: us
 {
     let start = from / 8;
     let behind = 8 - from % 8;
-    let mut done: usize = 0;
-    while done < count {
-        let two = u8_to_u64(sheet[start + done]) * 256 + u8_to_u64(sheet[start + done + 1]);
+    for done in 0..count {
+        let two = u64::from(sheet[start + done]) * 256 + u64::from(sheet[start + done + 1]);
         out[first + done] = ((two >> behind) % 256) as u8;
-        done += 1;
     }
 }
 

@@ -12,7 +12,7 @@ returns-then-lacks_room c =
     let args = c.args in
     let lacking = ltb-true _ _ (sym c.lacks_room.ensures ∙ c.if-lacks_room.true) in
     let not = written-not (length args.out.now) args.sheet.now lacking in
-    (sym (ap written_numbers not), sym (ap (λ w. buffer w.result args.out.now) not))
+    (c.refused.ensures ∙ sym (ap written_numbers not), sym (ap (λ w. buffer w.result args.out.now) not))
 
 pub returns : goal.returns
 returns c =

@@ -1,0 +1,20 @@
+-- A slice too short is left as it is, and else the answer stands at its front.
+use mathlib.Core.Path.{refl, ap, ◌∙◌}
+use lib.ListN.{length}
+use Rattle.definition.specs.Fold.{buffer}
+use Rattle.hours.proofs.Lent.{too_short, has_room, long-enough}
+use Rattle.hours.proofs.export.put_fold.Goals as goal
+
+pub returns-then-lacks_room : goal.returns-then-lacks_room
+returns-then-lacks_room c = (too_short 7 (length c.args.lent.now) _ c.lacks_room.ensures c.if-lacks_room.true, refl, refl)
+
+pub put_folded-requires : goal.put_folded-requires
+put_folded-requires c = has_room 7 (length c.args.lent.now) _ c.lacks_room.ensures c.if-lacks_room.false
+
+pub returns : goal.returns
+returns c =
+    let answer = c.fold_by.ensures in (
+      long-enough 7 (length c.args.lent.now) _ c.lacks_room.ensures c.if-lacks_room.false,
+      c.put_folded.ensures ∙ ap (λ n. buffer n c.args.lent.now) answer.0,
+      answer.1,
+    )

@@ -1,9 +1,0 @@
--- `item::time::TimeRead::refused` meets its contract.
-use mathlib.Core.Path.{sym, ap}
-use borrow.Author.Rules.{rules}
-use Rattle.item.specs.Answer.{time_refused}
-use Rattle.item.proofs.time.TimeRead.refused.Statement.{statement}
-use Rattle.item.proofs.time.TimeRead.refused.Tie as tie
-
-pub refused_spec : {M : Type 1} → statement M
-refused_spec = tie.close (tie.spec (λ c. search rules) (λ c. search rules) (λ c. ap time_refused (sym c.in-Refused.is)) (λ c. search rules))

@@ -1,0 +1,27 @@
+-- `rule_text::shown::show_year` meets its contract: what was read has words.
+use mathlib.Core.Path.{refl, sym, ap}
+use native.Mathlib.Omega.{arith}
+use lib.ListN.{length}
+use Rattle.definition.specs.Line.{year_text}
+use Rattle.field.proofs.Bytes.{known_bytes}
+use Rattle.text.proofs.Putting.{put_as}
+use Rattle.rule_text.proofs.Telling.{got-within, got-shows, refused-silent}
+use Rattle.rule_text.proofs.Items.{year-ends, year-item}
+use Rattle.rule_text.proofs.shown.show_year.Goals as goal
+
+pub returns-in_default : goal.returns-in_default
+returns-in_default c = refused-silent year_text _ _ _ _ _ _ _ (sym c.in_default.ensures) c.silent.ensures
+
+pub put_item-requires : goal.put_item-requires
+put_item-requires c =
+    let args = c.args in
+    let x = c.in-Ok.years in
+    let read = sym c.in-Ok.ensures in
+    let fit = year-ends args.sheet.now (known_bytes args.sheet.now (λ j. omega (arith, c.type_inv.sheet j))) args.at _ _ _ _ read in (
+      fit.0,
+      fit.1,
+      omega (arith, got-within year_text _ _ _ args.place _ _ read c.requires.1, ap length (year-item x.start x.end x.step)),
+    )
+
+pub returns : goal.returns
+returns c = got-shows year_text _ _ _ _ _ _ _ _ (sym c.in-Ok.ensures) refl (put_as (year-item _ _ _) c.put_item.ensures)
