@@ -35,7 +35,7 @@ fn seen_before(marks: &[u64], column: usize) -> bool
     marks[..column].contains(&marks[column])
 }
 
-// How many kinds of columns there are among the first `size` of a dimension, whose marks are put into a buffer that is lent.
+// How many kinds of columns there are among the first of a dimension, as many as a buffer that is lent has places for their marks.
 fn count_kinds(
     marks: &mut [u64],
     row_starts: &[u16],
@@ -44,16 +44,15 @@ fn count_kinds(
     ranges: &[u16],
     rules: usize,
     dimension: usize,
-    size: usize,
 ) -> usize
     requires all_there { AllThere range_counts.now ranges.now rules × (dimension < 4) × (rules ≤ 32) }
-    requires dimension_in_bounds { (dimension < length row_starts.now) × (get_or row_starts.now dimension 0 + size < length cuts.now) × (size ≤ length marks.old) }
-    ensures { (result ≤ size)
-        × Kinds range_counts.now ranges.now rules row_starts.now cuts.now dimension size result }
+    requires dimension_in_bounds { (dimension < length row_starts.now) × (get_or row_starts.now dimension 0 + length marks.old < length cuts.now) }
+    ensures { (result ≤ length marks.old)
+        × Kinds range_counts.now ranges.now rules row_starts.now cuts.now dimension (length marks.old) result }
 {
     let first = usize::from(row_starts[dimension]);
     let mut kinds: usize = 0;
-    for column in 0..size {
+    for column in 0..marks.len() {
         marks[column] = marks_of(range_counts, ranges, rules, dimension, cuts[first + column]);
         if !seen_before(marks, column) {
             kinds += 1;
@@ -84,14 +83,13 @@ fn kinds_in(
     }
     let mut marks = [0u64; MOST_COMPARED];
     count_kinds(
-        &mut marks,
+        &mut marks[..size],
         row_starts,
         cuts,
         range_counts,
         ranges,
         rules,
         dimension,
-        size,
     )
 }
 

@@ -3,10 +3,13 @@ ghost use Rattle.std.specs.Prelude.{◌≡◌};
 ghost use Rattle.state_at.specs.Found.{looked};
 ghost use Rattle.answers.specs.Numbers.{looked_up};
 
-use answers::Answer;
+use answers::{Answer, Reason, Refusal};
 use codes::{comment_of, kind_of};
 
-const UNSETTLED: u64 = 9;
+const UNSETTLED: Refusal = Refusal {
+    reason: Reason::Unsettled,
+    place: 0,
+};
 
 // The numbers of the state that is found, or that a span which is not simple leaves it unsettled.
 pub fn numbers_of(found: Option<u32>) -> Answer
@@ -22,11 +25,6 @@ pub fn numbers_of(found: Option<u32>) -> Answer
                 place: 0,
             }
         }
-        None => Answer {
-            code: UNSETTLED,
-            kind: 0,
-            comment: 0,
-            place: 0,
-        },
+        None => Answer::refused(UNSETTLED),
     }
 }

@@ -25,8 +25,8 @@ pub struct Moment {
     pub minute: u16,
 }
 
-// The number of the state at a moment, none where a span that is not simple leaves it unsettled: by drained rules in tables and the lists of their boxes: `cells` has the number of each box's list, 0 for the empty list,
-// whose state is plain Closed.
+// The number of the state at a moment, none where a span that is not simple leaves it unsettled. It is told by drained rules in tables and the lists
+// of their boxes: `cells` has the number of each box's list, 0 for the empty list, whose state is plain Closed.
 pub fn look(
     states: &[u32],
     span_counts: &[u8],

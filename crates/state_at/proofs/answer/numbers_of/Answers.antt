@@ -8,5 +8,4 @@ returns-in-Some c =
     state-numbers _ _ _ _ _ c.in-Some.is c.from-number.ensures (c.from.ensures ∙ c.kind_of.ensures) c.comment_of.ensures
 
 pub returns-in-None : goal.returns-in-None
-returns-in-None c =
-    unsettled-numbers _ c.in-None.is
+returns-in-None c = c.refused.ensures ∙ unsettled-numbers _ c.in-None.is
