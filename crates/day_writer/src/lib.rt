@@ -86,6 +86,7 @@ pub fn write_day(
     let mut next = at;
     let mut operator = 0;
     let mut entry: usize = 0;
+    // As in `measure_day`, an entry says where the next one begins.
     while entry < words.len() {
         let spans = entry + 2;
         let behind = spans + words[entry + 1] as usize;

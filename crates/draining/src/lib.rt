@@ -14,7 +14,7 @@ ghost use Rattle.draining.specs.Table.{Tabled, rules_from};
 
 use forms::Form;
 
-// How many rules were drained, and why the next one stopped, 0 where there is none.
+// How many rules were drained, and why the next one stopped, by the number that C gets, 0 where there is none.
 #[derive(Clone, Copy)]
 pub struct Drained {
     pub rules: usize,

@@ -21,7 +21,7 @@ use page_writer::paged::PagedRules;
 use page_writer::short::all_short;
 use page_writer::{measure_pages, write_pages};
 
-// The rules left, where they stand in the sheet: from a bit up to another, how many they are, and why the first of them stopped the fold.
+// The rules left, where they stand in the sheet: from a bit up to another, how many they are, and why the first of them stopped the fold, by the number that C gets.
 #[derive(Clone, Copy)]
 pub struct Left {
     pub start: usize,

@@ -53,7 +53,7 @@ fn look_tabled<
     )
 }
 
-// The same, with no larger tables than so many rules may need.
+// The same, with no larger tables than so many rules may need: by a match, since a const argument can't be computed.
 pub fn look_moment(
     form: Form,
     sheet: &[u8],

@@ -1,8 +1,8 @@
 // From tables and cut dimensions to the result: a list for each box (6, 14), pages of the folded rules, and these written before the rules that are left (13,
 // 7); by the engine of columns, or by the plain one where that is asked for.
 //
-// Clearing buffers for 4,096 boxes would take longer than the fold of a few, so that there are some sizes to choose from. A function that makes such
-// buffers is never put into its caller: then a sheet with few boxes has small arrays on its stack only.
+// Clearing buffers for 4,096 boxes would take longer than the fold of a few, so that there are some sizes to choose from: by a match, since a const argument
+// can't be computed. A function that makes such buffers is never put into its caller: then a sheet with few boxes has small arrays on its stack only.
 ghost use Rattle.std.specs.Prelude.{List, ◌≤◌};
 ghost use Rattle.definition.specs.Rule.{Rule};
 ghost use Rattle.forms.specs.Form.{as_form};

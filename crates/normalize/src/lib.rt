@@ -137,7 +137,7 @@ fn fold_tabled<
     )
 }
 
-// Folds the rules of a checked sheet, in tables for so many of them or for more, by the one engine or the other: the answer is the same.
+// Folds the rules of a checked sheet, in tables for so many of them or for more (by a match, since a const argument can't be computed), by the one engine or the other: the answer is the same.
 pub fn fold_rules(
     form: Form,
     sheet: &[u8],

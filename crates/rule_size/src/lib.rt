@@ -15,7 +15,7 @@ ghost use Rattle.rule_writer.specs.Written.{rule_bits};
 use field::width;
 use forms::{Form, head_width};
 
-// An item of a sort, whatever its ends.
+// An item of a sort, whatever its ends: 0 years, 1 months, 2 weeks, 3 weekdays. A sort is the place of its count among the counts, so it stays a number.
 fn item_bits(sort: usize) -> usize
     ensures { ((e : Ends) → length (item_bits sort e) ≡ result) × (result ≤ 44) }
 {
