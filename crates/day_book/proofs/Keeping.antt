@@ -5,7 +5,7 @@ use mathlib.Core.List.{List, ◌∷◌, ◌++◌}
 use Prim.Native.Nat.{ℕ, zero, suc, ◌+◌, ◌*◌, ◌-◌, ◌≤◌, ◌<◌}
 use native.Mathlib.Omega.{arith}
 use lib.Dec.{eqb}
-use lib.ListN.{length, get_or, set, take, drop, replicate, length-append, length-drop, length-replicate, length-set, get_or-append}
+use lib.ListN.{length, get_or, set, take, drop, length-append, length-drop, length-set, get_or-append}
 use lib.Seq.{get_or-take, get_or-append-add, get_or-set_same, get_or-set_other, length-take-le}
 use borrow.Author.Tests.{eqb-true, eqb-false}
 use Rattle.words.specs.Words.{part}
@@ -137,16 +137,3 @@ module _ (W : ℕ → List ℕ) (notes book : List ℕ) (room filled number : �
       few = omega (arith, same_size, opened.few);
     };
   }
-
--- ## An empty book
-no-notes : (n k : ℕ) → get_or {A = ℕ} (replicate n 0) k 0 ≡ 0
-no-notes zero k = refl
-no-notes (suc n) zero = refl
-no-notes (suc n) (suc k) = no-notes n k
-
-pub empty-open : (W : ℕ → List ℕ) (notes book room : ℕ) → room ≤ book → book < 65536 → Open W (replicate notes 0) (replicate book 0) room 0
-empty-open W notes book room roomy few = record {
-  held = λ number some. absurd (omega (arith, some, no-notes notes (2 * number + 1)));
-  roomy = omega (arith, length-replicate {A = ℕ} book 0);
-  few = omega (arith, length-replicate {A = ℕ} book 0);
-}

@@ -19,7 +19,7 @@ use Rattle.definition.proofs.Overlap.{overlaps-ends}
 use Rattle.tables.specs.Sizes.{range_places}
 use Rattle.tables.specs.Ranges.{selector_of}
 use Rattle.tables.specs.Rules.{rule_at, RuleDays}
-use Rattle.tables.proofs.Days.{fits-lawful, lent-counts, lent-ranges, days-lent, four-lent, ranges-lent}
+use Rattle.tables.proofs.Days.{fits-lawful, lent-counts, lent-ranges, days-lent}
 use Rattle.overlap.specs.Overlap.{row_of, FewRanges, Overlapping}
 
 -- ## Dimensions
@@ -43,13 +43,6 @@ module _ (counts ranges : List ℕ) where
 
 -- ## Rules
 module _ (counts ranges : List ℕ) (n : ℕ) (rs : List Rule) (days : RuleDays counts ranges n rs) where
-  pub few-lent : (k : ℕ) (here : k < n) → FewRanges (lent-counts counts ranges n rs days k here) (lent-ranges counts ranges n rs days k here)
-  few-lent k here = record {
-    four = four-lent counts ranges n rs days k here;
-    all-rows = ranges-lent counts ranges n rs days k here;
-    few = (days-lent counts ranges n rs days k here).few;
-  }
-
   -- what is found in a rule's rows is found in the rule
   pub rule-asked : (k : ℕ) (here : k < n) (b : Bool) → b ≡ meet_in (lent-counts counts ranges n rs days k here) (lent-ranges counts ranges n rs days k here) 4
       → overlaps (rule_at rs k) ≡ b

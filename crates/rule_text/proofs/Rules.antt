@@ -1,6 +1,6 @@
 -- Whole rules: their days part by part, and how the text of a rule is put together.
 use mathlib.Core.Path.{◌≡◌, refl, sym, ap, ap₂, ◌∙◌}
-use mathlib.Core.Bool.{Bool, true, false, ◌&&◌, ◌||◌, not, cond}
+use mathlib.Core.Bool.{Bool, ◌&&◌, ◌||◌, not}
 use mathlib.Core.List.{List, [], ◌∷◌, ◌++◌, append_assoc}
 use Prim.Native.Nat.{ℕ, suc, ◌+◌, ◌*◌, ◌≤◌}
 use native.Mathlib.Omega.{arith}
@@ -9,7 +9,7 @@ use lib.ListN.{length, length-append}
 use borrow.Author.Tests.{ne_eqb}
 use Rattle.laws.specs.Lists.{any_of}
 use Rattle.laws.proofs.Flags.{or_assoc}
-use Rattle.definition.specs.Rule.{Operator, Normal, Additional, Fallback, operator_of, Kind, State, Span, Rule}
+use Rattle.definition.specs.Rule.{Operator, Kind, State, Span, Rule}
 use Rattle.definition.specs.Point.{is_normal}
 use Rattle.definition.specs.Stop.{monthday_stops, weekday_stops}
 use Rattle.definition.specs.Text.{◌then◌, of, is_none, several}
@@ -60,14 +60,6 @@ module _ (years monthdays weeks weekdays : ℕ) (s : List ℕ) (p : ℕ) where
         part-near 2 s months_part.next weeks,
         part-near 3 s weeks_part.next weekdays,
       )
-
-pub normal-number : (o : ℕ) → is_normal (operator_of o) ≡ eqb o 0
-normal-number o = go (eqb o 0) (eqb o 1)
-  where
-    go : (a b : Bool) → is_normal (cond a Normal (cond b Additional Fallback)) ≡ a
-    go true b = refl
-    go false true = refl
-    go false false = refl
 
 -- ## The text of a rule
 pub rule-text : (r : Rule) → body_text r ++ state_text.write r.state ≡ rule_text.write r

@@ -2,7 +2,7 @@
 -- coordinates, and that all points of a box have the marks of its first one.
 use mathlib.Core.Path.{◌≡◌, sym, ap, ◌∙◌, subst}
 use mathlib.Core.List.{List, [], ◌∷◌, map}
-use Prim.Native.Nat.{ℕ, zero, suc, ◌+◌, ◌*◌, ◌-◌, ◌≤◌, ◌<◌}
+use Prim.Native.Nat.{ℕ, zero, suc, ◌+◌, ◌-◌, ◌≤◌, ◌<◌}
 use native.Mathlib.Omega.{arith}
 use lib.ListN.{length, get_or}
 use Rattle.laws.specs.Lists.{from, All, Mem}
@@ -15,7 +15,6 @@ use Rattle.definition.specs.Point.{dimensions, all_bounds, list_at}
 use Rattle.definition.proofs.Lawful.{Lawful}
 use Rattle.definition.proofs.FoldBox.{list_all}
 use Rattle.paving.proofs.Points.{coordinates_of}
-use Rattle.tables.specs.Sizes.{list_places, list_limit}
 use Rattle.tables.specs.Cuts.{cut_of, Cut}
 use Rattle.tables.specs.Lists.{list_of, named, shown, Within, start_of, BoxLists}
 use Rattle.tables.proofs.Stored.{box-listed, store-names}
@@ -103,9 +102,6 @@ module _ (rows sizes cuts cells lists : List ℕ) (used : ℕ) (rs : List Rule) 
     module _ (some : number ≡ 0 → ⊥) where
       in_use : number - 1 < used
       in_use = omega (arith, boxed.stored.store.names box)
-
-      pub list-there : ((number - 1) * list_places + list_places ≤ length lists) × (get_or lists ((number - 1) * list_places) 0 ≤ list_limit)
-      list-there = (omega (arith, in_use, boxed.stored.store.room), boxed.stored.store.short (number - 1) in_use)
 
       pub list-earlier : All (λ k. k < length rs) (list_of lists (number - 1))
       list-earlier = boxed.stored.earlier (number - 1) in_use

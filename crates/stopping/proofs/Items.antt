@@ -4,8 +4,7 @@ use mathlib.Core.Bool.{Bool, true, false, ◌&&◌, ◌||◌, not, cond}
 use Prim.Native.Nat.{ℕ}
 use lib.Dec.{eqb}
 use borrow.Author.Tests.{eq-eqb}
-use Rattle.definition.specs.Rule.{Time, fixed, variable}
-use Rattle.definition.specs.Stop.{stays_today, every_nth}
+use Rattle.definition.specs.Stop.{every_nth}
 use Rattle.std.specs.Prelude.{Result, Ok, Err}
 use Rattle.std.specs.Result.{result_unwrap_or}
 use Rattle.answers.specs.Refusal.{read_as}
@@ -26,8 +25,3 @@ days-stand o s e t z h = rw (h, eq-eqb o 0 z) (go (eqb s every_nth) (eqb e every
     go true true = refl
     go true false = refl
     go false b = refl
-
--- a variable end
-pub reaches-tomorrow : (a : Time) (e o : ℕ) → stays_today a (variable e o) ≡ false
-reaches-tomorrow (fixed m) e o = refl
-reaches-tomorrow (variable f p) e o = refl
