@@ -13,8 +13,8 @@
  *   short for it is answered `false`, and nothing is written anywhere. A longer one keeps its later numbers.
  * - A slice is a pointer and the count of its elements. A pointer with a count of 0 is not followed, and may be null.
  * - `out` and `numbers` must overlap neither each other nor `sheet`. So a sheet can't be folded in place.
- * - Nothing is kept between calls, nothing allocated, and nothing called but memset. Threads may call at once, each with its own `out`
- *   and `numbers`; they may share a `sheet` that nothing writes meanwhile.
+ * - Nothing is kept between calls, nothing allocated, and nothing called but memset and memmove. Threads may call at once, each with its
+ *   own `out` and `numbers`; they may share a `sheet` that nothing writes meanwhile.
  * - The stack must have HOURS_STACK bytes left.
  *
  * A call that was made before there were two forms gets HOURS_FORM_1 in front. A sheet that was accepted by the limits of before, 64 rules

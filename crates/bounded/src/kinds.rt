@@ -30,11 +30,15 @@ impl Bounded for OrderedWeekday {
     }
 
     fn next(self) -> OrderedWeekday {
-        OrderedWeekday(self.0 + 1)
+        if self.0 < Self::BOUND_UPPER.0 {
+            OrderedWeekday(self.0 + 1)
+        } else {
+            self
+        }
     }
 
     fn prev(self) -> OrderedWeekday {
-        OrderedWeekday(self.0 - 1)
+        OrderedWeekday(self.0.saturating_sub(1))
     }
 
     ghost starts = { refl };
@@ -70,11 +74,15 @@ impl Bounded for WeekNum {
     }
 
     fn next(self) -> WeekNum {
-        WeekNum(self.0 + 1)
+        if self.0 < Self::BOUND_UPPER.0 {
+            WeekNum(self.0 + 1)
+        } else {
+            self
+        }
     }
 
     fn prev(self) -> WeekNum {
-        WeekNum(self.0 - 1)
+        WeekNum(self.0.saturating_sub(1))
     }
 
     ghost starts = { refl };
@@ -110,11 +118,15 @@ impl Bounded for Month {
     }
 
     fn next(self) -> Month {
-        Month(self.0 + 1)
+        if self.0 < Self::BOUND_UPPER.0 {
+            Month(self.0 + 1)
+        } else {
+            self
+        }
     }
 
     fn prev(self) -> Month {
-        Month(self.0 - 1)
+        Month(self.0.saturating_sub(1))
     }
 
     ghost starts = { refl };
@@ -150,11 +162,15 @@ impl Bounded for Year {
     }
 
     fn next(self) -> Year {
-        Year(self.0 + 1)
+        if self.0 < Self::BOUND_UPPER.0 {
+            Year(self.0 + 1)
+        } else {
+            self
+        }
     }
 
     fn prev(self) -> Year {
-        Year(self.0 - 1)
+        Year(self.0.saturating_sub(1))
     }
 
     ghost starts = { refl };

@@ -2,13 +2,12 @@
 // normalize/bounded.rs. The definition is definition's specs/Rule (bounds) and specs/Range (`split`); specs/Kind and specs/Strict say what the
 // code's answers stand for.
 //
-// Ranges are plain numbers of 32 bits, whatever the kind: so every item, lawful or not, has its ranges, and no function of an item or a range
-// here has a `requires`.
+// Ranges are plain numbers of 32 bits, whatever the kind: so every item, lawful or not, has its ranges, and no function here has a `requires`.
 #![tactic(auto)]
 
 mod kinds;
 
-ghost use Rattle.std.specs.Prelude.{◌≡◌, ℕ, suc, ◌+◌, ◌-◌, ◌<◌};
+ghost use Rattle.std.specs.Prelude.{◌≡◌, ℕ, suc, cond, ◌+◌, ◌-◌, ltb};
 ghost use Rattle.grid.specs.Cut.{Range};
 ghost use Rattle.definition.specs.Range.{split};
 ghost use Rattle.bounded.specs.Strict.{pair_of, strict, list_of, inclusive, ends_of};
@@ -94,12 +93,12 @@ pub trait Bounded: Copy {
     fn number(self) -> u16
         ensures { result ≡ number_of self };
 
+    // One step up; the upper value stays, and what lies above it.
     fn next(self) -> Self
-        requires { number_of self < number_of BOUND_UPPER }
-        ensures { number_of result ≡ number_of self + 1 };
+        ensures { number_of result ≡ cond (ltb (number_of self) (number_of BOUND_UPPER)) (number_of self + 1) (number_of self) };
 
+    // One step down; 0 stays.
     fn prev(self) -> Self
-        requires { 0 < number_of self }
         ensures { number_of result ≡ number_of self - 1 };
 
     ghost starts: { number_of BOUND_START ≡ bounds_of.0 };

@@ -12,7 +12,7 @@ ghost use Rattle.paved.specs.Paved.{Paves};
 use answers::Refusal;
 use draw_rules::draw_rules;
 use fold_pages::fold_pages;
-use tables::lent::{Cuts, DrainedRules};
+use tables::lent::{Cuts, DrainedRules, RuleDays};
 
 // From the tables of the drained rules and the rows of their cuts to pages of the folded rules, in a store and a buffer that are lent: answers how many there are, or
 // refuses (6, 14).
@@ -29,7 +29,13 @@ pub fn pave(
     ensures { (rs : List Rule) → Lent rules.entry cuts.entry rs
         → Paves rules.entry.states.now rules.entry.span_counts.now rules.entry.spans.now lists.new pages.new rs result }
 {
-    let used = draw_rules(cells, lists, memo, rules, cuts)?;
+    let days = RuleDays {
+        rules: rules.states.len(),
+        replacing: rules.replacing,
+        range_counts: rules.range_counts,
+        ranges: rules.ranges,
+    };
+    let used = draw_rules(cells, lists, memo, days, cuts)?;
     let count = fold_pages(rules, lists, used, memo, cuts, cells, pages);
     Ok(count)
 }

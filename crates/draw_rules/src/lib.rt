@@ -18,26 +18,26 @@ use limits::lists_over;
 use list_reclaim::reclaim;
 use list_store::Drawn;
 use settle::settle;
-use tables::lent::{Cuts, DrainedRules};
+use tables::lent::{Cuts, RuleDays};
 
 // Draws the rule of a number over all boxes.
 fn draw_row(
     cells: &mut [u16],
     lists: &mut [u16],
     memo: &mut [u16],
-    rules: DrainedRules,
+    days: RuleDays,
     cuts: Cuts,
     rule: usize,
     replaces: bool,
     used: usize,
 ) -> Drawn
-    requires rule_bound { (rule < 65536) × (rule * 4 + 4 ≤ length rules.range_counts.now) × (rule * 256 + 256 ≤ length rules.ranges.now) }
-    requires lawful { Lawful cuts.sizes.now (table_row rules.range_counts.now rule 4) cuts.row_starts.now cuts.cuts.now (table_row rules.ranges.now rule 256) }
+    requires rule_bound { (rule < 65536) × (rule * 4 + 4 ≤ length days.range_counts.now) × (rule * 256 + 256 ≤ length days.ranges.now) }
+    requires lawful { Lawful cuts.sizes.now (table_row days.range_counts.now rule 4) cuts.row_starts.now cuts.cuts.now (table_row days.ranges.now rule 256) }
     requires ready { Ready cells.old lists.old memo.old rule used }
     requires node { Node (length cells.old) cuts.sizes.now 4 0 }
     ensures { Drew cells.old lists.old cells.new lists.new memo.new
-        (covered_box cuts.entry.sizes.now (table_row rules.entry.range_counts.now rule 4) cuts.entry.row_starts.now cuts.entry.cuts.now
-        (table_row rules.entry.ranges.now rule 256)) rule replaces used result.used result.overflowed }
+        (covered_box cuts.entry.sizes.now (table_row days.entry.range_counts.now rule 4) cuts.entry.row_starts.now cuts.entry.cuts.now
+        (table_row days.entry.ranges.now rule 256)) rule replaces used result.used result.overflowed }
 {
     let row = rule * 4;
     let first = rule * 256;
@@ -46,10 +46,10 @@ fn draw_row(
         lists,
         memo,
         cuts.sizes,
-        &rules.range_counts[row..row + 4],
+        &days.range_counts[row..row + 4],
         cuts.row_starts,
         cuts.cuts,
-        &rules.ranges[first..first + 256],
+        &days.ranges[first..first + 256],
         rule as u16,
         replaces,
         used,
@@ -63,26 +63,26 @@ pub fn draw_rules(
     cells: &mut [u16],
     lists: &mut [u16],
     memo: &mut [u16],
-    rules: DrainedRules,
+    days: RuleDays,
     cuts: Cuts,
 ) -> Result<usize, Refusal>
-    requires to_list { (rs : List Rule) × ToList rules.replacing.now rules.range_counts.now rules.ranges.now cuts.row_starts.now cuts.sizes.now cuts.cuts.now (length rules.states.now) rs }
+    requires to_list { (rs : List Rule) × ToList days.replacing.now days.range_counts.now days.ranges.now cuts.row_starts.now cuts.sizes.now cuts.cuts.now days.rules rs }
     requires no_lists { NoLists cells.old lists.old memo.old cuts.sizes.now }
     ensures { (rs : List Rule)
-        → ToList rules.entry.replacing.now rules.entry.range_counts.now rules.entry.ranges.now cuts.entry.row_starts.now cuts.entry.sizes.now cuts.entry.cuts.now (length rules.entry.states.now) rs
+        → ToList days.entry.replacing.now days.entry.range_counts.now days.entry.ranges.now cuts.entry.row_starts.now cuts.entry.sizes.now cuts.entry.cuts.now days.entry.rules rs
         → Listing cuts.entry.row_starts.now cuts.entry.sizes.now cuts.entry.cuts.now cells.new lists.new rs result }
 {
     let most = (memo.len() - 2) / 2;
     let mut used = 0;
-    for rule in 0..rules.states.len() {
+    for rule in 0..days.rules {
         let drawn = draw_row(
             cells,
             lists,
             memo,
-            rules,
+            days,
             cuts,
             rule,
-            rules.replacing[rule] == 1,
+            days.replacing[rule] == 1,
             used,
         );
         if drawn.overflowed {

@@ -56,6 +56,8 @@ fn pop_groups(cells: &mut [u16], classes: &[u8], cuts: Cuts, pages: &mut [u16]) 
 }
 
 // From boxes with lists to pages of the folded rules, with so many classes: one for each list and one for the empty list; answers how many pages there are.
+// It is never put into its caller, where the arrays of both sizes, and the words of days that are numbered, would stand side by side on one stack frame.
+#[inline(never)]
 fn fold_with<const CLASSES: usize>(
     rules: DrainedRules,
     lists: &[u16],

@@ -1,5 +1,5 @@
 -- What a stage makes of an item, sort by sort; and what holds of it for every sort.
-use mathlib.Core.Path.{◌≡◌, sym}
+use mathlib.Core.Path.{◌≡◌, sym, refl}
 use mathlib.Core.List.{List}
 use mathlib.Core.Bool.{Bool, true, false, cond}
 use Prim.Native.Nat.{ℕ}
@@ -8,7 +8,7 @@ use borrow.Author.Tests.{eq-eqb, ne_eqb}
 use Rattle.definition.specs.Field.{Read}
 use Rattle.definition.specs.Rule.{YearRange, MonthdayRange, WeekRange, WeekDayRange, Span}
 use Rattle.definition.specs.Sheet.{year_range, monthday_range, week_range, week_day_range, span}
-use Rattle.item.specs.Sort.{of_sort}
+use Rattle.item.specs.Sort.{named, of_sort}
 
 module _ {B : Type 0} (years : ℕ → Read YearRange → B) (monthdays : ℕ → Read MonthdayRange → B) (weeks : ℕ → Read WeekRange → B)
     (weekdays : ℕ → Read WeekDayRange → B) (spans : ℕ → Read Span → B) (sort : ℕ) (s : List ℕ) (p : ℕ) where
@@ -50,3 +50,18 @@ module _ {B : Type 0} (years : ℕ → Read YearRange → B) (monthdays : ℕ �
       go false false true e = w
       go false false false true = d
       go false false false false = t
+
+  -- a number says what the sort says that it names
+  pub of-named : (number : ℕ) → number ≡ named sort → of_sort years monthdays weeks weekdays spans number s p ≡ of
+  unfolding of_sort
+  of-named number e = rw e (go (eqb sort 0) (eqb sort 1) (eqb sort 2) (eqb sort 3))
+    where
+      chain : ℕ → B
+      chain n = of_sort years monthdays weeks weekdays spans n s p
+
+      go : (a b c e : Bool) → chain (cond a 0 (cond b 1 (cond c 2 (cond e 3 4)))) ≡ cond a (chain 0) (cond b (chain 1) (cond c (chain 2) (cond e (chain 3) (chain 4))))
+      go true b c e = refl
+      go false true c e = refl
+      go false false true e = refl
+      go false false false true = refl
+      go false false false false = refl

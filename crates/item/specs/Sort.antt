@@ -14,6 +14,10 @@ number_of Weeks = 2
 number_of Weekdays = 3
 number_of Spans = 4
 
+-- the number of the sort that a number names
+abbrev pub named : ℕ → ℕ
+named n = cond (eqb n 0) 0 (cond (eqb n 1) 1 (cond (eqb n 2) 2 (cond (eqb n 3) 3 4)))
+
 module _ {B : Type 0} (years : ℕ → Read YearRange → B) (monthdays : ℕ → Read MonthdayRange → B) (weeks : ℕ → Read WeekRange → B)
     (weekdays : ℕ → Read WeekDayRange → B) (spans : ℕ → Read Span → B) where
   unfoldable pub of_sort : ℕ → List ℕ → ℕ → B

@@ -1,4 +1,4 @@
--- The text of an item of days by its sort.
+-- The text of an item of days by its sort, which a number may name.
 use Rattle.std.specs.Prelude.{List, [], ◌++◌, cond, ℕ, eqb}
 use Rattle.grid.specs.Cut.{Range}
 use Rattle.definition.specs.Rule.{weekday_bounds, week_bounds, month_bounds, year_bounds}
@@ -12,6 +12,10 @@ month_name = named month_names month_bounds
 
 abbrev pub weekday_name : Text ℕ
 weekday_name = named weekday_names weekday_bounds
+
+-- the sort that a number names
+abbrev pub sort_named : ℕ → DaySort
+sort_named n = cond (eqb n 0) Years (cond (eqb n 1) Months (cond (eqb n 2) Weeks Weekdays))
 
 abbrev pub end_text : DaySort → Text ℕ
 end_text Years = padded 4 year_bounds

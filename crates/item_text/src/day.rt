@@ -3,7 +3,7 @@ ghost use Rattle.std.specs.Prelude.{◌≡◌, true};
 ghost use Rattle.definition.specs.Text.{Text};
 ghost use Rattle.definition.specs.Line.{single};
 ghost use Rattle.text.specs.Put.{Put, Within};
-ghost use Rattle.item_text.specs.Day.{month_name, weekday_name, end_text, item_text, behind};
+ghost use Rattle.item_text.specs.Day.{month_name, weekday_name, sort_named, end_text, item_text, behind};
 
 use text::{put_byte, put_decimal, put_four, put_name, put_two};
 
@@ -14,6 +14,20 @@ pub enum DaySort {
     Months,
     Weeks,
     Weekdays,
+}
+
+// Each number names a sort: 0 to 2 the first three, every other one weekdays.
+impl From<usize> for DaySort {
+    ghost from_gives = { λ number sort. sort ≡ sort_named number };
+
+    fn from(number: usize) -> DaySort {
+        match number {
+            0 => DaySort::Years,
+            1 => DaySort::Months,
+            2 => DaySort::Weeks,
+            _ => DaySort::Weekdays,
+        }
+    }
 }
 
 fn put_month(out: &mut [u8], place: usize, month: u64) -> usize
@@ -70,7 +84,8 @@ fn once(first: u64, last: u64, step: u64) -> bool
     first == last && step == 1
 }
 
-pub fn put_item(
+// An item of days: its first end, and what stands behind it unless it is alone.
+pub fn put_days(
     out: &mut [u8],
     place: usize,
     sort: DaySort,
@@ -86,4 +101,20 @@ pub fn put_item(
         return end;
     }
     put_behind(out, end, sort, last, step)
+}
+
+// The same by the sort's number, weekdays from 3 on.
+pub fn put_item(
+    out: &mut [u8],
+    place: usize,
+    sort: usize,
+    first: u64,
+    last: u64,
+    step: u64,
+) -> usize
+    requires { ((end_text (sort_named sort)).fits first ≡ true) × ((end_text (sort_named sort)).fits last ≡ true)
+        × Within place ((item_text (sort_named sort)).write (first, (last, step))) }
+    ensures { Put out.old place ((item_text (sort_named sort)).write (first, (last, step))) result out.new }
+{
+    put_days(out, place, DaySort::from(sort), first, last, step)
 }

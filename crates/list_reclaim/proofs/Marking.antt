@@ -1,19 +1,26 @@
 -- Entries cleared and numbers marked, one after the other. Rests on the laws of stores into lists.
-use mathlib.Core.Path.{◌≡◌, refl, sym}
+use mathlib.Core.Path.{◌≡◌, refl, sym, ◌∙◌}
 use mathlib.Core.List.{List}
-use Prim.Native.Nat.{ℕ, zero, suc, ◌+◌, ◌<◌}
+use mathlib.Core.Logic.{◌⊎◌, inl, inr}
+use Prim.Native.Nat.{ℕ, ◌+◌, ◌≤◌, ◌<◌}
 use native.Mathlib.Omega.{arith}
-use lib.ListN.{length, get_or, set, replicate}
-use lib.Seq.{get_or-set_same}
+use lib.ListN.{length, get_or, set, get_or-eq_default}
+use lib.Seq.{get_or-set_same, get_or-set_other}
 use borrow.Author.Count.{below_more}
+use Rattle.laws.proofs.Numbers.{at_most}
 use Rattle.laws.proofs.Stores.{set-each}
 use Rattle.list_reclaim.specs.Reclaim.{Marked}
 
 -- ## Entries cleared
-pub zeros : (n k : ℕ) → get_or (replicate {A = ℕ} n 0) k 0 ≡ 0
-zeros zero k = refl
-zeros (suc n) zero = refl
-zeros (suc n) (suc k) = zeros n k
+pub zeros-more : (s : List ℕ) (k : ℕ) → k < length s → ((j : ℕ) → j < k → get_or s j 0 ≡ 0) → (j : ℕ) → j < k + 1 → get_or (set s k 0) j 0 ≡ 0
+zeros-more s k h z = below_more (λ j. get_or (set s k 0) j 0 ≡ 0) k (λ j l. get_or-set_other s k j 0 0 (omega arith) ∙ z j l) (get_or-set_same s k 0 0 h)
+
+pub zeros-all : (s : List ℕ) (k : ℕ) → length s ≤ k → ((j : ℕ) → j < k → get_or s j 0 ≡ 0) → (j : ℕ) → get_or s j 0 ≡ 0
+zeros-all s k h z j = go (at_most k j)
+  where
+    go : (k ≤ j) ⊎ (j < k) → get_or s j 0 ≡ 0
+    go (inl a) = get_or-eq_default s 0 (omega arith)
+    go (inr a) = z j a
 
 -- ## Numbers marked
 pub marked-none : (cells memo : List ℕ) → Marked cells memo memo 0

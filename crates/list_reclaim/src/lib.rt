@@ -16,7 +16,9 @@ use tables::copy::copy_words;
 fn clear(memo: &mut [u16])
     ensures { (k : ℕ) → get_or memo.new k 0 ≡ 0 }
 {
-    memo.fill(0);
+    for k in 0..memo.len() {
+        memo[k] = 0;
+    }
 }
 
 // Marks the numbers that cells have.
@@ -24,8 +26,8 @@ fn mark(cells: &[u16], memo: &mut [u16])
     requires { (box : ℕ) → get_or cells.now box 0 < length memo.old }
     ensures { Marked cells.now memo.old memo.new (length cells.now) }
 {
-    for &number in cells {
-        memo[usize::from(number)] = 1;
+    for box_index in 0..cells.len() {
+        memo[usize::from(cells[box_index])] = 1;
     }
 }
 

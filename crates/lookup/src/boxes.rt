@@ -14,7 +14,7 @@ use draw_rules::draw_rules;
 use paving::place::size_of;
 use state_at::Moment;
 use state_at::answer::numbers_of;
-use tables::lent::{Cuts, DrainedRules};
+use tables::lent::{Cuts, DrainedRules, RuleDays};
 
 // Makes a list for each box (6, 14), in the store that is lent; refuses where a rule is left (9); else answers the state at the moment.
 fn look_boxes_in(
@@ -30,7 +30,13 @@ fn look_boxes_in(
     requires in_bounds { InBounds all_bounds (moment_point moment) × NoLists cells.old lists.old memo.old cuts.sizes.now }
     ensures { (rs : List Rule) → Lookable rules.entry cuts.entry rules_left rs → looked_up result ≡ look_at rs (moment_point moment) moment.minute }
 {
-    match draw_rules(cells, lists, memo, rules, cuts) {
+    let days = RuleDays {
+        rules: rules.states.len(),
+        replacing: rules.replacing,
+        range_counts: rules.range_counts,
+        ranges: rules.ranges,
+    };
+    match draw_rules(cells, lists, memo, days, cuts) {
         Err(refusal) => Answer::refused(refusal),
         Ok(_) => {
             if rules_left > 0 {

@@ -31,7 +31,7 @@ use page_count::count_pages;
 use paving::place::size_of;
 use plain_groups::pop_pages;
 use plain_lists::list_rules;
-use tables::lent::{Cuts, DrainedRules};
+use tables::lent::{Cuts, DrainedRules, RuleDays};
 
 // From lists to pages: days are numbered, box by box, and the groups of boxes that have one day are written; answers how many pages there are. `numbers` has
 // a place for the empty list, and then one for each box.
@@ -92,7 +92,13 @@ pub fn pave(
     ensures { (rs : List Rule) → Lent rules.entry cuts.entry rs
         → Paves rules.entry.states.now rules.entry.span_counts.now rules.entry.spans.now lists.new pages.new rs result }
 {
-    list_rules(lists, rules, cuts)?;
+    let days = RuleDays {
+        rules: rules.states.len(),
+        replacing: rules.replacing,
+        range_counts: rules.range_counts,
+        ranges: rules.ranges,
+    };
+    list_rules(lists, days, cuts)?;
     let count = fold_lists(
         rules.states,
         rules.span_counts,

@@ -24,6 +24,12 @@ module _ (lists : List ℕ) (box : ℕ) where
   unfolding base
   based-all replaces count e h = rw e (h ∙ sym (list_length lists box))
 
+  -- no longer than the list that the box has
+  pub based-short : (replaces : Bool) → length (base replaces (list_of lists box)) ≤ length (list_of lists box)
+  unfolding base
+  based-short true = omega arith
+  based-short false = omega arith
+
   module _ (rule : ℕ) (replaces : Bool) (count : ℕ) (based : count ≡ length (base replaces (list_of lists box))) where
     -- ## No room
     pub appended-full : ltb count list_limit ≡ false → Appended lists lists box rule replaces false

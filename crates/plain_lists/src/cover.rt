@@ -6,7 +6,7 @@ ghost use Rattle.plain_lists.specs.Covers.{in_ranges, RangesThere, holds_in, cov
 
 use plain_boxes::digit;
 use tables::RANGE_PLACES;
-use tables::lent::{Cuts, DrainedRules};
+use tables::lent::{Cuts, RuleDays};
 
 // Whether a range from a start up to an end, excluded, holds a value.
 fn in_range(start: u16, end: u16, value: u16) -> bool
@@ -45,15 +45,15 @@ pub fn holds_in(
 }
 
 // Whether the rule of a number covers a box.
-pub fn covers(rules: DrainedRules, cuts: Cuts, rule: usize, box_index: usize) -> bool
-    requires { Coverable cuts.row_starts.now cuts.sizes.now cuts.cuts.now rules.range_counts.now rules.ranges.now rule }
+pub fn covers(days: RuleDays, cuts: Cuts, rule: usize, box_index: usize) -> bool
+    requires { Coverable cuts.row_starts.now cuts.sizes.now cuts.cuts.now days.range_counts.now days.ranges.now rule }
     ensures { result
-        ≡ covers_box cuts.entry.row_starts.now cuts.entry.sizes.now cuts.entry.cuts.now rules.entry.range_counts.now rules.entry.ranges.now rule box_index }
+        ≡ covers_box cuts.entry.row_starts.now cuts.entry.sizes.now cuts.entry.cuts.now days.entry.range_counts.now days.entry.ranges.now rule box_index }
 {
     for dimension in 0..4 {
         let cut = usize::from(cuts.row_starts[dimension]) + digit(cuts.sizes, box_index, dimension);
         let value = cuts.cuts[cut];
-        if !holds_in(rules.range_counts, rules.ranges, rule, dimension, value) {
+        if !holds_in(days.range_counts, days.ranges, rule, dimension, value) {
             return false;
         }
     }

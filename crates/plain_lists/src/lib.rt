@@ -21,7 +21,7 @@ use cover::covers;
 use limits::entry_allowed;
 use paving::place::size_of;
 use tables::LIST_PLACES;
-use tables::lent::{Cuts, DrainedRules};
+use tables::lent::{Cuts, RuleDays};
 
 // Puts a rule at the end of a box's list, or alone where it replaces. Answers no, and changes nothing, where the list has no room for it.
 fn append(lists: &mut [u16], box_index: usize, rule: u16, replaces: bool) -> bool
@@ -41,21 +41,19 @@ fn append(lists: &mut [u16], box_index: usize, rule: u16, replaces: bool) -> boo
 // Puts a rule into the list of each box that it covers. Answers no where a list has no room for it.
 fn draw_rule(
     lists: &mut [u16],
-    rules: DrainedRules,
+    days: RuleDays,
     cuts: Cuts,
     rule: usize,
     replaces: bool,
     boxes: usize,
 ) -> bool
     requires have_lists { HaveLists lists.old boxes × (rule < 65536) }
-    requires coverable { Coverable cuts.row_starts.now cuts.sizes.now cuts.cuts.now rules.range_counts.now rules.ranges.now rule }
+    requires coverable { Coverable cuts.row_starts.now cuts.sizes.now cuts.cuts.now days.range_counts.now days.ranges.now rule }
     ensures { Drew lists.old lists.new boxes rule replaces
-        (covers_box cuts.entry.row_starts.now cuts.entry.sizes.now cuts.entry.cuts.now rules.entry.range_counts.now rules.entry.ranges.now rule) result }
+        (covers_box cuts.entry.row_starts.now cuts.entry.sizes.now cuts.entry.cuts.now days.entry.range_counts.now days.entry.ranges.now rule) result }
 {
     for box_index in 0..boxes {
-        if covers(rules, cuts, rule, box_index)
-            && !append(lists, box_index, rule as u16, replaces)
-        {
+        if covers(days, cuts, rule, box_index) && !append(lists, box_index, rule as u16, replaces) {
             return false;
         }
     }
@@ -63,18 +61,18 @@ fn draw_rule(
 }
 
 // Makes the lists of all boxes, rule by rule, where they are empty at first; or refuses (6, 14) at the rule after which that was met.
-pub fn list_rules(lists: &mut [u16], rules: DrainedRules, cuts: Cuts) -> Result<(), Refusal>
-    requires to_list { (rs : List Rule) × ToList rules.replacing.now rules.range_counts.now rules.ranges.now cuts.row_starts.now cuts.sizes.now cuts.cuts.now (length rules.states.now) rs }
+pub fn list_rules(lists: &mut [u16], days: RuleDays, cuts: Cuts) -> Result<(), Refusal>
+    requires to_list { (rs : List Rule) × ToList days.replacing.now days.range_counts.now days.ranges.now cuts.row_starts.now cuts.sizes.now cuts.cuts.now days.rules rs }
     requires sizes_bound { (size_of cuts.sizes.now 4 ≤ sheet_limits.boxes) × (size_of cuts.sizes.now 4 * list_places ≤ length lists.old)
         × ((box : ℕ) → box < size_of cuts.sizes.now 4 → get_or lists.old (box * list_places) 0 ≡ 0) }
     ensures { (rs : List Rule)
-        → ToList rules.entry.replacing.now rules.entry.range_counts.now rules.entry.ranges.now cuts.entry.row_starts.now cuts.entry.sizes.now cuts.entry.cuts.now (length rules.entry.states.now) rs
+        → ToList days.entry.replacing.now days.entry.range_counts.now days.entry.ranges.now cuts.entry.row_starts.now cuts.entry.sizes.now cuts.entry.cuts.now days.entry.rules rs
         → Listing cuts.entry.row_starts.now cuts.entry.sizes.now cuts.entry.cuts.now lists.new rs result }
 {
     let boxes = size_of(cuts.sizes, 4);
-    for rule in 0..rules.states.len() {
-        let replaces = rules.replacing[rule] == 1;
-        if !draw_rule(lists, rules, cuts, rule, replaces, boxes) {
+    for rule in 0..days.rules {
+        let replaces = days.replacing[rule] == 1;
+        if !draw_rule(lists, days, cuts, rule, replaces, boxes) {
             return Err(Refusal {
                 reason: Reason::LongList,
                 place: rule,

@@ -1,7 +1,7 @@
 -- Rows of items: their tales step by step, and how many bits they take at most.
 use mathlib.Core.Path.{◌≡◌, refl, sym, ap, ap₂, ◌∙◌, subst}
 use mathlib.Core.List.{List, [], ◌∷◌, ◌++◌, append-nil, append_assoc}
-use mathlib.Core.Bool.{Bool, true, false, not, ◌||◌, or-false}
+use mathlib.Core.Bool.{Bool, true, false, cond, not, ◌||◌, or-false}
 use Prim.Native.Nat.{ℕ, zero, suc, ◌+◌, ◌*◌, ◌-◌, ◌≤◌, ◌<◌}
 use native.Mathlib.Omega.{arith}
 use lib.Dec.{eqb}
@@ -17,15 +17,15 @@ use Rattle.definition.proofs.Reading.{Short}
 use Rattle.definition.proofs.Lengths.{years-short, monthdays-short, weeks-short, weekdays-short, span-short}
 use Rattle.item.specs.declared.sort.Sort.{Sort}
 use Rattle.item.specs.declared.sort.Sort.TheVariants.{Years, Monthdays, Weeks, Weekdays, Spans}
-use Rattle.item.specs.Sort.{number_of}
-use Rattle.item.proofs.Sorts.{of-each}
+use Rattle.item.specs.Sort.{number_of, named}
+use Rattle.item.proofs.Sorts.{of-each, of-named}
 use Rattle.text.specs.Put.{Put, Within}
 use Rattle.text.proofs.Putting.{put-none, put_then}
 use Rattle.rule_text.specs.declared.shown.Shown.{Shown}
 use Rattle.rule_text.specs.Tale.{Tale, tale, told, item_told}
 use Rattle.rule_text.specs.Shows.{Shows}
 use Rattle.rule_text.proofs.Telling.{shows-as}
-use Rattle.rule_text.specs.Row.{followed, nothing, others_told, items_told, opening, part_told}
+use Rattle.rule_text.specs.Row.{followed, after, nothing, others_told, items_told, opening, part_told}
 
 -- ## How far an item reaches
 told-near : {A : Type 0} (L : Layout A) (T : Text A) (wordless : A → Bool) (n : ℕ) → Short L n → n ≤ 52 → (s : List ℕ) (p : ℕ)
@@ -156,6 +156,35 @@ module _ (sort : ℕ) (s : List ℕ) (p : ℕ) where
       go : (b : Bool) → eqb n 0 ≡ b → (part_told sort n s p).next ≤ p + n * 52
       go true e = omega (arith, ap (λ x. x.next) (part_none n (eqb-true n 0 e)))
       go false e = omega (arith, ap (λ x. x.next) (part-some n (eqb-false n 0 e)), items-near n)
+
+-- ## A number says what the sort says that it names
+module _ (sort number : ℕ) (names : number ≡ named sort) (s : List ℕ) where
+  others-named : (n p : ℕ) → others_told number n s p ≡ others_told sort n s p
+  unfolding others_told
+  others-named zero p = refl
+  others-named (suc n) p =
+      let x = item_told sort s p in rw (of-named _ _ _ _ _ sort s p number names) (ap (followed (after (ascii ",") x)) (others-named n x.next))
+
+  pub items-named : (n p : ℕ) → items_told number n s p ≡ items_told sort n s p
+  unfolding items_told
+  items-named zero p = refl
+  items-named (suc n) p =
+      let x = item_told sort s p in rw (of-named _ _ _ _ _ sort s p number names) (ap (followed x) (others-named n x.next))
+
+  weeks_named : eqb number 2 ≡ eqb sort 2
+  weeks_named = rw names (go (eqb sort 0) (eqb sort 1) (eqb sort 2) (eqb sort 3) (eqb-true sort 0) (eqb-true sort 1) refl)
+    where
+      go : (a b c e : Bool) → (a ≡ true → sort ≡ 0) → (b ≡ true → sort ≡ 1) → eqb sort 2 ≡ c
+          → eqb (cond a 0 (cond b 1 (cond c 2 (cond e 3 4)))) 2 ≡ c
+      go true b c e z o h = sym (ap (λ k. eqb k 2) (z refl)) ∙ h
+      go false true c e z o h = sym (ap (λ k. eqb k 2) (o refl)) ∙ h
+      go false false true e z o h = refl
+      go false false false true z o h = refl
+      go false false false false z o h = refl
+
+  pub part-named : (n p : ℕ) → part_told number n s p ≡ part_told sort n s p
+  unfolding part_told opening
+  part-named n p = rw (items-named n p, weeks_named) refl
 
 -- "the weeks after `week `"
 pub opening-weeks : (sort : Sort) → sort ≡ Weeks → opening (number_of sort) ≡ 119 ∷ 101 ∷ 101 ∷ 107 ∷ 32 ∷ []

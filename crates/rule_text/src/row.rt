@@ -6,7 +6,7 @@ ghost use Rattle.text.specs.Put.{Put, Within};
 ghost use Rattle.rule_text.specs.Shows.{Shows};
 ghost use Rattle.rule_text.specs.Row.{others_told, items_told, opening, part_told};
 
-use crate::shown::{Shown, show_item};
+use crate::shown::{Shown, show_one};
 use item::sort::Sort;
 use text::{put_byte, put_word};
 
@@ -27,7 +27,7 @@ fn show_others(
     let mut wordless = false;
     for _item in 0..count {
         let comma = put_byte(out, to, b',');
-        let item = show_item(sheet, at, sort, out, comma);
+        let item = show_one(sheet, at, sort, out, comma);
         at = item.at;
         to = item.to;
         wordless |= item.wordless;
@@ -36,7 +36,7 @@ fn show_others(
 }
 
 // All items of a row.
-pub fn show_items(
+pub fn show_row(
     sheet: &[u8],
     at: usize,
     sort: Sort,
@@ -54,7 +54,7 @@ pub fn show_items(
             wordless: false,
         };
     }
-    let first = show_item(sheet, at, sort, out, place);
+    let first = show_one(sheet, at, sort, out, place);
     let others = show_others(sheet, first.at, sort, count - 1, out, first.to);
     Shown {
         at: others.at,
@@ -75,7 +75,7 @@ fn put_opening(out: &mut [u8], place: usize, sort: Sort) -> usize
 }
 
 // A part of the days, with the space behind it; nothing where it has no items.
-pub fn show_part(
+pub fn show_days_of(
     sheet: &[u8],
     at: usize,
     sort: Sort,
@@ -94,10 +94,40 @@ pub fn show_part(
         };
     }
     let opening = put_opening(out, place, sort);
-    let items = show_items(sheet, at, sort, count, out, opening);
+    let items = show_row(sheet, at, sort, count, out, opening);
     Shown {
         at: items.at,
         to: put_byte(out, items.to, b' '),
         wordless: items.wordless,
     }
+}
+
+// All items of a row, by the number of their sort, spans from 4 on.
+pub fn show_items(
+    sheet: &[u8],
+    at: usize,
+    sort: usize,
+    count: u64,
+    out: &mut [u8],
+    place: usize,
+) -> Shown
+    requires { (at + count * 52 < 2 ^ 29) × Within place (items_told sort count (sheet_bits sheet.now) at).text }
+    ensures { Shows (items_told sort count (sheet_bits sheet.now) at) out.old place result out.new }
+{
+    show_row(sheet, at, Sort::from(sort), count, out, place)
+}
+
+// A part of the days, by the number of its sort.
+pub fn show_part(
+    sheet: &[u8],
+    at: usize,
+    sort: usize,
+    count: u64,
+    out: &mut [u8],
+    place: usize,
+) -> Shown
+    requires { (at + count * 52 < 2 ^ 29) × Within place (part_told sort count (sheet_bits sheet.now) at).text }
+    ensures { Shows (part_told sort count (sheet_bits sheet.now) at) out.old place result out.new }
+{
+    show_days_of(sheet, at, Sort::from(sort), count, out, place)
 }

@@ -11,7 +11,7 @@ ghost use Rattle.text.specs.Put.{Put, Within};
 ghost use Rattle.rule_text.specs.Shows.{Shows};
 ghost use Rattle.rule_text.specs.Rule.{days_told, body_text, start_text, shown_text, lacks_words, Tells};
 
-use crate::row::{show_items, show_part};
+use crate::row::{show_days_of, show_row};
 use crate::shown::Shown;
 use forms::{Form, title_width};
 use item::sort::Sort;
@@ -31,8 +31,8 @@ fn show_days(sheet: &[u8], at: usize, counts: Counts, out: &mut [u8], place: usi
     requires within { Within place (days_told counts.years counts.monthdays counts.weeks counts.weekdays (sheet_bits sheet.now) at).text }
     ensures { Shows (days_told counts.years counts.monthdays counts.weeks counts.weekdays (sheet_bits sheet.now) at) out.old place result out.new }
 {
-    let first = show_part(sheet, at, Sort::Years, counts.years, out, place);
-    let second = show_part(
+    let first = show_days_of(sheet, at, Sort::Years, counts.years, out, place);
+    let second = show_days_of(
         sheet,
         first.at,
         Sort::Monthdays,
@@ -40,8 +40,8 @@ fn show_days(sheet: &[u8], at: usize, counts: Counts, out: &mut [u8], place: usi
         out,
         first.to,
     );
-    let third = show_part(sheet, second.at, Sort::Weeks, counts.weeks, out, second.to);
-    let fourth = show_part(
+    let third = show_days_of(sheet, second.at, Sort::Weeks, counts.weeks, out, second.to);
+    let fourth = show_days_of(
         sheet,
         third.at,
         Sort::Weekdays,
@@ -69,7 +69,7 @@ fn show_body(form: Form, sheet: &[u8], at: usize, out: &mut [u8], place: usize) 
         };
     };
     let days = show_days(sheet, items, counts, out, place);
-    let times = show_items(sheet, days.at, Sort::Spans, counts.spans, out, days.to);
+    let times = show_row(sheet, days.at, Sort::Spans, counts.spans, out, days.to);
     Told {
         to: times.to,
         wordless: days.wordless | (times.wordless | (counts.spans == 0)),

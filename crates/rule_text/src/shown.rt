@@ -12,7 +12,7 @@ ghost use Rattle.rule_text.specs.Shows.{silent, Shows};
 use item::day::{Monthday, WeekDay};
 use item::sort::Sort;
 use item::time::{Span, Time};
-use item_text::day::{DaySort, put_item};
+use item_text::day::{DaySort, put_days};
 use item_text::time::put_span;
 
 // The bit after what was read, the place after its text, and whether some of it has no words.
@@ -45,7 +45,7 @@ fn show_year(sheet: &[u8], at: usize, out: &mut [u8], place: usize) -> Shown
     };
     Shown {
         at: next,
-        to: put_item(
+        to: put_days(
             out,
             place,
             DaySort::Years,
@@ -70,7 +70,7 @@ fn show_months(sheet: &[u8], at: usize, out: &mut [u8], place: usize) -> Shown
     };
     Shown {
         at: next,
-        to: put_item(out, place, DaySort::Months, start, end, 1),
+        to: put_days(out, place, DaySort::Months, start, end, 1),
         wordless: false,
     }
 }
@@ -84,7 +84,7 @@ fn show_week(sheet: &[u8], at: usize, out: &mut [u8], place: usize) -> Shown
     };
     Shown {
         at: next,
-        to: put_item(
+        to: put_days(
             out,
             place,
             DaySort::Weeks,
@@ -113,7 +113,7 @@ fn show_weekdays(sheet: &[u8], at: usize, out: &mut [u8], place: usize) -> Shown
             from_end,
         } if item::day::every_week(offset, from_start, from_end) => Shown {
             at: next,
-            to: put_item(out, place, DaySort::Weekdays, start, end, 1),
+            to: put_days(out, place, DaySort::Weekdays, start, end, 1),
             wordless: false,
         },
         _ => Shown::silent(next, place),
@@ -169,7 +169,7 @@ fn show_span(sheet: &[u8], at: usize, out: &mut [u8], place: usize) -> Shown
 }
 
 // An item of a sort.
-pub fn show_item(sheet: &[u8], at: usize, sort: Sort, out: &mut [u8], place: usize) -> Shown
+pub fn show_one(sheet: &[u8], at: usize, sort: Sort, out: &mut [u8], place: usize) -> Shown
     requires { (at < 2 ^ 29) × Within place (item_told (number_of sort) (sheet_bits sheet.now) at).text }
     ensures { Shows (item_told (number_of sort) (sheet_bits sheet.now) at) out.old place result out.new }
 {
@@ -180,4 +180,12 @@ pub fn show_item(sheet: &[u8], at: usize, sort: Sort, out: &mut [u8], place: usi
         Sort::Weekdays => show_weekdays(sheet, at, out, place),
         Sort::Spans => show_span(sheet, at, out, place),
     }
+}
+
+// The same by the sort's number, spans from 4 on.
+pub fn show_item(sheet: &[u8], at: usize, sort: usize, out: &mut [u8], place: usize) -> Shown
+    requires { (at < 2 ^ 29) × Within place (item_told sort (sheet_bits sheet.now) at).text }
+    ensures { Shows (item_told sort (sheet_bits sheet.now) at) out.old place result out.new }
+{
+    show_one(sheet, at, Sort::from(sort), out, place)
 }

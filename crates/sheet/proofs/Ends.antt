@@ -12,7 +12,8 @@ use Rattle.definition.specs.Sheet.{year_range, monthday_range, week_range, week_
 use Rattle.definition.proofs.Faithful.{clash}
 use Rattle.definition.proofs.Reading.{Short}
 use Rattle.definition.proofs.Lengths.{years-short, monthdays-short, weeks-short, weekdays-short, span-short}
-use Rattle.item.proofs.Sorts.{of-each}
+use Rattle.item.specs.Sort.{named}
+use Rattle.item.proofs.Sorts.{of-each, of-named}
 use Rattle.sheet.specs.End.{End, ends, item_ends, skip_all}
 
 -- a refusal that a `?` passes on
@@ -66,3 +67,17 @@ pub skip-short : (r : List ℕ → ℕ → End) (m : ℕ) (s : List ℕ) → ((p
 skip-short r m s short n p q e =
     let end = skip-keeps r s (λ k j. j + k * m ≤ p + n * m) (λ k j i l h. omega (arith, short j i h)) n p q (omega arith) e in
     omega (arith, end)
+
+-- two readings that agree at each bit make the same row
+pub skip-alike : (r t : List ℕ → ℕ → End) → ((s : List ℕ) (p : ℕ) → r s p ≡ t s p) → (n : ℕ) (s : List ℕ) (p : ℕ) → skip_all r n s p ≡ skip_all t n s p
+unfolding skip_all
+skip-alike r t f zero s p = refl
+skip-alike r t f (suc n) s p = rw (f s p) (go (t s p) (skip-alike r t f n s))
+  where
+    go : (w : End) → ((q : ℕ) → skip_all r n s q ≡ skip_all t n s q) → and_then (λ u q. skip_all r n s q) w ≡ and_then (λ u q. skip_all t n s q) w
+    go (refused c q) ih = refl
+    go (got u q) ih = ih q
+
+-- a number says what the sort says that it names
+pub skip-named : (sort number n : ℕ) (s : List ℕ) (p : ℕ) → number ≡ named sort → skip_all (item_ends number) n s p ≡ skip_all (item_ends sort) n s p
+skip-named sort number n s p e = skip-alike _ _ (λ s p. of-named _ _ _ _ _ sort s p number e) n s p

@@ -92,7 +92,7 @@ fn item_end(sheet: &[u8], at: usize, sort: Sort) -> Result<usize, Refusal>
 }
 
 // Some items of a sort, one behind the other.
-pub fn items_end(sheet: &[u8], start: usize, sort: Sort, count: u64) -> Result<usize, Refusal>
+pub fn row_end(sheet: &[u8], start: usize, sort: Sort, count: u64) -> Result<usize, Refusal>
     requires { (start < 2 ^ 28) × (count ≤ 1024) }
     ensures { as_step result ≡ skip_all (item_ends (number_of sort)) count (sheet_bits sheet.now) start }
 {
@@ -101,4 +101,12 @@ pub fn items_end(sheet: &[u8], start: usize, sort: Sort, count: u64) -> Result<u
         at = item_end(sheet, at, sort)?;
     }
     Ok(at)
+}
+
+// The same by the sort's number, spans from 4 on.
+pub fn items_end(sheet: &[u8], start: usize, sort: u8, count: u64) -> Result<usize, Refusal>
+    requires { (start < 2 ^ 28) × (count ≤ 1024) }
+    ensures { as_step result ≡ skip_all (item_ends sort) count (sheet_bits sheet.now) start }
+{
+    row_end(sheet, start, Sort::from(usize::from(sort)), count)
 }

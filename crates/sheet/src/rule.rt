@@ -9,7 +9,7 @@ ghost use Rattle.sheet.specs.End.{ends, as_step};
 ghost use Rattle.sheet.specs.Head.{as_title, as_counts, AllAtMost};
 ghost use Rattle.sheet.specs.Rules.{counted_ends};
 
-use crate::end::items_end;
+use crate::end::row_end;
 use answers::{Read, Refusal};
 use field::width;
 use forms::{Form, item_count_width, title_width};
@@ -78,11 +78,11 @@ fn body_end(sheet: &[u8], at: usize, counts: Counts) -> Result<usize, Refusal>
     requires { (at < 2 ^ 27) × AllAtMost 1024 counts }
     ensures { as_step result ≡ ends ((body (as_counts counts)).read (sheet_bits sheet.now) at) }
 {
-    let after_years = items_end(sheet, at, Sort::Years, counts.years)?;
-    let after_monthdays = items_end(sheet, after_years, Sort::Monthdays, counts.monthdays)?;
-    let after_weeks = items_end(sheet, after_monthdays, Sort::Weeks, counts.weeks)?;
-    let after_weekdays = items_end(sheet, after_weeks, Sort::Weekdays, counts.weekdays)?;
-    items_end(sheet, after_weekdays, Sort::Spans, counts.spans)
+    let after_years = row_end(sheet, at, Sort::Years, counts.years)?;
+    let after_monthdays = row_end(sheet, after_years, Sort::Monthdays, counts.monthdays)?;
+    let after_weeks = row_end(sheet, after_monthdays, Sort::Weeks, counts.weeks)?;
+    let after_weekdays = row_end(sheet, after_weeks, Sort::Weekdays, counts.weekdays)?;
+    row_end(sheet, after_weekdays, Sort::Spans, counts.spans)
 }
 
 // Whether 56 bits begin with a lawful title: any comment is.

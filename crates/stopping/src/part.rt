@@ -116,10 +116,18 @@ fn number_at(sheet: &[u8], at: usize, sort: Sort) -> Read<u64>
 }
 
 // Why an item of a sort stops its rule; nothing is known of an item that isn't read, and it takes no bits.
-pub fn item_reason(sheet: &[u8], at: usize, sort: Sort) -> Reasoned
+pub fn reason_of_item(sheet: &[u8], at: usize, sort: Sort) -> Reasoned
     requires { at < 2 ^ 29 }
     ensures { result ≡ item_reasoned (number_of sort) (sheet_bits sheet.now) at }
 {
     let (reason, next) = number_at(sheet, at, sort).unwrap_or((0, at));
     Reasoned { reason, at: next }
+}
+
+// The same by the sort's number, spans from 4 on.
+pub fn item_reason(sheet: &[u8], at: usize, sort: usize) -> Reasoned
+    requires { at < 2 ^ 29 }
+    ensures { result ≡ item_reasoned sort (sheet_bits sheet.now) at }
+{
+    reason_of_item(sheet, at, Sort::from(sort))
 }

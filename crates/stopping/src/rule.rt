@@ -8,7 +8,7 @@ ghost use Rattle.sheet.specs.Begin.{rule_read_at, Readable};
 ghost use Rattle.sheet.specs.Head.{AllAtMost};
 ghost use Rattle.stopping.specs.Rule.{earlier, begun, row_reasoned, body_reason, parts_reason};
 
-use crate::part::{Reasoned, item_reason};
+use crate::part::{Reasoned, reason_of_item};
 use codes::title::is_fallback;
 use forms::{Form, title_width};
 use item::sort::Sort;
@@ -37,7 +37,7 @@ fn row_reason(sheet: &[u8], start: usize, sort: Sort, count: u64) -> Reasoned
         at: start,
     };
     for i in 0..count {
-        let item = item_reason(sheet, found.at, sort);
+        let item = reason_of_item(sheet, found.at, sort);
         found = Reasoned {
             reason: earlier(found.reason, item.reason),
             at: item.at,

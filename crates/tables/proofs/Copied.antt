@@ -1,14 +1,45 @@
--- The lists at places with the same words are the same. Rests on the laws of numbers.
+-- Words copied one after the other: what is read is as it was, where the place written lies before the place read or behind all that is read.
+-- And the lists at places with the same words are the same. Rests on the laws of numbers.
 use mathlib.Core.Path.{◌≡◌, refl, ap, ◌∙◌}
 use mathlib.Core.List.{List, map}
+use mathlib.Core.Logic.{◌⊎◌, inl, inr}
 use Prim.Native.Nat.{ℕ, zero, suc, ◌+◌, ◌*◌, ◌≤◌, ◌<◌}
 use native.Mathlib.Omega.{arith}
-use lib.ListN.{get_or}
+use lib.ListN.{length, get_or, set}
+use lib.Seq.{get_or-set_same, get_or-set_other}
+use borrow.Author.Count.{below_more}
 use Rattle.laws.specs.Lists.{from}
-use Rattle.laws.proofs.Numbers.{map-from}
+use Rattle.laws.proofs.Numbers.{at_most, map-from}
 use Rattle.tables.specs.Sizes.{list_limit, list_places}
 use Rattle.tables.specs.Lists.{list_of, named, KeptBelow}
+use Rattle.tables.specs.Copied.{Copied}
 
+pub copied_none : (words : List ℕ) (at to : ℕ) → Copied words words at to 0
+copied_none words at to = record { copied = λ k h. absurd (omega arith); low = λ i h. refl; high = λ i h. refl }
+
+module _ (words s : List ℕ) (at to count i : ℕ) (e : length s ≡ length words) (clear : at < to → at + count ≤ to) (room : to + count ≤ length words) (h : i < count)
+    (c : Copied words s at to i) where
+  v : ℕ
+  v = get_or s (at + i) 0
+
+  read : v ≡ get_or words (at + i) 0
+  unfolding v
+  read = go (at_most to at)
+    where
+      go : (to ≤ at) ⊎ (at < to) → get_or s (at + i) 0 ≡ get_or words (at + i) 0
+      go (inl a) = c.high (at + i) (omega arith)
+      go (inr a) = c.low (at + i) (omega (arith, clear a))
+
+  pub copied_more : Copied words (set s (to + i) (get_or s (at + i) 0)) at to (i + 1)
+  unfolding v
+  copied_more = record {
+    copied = below_more (λ k. get_or (set s (to + i) v) (to + k) 0 ≡ get_or words (at + k) 0) i (λ k l. get_or-set_other s (to + i) (to + k) v 0 (omega arith) ∙ c.copied k l)
+        (get_or-set_same s (to + i) v 0 (omega arith) ∙ read);
+    low = λ k l. get_or-set_other s (to + i) k v 0 (omega arith) ∙ c.low k l;
+    high = λ k l. get_or-set_other s (to + i) k v 0 (omega arith) ∙ c.high k (omega arith);
+  }
+
+-- ## Lists at places
 -- a list is told by its place's words: how many rules it has, and their numbers
 pub list-words : (s t : List ℕ) (p q : ℕ) → ((k : ℕ) → k ≤ get_or s (p * list_places) 0 → get_or t (q * list_places + k) 0 ≡ get_or s (p * list_places + k) 0) → list_of t q ≡ list_of s p
 unfolding list_of

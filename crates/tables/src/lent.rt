@@ -11,6 +11,15 @@ pub struct DrainedRules<'a> {
     pub ranges: &'a [u16],
 }
 
+// The days of some rules, whatever their times: how many rules there are, and tables with a row for each.
+#[derive(Clone, Copy)]
+pub struct RuleDays<'a> {
+    pub rules: usize,
+    pub replacing: &'a [u8],
+    pub range_counts: &'a [u16],
+    pub ranges: &'a [u16],
+}
+
 // Where the ranges of the drained rules cut the four dimensions: where each one's row begins, how many intervals it has, and the rows.
 #[derive(Clone, Copy)]
 pub struct Cuts<'a> {

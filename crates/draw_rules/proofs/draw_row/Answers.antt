@@ -9,6 +9,6 @@ draw_rule-requires c =
 
 pub returns : goal.returns
 returns c =
-    let r = c.args.rules in
+    let r = c.args.days in
     let k = c.args.cuts in
     lent-drew k.sizes.now r.range_counts.now k.row_starts.now k.cuts.now r.ranges.now c.args.rule _ _ _ _ _ _ _ _ _ c.draw_rule.ensures

@@ -2,5 +2,5 @@
 use Rattle.list_reclaim.specs.Reclaim.{Marked}
 use Rattle.list_reclaim.proofs.mark.Given as goal
 
-abbrev pub invariant-loop-number : goal.invariant-loop-number
-invariant-loop-number l = Marked l.cells l.initial.memo l.memo l.number-index
+abbrev pub invariant-loop-box_index : goal.invariant-loop-box_index
+invariant-loop-box_index l = Marked l.cells l.initial.memo l.memo l.box_index

@@ -23,7 +23,7 @@ pub loop-box_index-preserved : goal.loop-box_index-preserved
 loop-box_index-preserved c =
     let inv = c.loop-box_index.invariant in
     let a = c.args in
-    let drawn = Drawn a.lists.now a.boxes a.rule a.replaces (covers_box a.cuts.row_starts.now a.cuts.sizes.now a.cuts.cuts.now a.rules.range_counts.now a.rules.ranges.now a.rule) in
+    let drawn = Drawn a.lists.now a.boxes a.rule a.replaces (covers_box a.cuts.row_starts.now a.cuts.sizes.now a.cuts.cuts.now a.days.range_counts.now a.days.ranges.now a.rule) in
     let box = c.loop-box_index.box_index in
     elim c.else-covers.branch [
       | else-covers-via-then-covers+else-not-append w ↦ subst (λ l. drawn l (box + 1)) (sym w.lists-is)

@@ -5,7 +5,9 @@ use Rattle.bounded.proofs.Bounded.succ.Goals as goal
 
 pub returns-then-number : goal.returns-then-number
 returns-then-number g c =
-    rw c.next.ensures (next-some _ _ (omega (arith, g.met.Self.Bounded.ends, c.number.ensures, c.number-2.ensures, ap g.Self.Bounded.number_of c.BOUND_END.ensures)))
+    let laws = g.met.Self.Bounded in
+    next-some _ _ (omega (arith, laws.ends, c.number.ensures, c.number-2.ensures, ap g.Self.Bounded.number_of c.BOUND_END.ensures)) _ _
+    laws.upper c.next.ensures
 
 pub returns-else-number : goal.returns-else-number
 returns-else-number g c =

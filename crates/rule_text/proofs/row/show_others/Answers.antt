@@ -13,8 +13,8 @@ loop-item-init c = record { near = omega arith; ahead = ahead-as (omega arith) (
 pub put_byte-comma-requires : goal.put_byte-comma-requires
 put_byte-comma-requires c = omega (arith, ahead-room c.loop-item.invariant.ahead (omega arith) c.requires.1)
 
-pub show_item-item-requires : goal.show_item-item-requires
-show_item-item-requires c =
+pub show_one-item-requires : goal.show_one-item-requires
+show_one-item-requires c =
     let pre = c.requires in (
       omega (arith, c.loop-item.invariant.near, pre.0),
       omega (arith, ahead-room c.loop-item.invariant.ahead (omega arith) pre.1, c.put_byte-comma.ensures.ends),
@@ -24,8 +24,8 @@ pub loop-item-preserved : goal.loop-item-preserved
 loop-item-preserved c =
     let old = c.loop-item in
     let near = item-near (number_of c.args.sort) (sheet_bits c.args.sheet.now) old.at in record {
-      near = omega (arith, near, c.show_item-item.ensures.read-to, old.invariant.near);
-      ahead = ahead-as (omega arith) (ahead-next old.invariant.ahead (omega arith) c.put_byte-comma.ensures c.show_item-item.ensures _ refl);
+      near = omega (arith, near, c.show_one-item.ensures.read-to, old.invariant.near);
+      ahead = ahead-as (omega arith) (ahead-next old.invariant.ahead (omega arith) c.put_byte-comma.ensures c.show_one-item.ensures _ refl);
     }
 
 pub shape_of-out : goal.shape_of-out

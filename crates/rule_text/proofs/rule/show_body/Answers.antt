@@ -31,8 +31,8 @@ show_days-days-requires c =
     let told = ap (λ x. length x.text) (days-told _ s args.at pre.readable _ _ _ behind-title read) in
     let low = (narrow args.form).head-narrow in record { at_bound = (omega (arith, few.5, pre.at_bound.0, low, behind-title), (few.0, few.1, few.2, few.3, few.4)); within = omega (arith, pre.at_bound.1, told, body-long (rule_read_at (as_form args.form) s args.at)) }
 
-pub show_items-times-requires : goal.show_items-times-requires
-show_items-times-requires c =
+pub show_row-times-requires : goal.show_row-times-requires
+show_row-times-requires c =
     let args = c.args in
     let pre = c.requires in
     let s = sheet_bits args.sheet.now in
@@ -56,7 +56,7 @@ returns c =
     let behind-title = ap (args.at +◌) c.title_width.ensures.0 in
     let read = sym c.in-Ok.ensures in
     let days = shows-as (days-told _ s args.at pre.readable _ _ _ behind-title read) c.show_days-days.ensures in
-    let spans = shows-as (spans-told _ s args.at pre.readable _ _ _ behind-title read _ days.read-to) c.show_items-times.ensures in
+    let spans = shows-as (spans-told _ s args.at pre.readable _ _ _ behind-title read _ days.read-to) c.show_row-times.ensures in
     let none = lacks-either (rule_read_at (as_form args.form) s args.at) _ (counts_same _ s args.at pre.readable _ _ _ behind-title read).2 in
     record {
       put = put_as (body-text (rule_read_at (as_form args.form) s args.at)) (put_then days.put spans.put);

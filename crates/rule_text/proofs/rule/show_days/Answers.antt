@@ -9,31 +9,31 @@ use Rattle.rule_text.proofs.Rows.{part-near}
 use Rattle.rule_text.proofs.Rules.{years_part, months_part, days-parts, days-long}
 use Rattle.rule_text.proofs.rule.show_days.Goals as goal
 
-pub show_part-first-requires : goal.show_part-first-requires
-show_part-first-requires c =
+pub show_days_of-first-requires : goal.show_days_of-first-requires
+show_days_of-first-requires c =
     let args = c.args in
     let pre = c.requires in
     let s = sheet_bits args.sheet.now in
     (omega (arith, pre.at_bound), omega (arith, pre.within, days-long args.counts.years args.counts.monthdays args.counts.weeks args.counts.weekdays s args.at))
 
-pub show_part-second-requires : goal.show_part-second-requires
-show_part-second-requires c =
+pub show_days_of-second-requires : goal.show_days_of-second-requires
+show_days_of-second-requires c =
     let args = c.args in
     let pre = c.requires in
     let s = sheet_bits args.sheet.now in
-    let first = c.show_part-first.ensures in
+    let first = c.show_days_of-first.ensures in
     let there = ap (λ q. length (part_told 1 args.counts.monthdays s q).text) first.read-to in (
       omega (arith, pre.at_bound, part-near 0 s args.at args.counts.years, first.read-to),
       omega (arith, pre.within, days-long args.counts.years args.counts.monthdays args.counts.weeks args.counts.weekdays s args.at, first.put.ends, there),
     )
 
-pub show_part-third-requires : goal.show_part-third-requires
-show_part-third-requires c =
+pub show_days_of-third-requires : goal.show_days_of-third-requires
+show_days_of-third-requires c =
     let args = c.args in
     let pre = c.requires in
     let s = sheet_bits args.sheet.now in
-    let first = c.show_part-first.ensures in
-    let second = shows-as (ap (part_told 1 args.counts.monthdays s) first.read-to) c.show_part-second.ensures in
+    let first = c.show_days_of-first.ensures in
+    let second = shows-as (ap (part_told 1 args.counts.monthdays s) first.read-to) c.show_days_of-second.ensures in
     let there = ap (λ q. length (part_told 2 args.counts.weeks s q).text) second.read-to in
     let Y = years_part args.counts.years args.counts.monthdays args.counts.weeks args.counts.weekdays s args.at in (
       omega (arith, pre.at_bound, part-near 0 s args.at args.counts.years, part-near 1 s Y.next args.counts.monthdays, second.read-to),
@@ -47,14 +47,14 @@ show_part-third-requires c =
       ),
     )
 
-pub show_part-fourth-requires : goal.show_part-fourth-requires
-show_part-fourth-requires c =
+pub show_days_of-fourth-requires : goal.show_days_of-fourth-requires
+show_days_of-fourth-requires c =
     let args = c.args in
     let pre = c.requires in
     let s = sheet_bits args.sheet.now in
-    let first = c.show_part-first.ensures in
-    let second = shows-as (ap (part_told 1 args.counts.monthdays s) first.read-to) c.show_part-second.ensures in
-    let third = shows-as (ap (part_told 2 args.counts.weeks s) second.read-to) c.show_part-third.ensures in
+    let first = c.show_days_of-first.ensures in
+    let second = shows-as (ap (part_told 1 args.counts.monthdays s) first.read-to) c.show_days_of-second.ensures in
+    let third = shows-as (ap (part_told 2 args.counts.weeks s) second.read-to) c.show_days_of-third.ensures in
     let there = ap (λ q. length (part_told 3 args.counts.weekdays s q).text) third.read-to in
     let Y = years_part args.counts.years args.counts.monthdays args.counts.weeks args.counts.weekdays s args.at in
     let M = months_part args.counts.years args.counts.monthdays args.counts.weeks args.counts.weekdays s args.at in (
@@ -81,10 +81,10 @@ pub returns : goal.returns
 returns c =
     let args = c.args in
     let s = sheet_bits args.sheet.now in
-    let first = c.show_part-first.ensures in
-    let second = shows-as (ap (part_told 1 args.counts.monthdays s) first.read-to) c.show_part-second.ensures in
-    let third = shows-as (ap (part_told 2 args.counts.weeks s) second.read-to) c.show_part-third.ensures in
-    let fourth = shows-as (ap (part_told 3 args.counts.weekdays s) third.read-to) c.show_part-fourth.ensures in
+    let first = c.show_days_of-first.ensures in
+    let second = shows-as (ap (part_told 1 args.counts.monthdays s) first.read-to) c.show_days_of-second.ensures in
+    let third = shows-as (ap (part_told 2 args.counts.weeks s) second.read-to) c.show_days_of-third.ensures in
+    let fourth = shows-as (ap (part_told 3 args.counts.weekdays s) third.read-to) c.show_days_of-fourth.ensures in
     shows-as (days-parts _ _ _ _ _ _)
     (shows_then first (shows_then second (shows_then third fourth _ refl) _ refl) _
     refl)

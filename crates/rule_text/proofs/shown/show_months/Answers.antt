@@ -20,8 +20,8 @@ returns-in_default-monthday c =
     let none = month-silent c.in-Ok.monthday c.in_default-monthday.not-Months in
     got-silent month_text monthday_stops _ _ _ _ _ _ (sym c.in-Ok.ensures) none.0 none.1 c.silent-in_default-monthday.ensures
 
-pub put_item-requires : goal.put_item-requires
-put_item-requires c =
+pub put_days-requires : goal.put_days-requires
+put_days-requires c =
     let args = c.args in
     let read = sym c.in-Ok.ensures ∙ ap (λ x. got (as_monthday x) c.in-Ok.next) c.in-Months.is in
     let fit = month-ends args.sheet.now (known_bytes args.sheet.now (λ j. omega (arith, c.type_inv.sheet j))) args.at _ _ _ read in (
@@ -33,4 +33,4 @@ put_item-requires c =
 pub returns : goal.returns
 returns c =
     got-shows month_text monthday_stops _ _ _ _ _ _ _ (sym c.in-Ok.ensures ∙ ap (λ x. got (as_monthday x) c.in-Ok.next) c.in-Months.is) refl
-    (put_as (month-item _ _) c.put_item.ensures)
+    (put_as (month-item _ _) c.put_days.ensures)

@@ -12,8 +12,8 @@ use Rattle.rule_text.proofs.shown.show_week.Goals as goal
 pub returns-in_default : goal.returns-in_default
 returns-in_default c = refused-silent week_text _ _ _ _ _ _ _ (sym c.in_default.ensures) c.silent.ensures
 
-pub put_item-requires : goal.put_item-requires
-put_item-requires c =
+pub put_days-requires : goal.put_days-requires
+put_days-requires c =
     let args = c.args in
     let x = c.in-Ok.weeks in
     let read = sym c.in-Ok.ensures in
@@ -24,4 +24,4 @@ put_item-requires c =
     )
 
 pub returns : goal.returns
-returns c = got-shows week_text _ _ _ _ _ _ _ _ (sym c.in-Ok.ensures) refl (put_as (week-item _ _ _) c.put_item.ensures)
+returns c = got-shows week_text _ _ _ _ _ _ _ _ (sym c.in-Ok.ensures) refl (put_as (week-item _ _ _) c.put_days.ensures)

@@ -16,8 +16,8 @@ use Rattle.rule_text.proofs.shown.show_weekdays.Goals.{in_default-weekday-via-in
 pub returns-in_default : goal.returns-in_default
 returns-in_default c = refused-silent weekday_text weekday_stops _ _ _ _ _ _ (sym c.in_default.ensures) c.silent.ensures
 
-pub put_item-requires : goal.put_item-requires
-put_item-requires c =
+pub put_days-requires : goal.put_days-requires
+put_days-requires c =
     let args = c.args in
     let x = c.in-Fixed in
     let read = sym c.in-Ok.ensures ∙ ap (λ x. got (as_week_day x) c.in-Ok.next) x.is in
@@ -31,7 +31,7 @@ returns-in-Fixed c =
     let x = c.in-Fixed in
     let stand = weekdays-stand x.start x.end x.offset x.from_start x.from_end _ c.every_week.ensures c.if-every_week.true in
     got-shows weekday_text weekday_stops _ _ _ _ _ _ _ (sym c.in-Ok.ensures ∙ ap (λ x. got (as_week_day x) c.in-Ok.next) x.is)
-    (sym stand) (put_as (weekday-item x.start x.end x.offset x.from_start x.from_end stand) c.put_item.ensures)
+    (sym stand) (put_as (weekday-item x.start x.end x.offset x.from_start x.from_end stand) c.put_days.ensures)
 
 pub returns-in_default-weekday : goal.returns-in_default-weekday
 returns-in_default-weekday c = elim c.in_default-weekday.branch [

@@ -7,23 +7,23 @@ use Rattle.sheet.proofs.Rows.{years-row, monthdays-row, weeks-row, weekdays-row,
 use Rattle.sheet.proofs.Ends.{fails_on}
 use Rattle.sheet.proofs.rule.body_end.Goals as goal
 
-pub items_end-requires-2 : goal.items_end-requires-2
-items_end-requires-2 c =
+pub row_end-requires-2 : goal.row_end-requires-2
+row_end-requires-2 c =
     omega (
       arith,
       row-short _ _ _ _ _ (sym c.in_ok-after_years.ensures),
     )
 
-pub items_end-requires-3 : goal.items_end-requires-3
-items_end-requires-3 c =
+pub row_end-requires-3 : goal.row_end-requires-3
+row_end-requires-3 c =
     omega (
       arith,
       row-short _ _ _ _ _ (sym c.in_ok-after_years.ensures),
       row-short _ _ _ _ _ (sym c.in_ok-after_monthdays.ensures),
     )
 
-pub items_end-requires-4 : goal.items_end-requires-4
-items_end-requires-4 c =
+pub row_end-requires-4 : goal.row_end-requires-4
+row_end-requires-4 c =
     omega (
       arith,
       row-short _ _ _ _ _ (sym c.in_ok-after_years.ensures),
@@ -31,8 +31,8 @@ items_end-requires-4 c =
       row-short _ _ _ _ _ (sym c.in_ok-after_weeks.ensures),
     )
 
-pub items_end-requires-5 : goal.items_end-requires-5
-items_end-requires-5 c =
+pub row_end-requires-5 : goal.row_end-requires-5
+row_end-requires-5 c =
     omega (
       arith,
       row-short _ _ _ _ _ (sym c.in_ok-after_years.ensures),
@@ -69,7 +69,7 @@ returns-in_err-after_weekdays c =
 
 pub returns : goal.returns
 unfolding body
-returns c = c.items_end-5.ensures ∙ sym (ends-goes _ _ _ _ _ (years-row _ _ _ ∙ sym c.in_ok-after_years.ensures)
+returns c = c.row_end-5.ensures ∙ sym (ends-goes _ _ _ _ _ (years-row _ _ _ ∙ sym c.in_ok-after_years.ensures)
     ∙ (ends-goes _ _ _ _ _ (monthdays-row _ _ _ ∙ sym c.in_ok-after_monthdays.ensures)
     ∙ (ends-goes _ _ _ _ _ (weeks-row _ _ _ ∙ sym c.in_ok-after_weeks.ensures)
     ∙ (ends-goes _ _ _ _ _ (weekdays-row _ _ _ ∙ sym c.in_ok-after_weekdays.ensures)

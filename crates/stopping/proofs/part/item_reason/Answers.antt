@@ -1,8 +1,7 @@
--- `stopping::part::item_reason` meets its contract.
-use mathlib.Core.Path.{ap, ◌∙◌}
-use Rattle.stopping.specs.Part.{found}
-use Rattle.stopping.proofs.Items.{or-none}
+-- `stopping::part::item_reason` meets its contract: a number says what the sort says that it names.
+use mathlib.Core.Path.{◌∙◌}
+use Rattle.item.proofs.Sorts.{of-named}
 use Rattle.stopping.proofs.part.item_reason.Goals as goal
 
 pub returns : goal.returns
-returns c = ap (λ v. found v.0 v.1) c.unwrap_or-reason.ensures ∙ or-none c.number_at.result c.args.at ∙ c.number_at.ensures
+returns c = c.reason_of_item.ensures ∙ of-named _ _ _ _ _ _ _ _ _ c.from.ensures

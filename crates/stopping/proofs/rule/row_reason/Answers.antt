@@ -10,12 +10,12 @@ use Rattle.stopping.specs.Rule.{earlier, row_reasoned}
 use Rattle.stopping.proofs.Rows.{item-near, row_more, row_ends}
 use Rattle.stopping.proofs.rule.row_reason.Goals as goal
 
-pub item_reason-item-requires : goal.item_reason-item-requires
-item_reason-item-requires c = omega (arith, c.loop-i.invariant.near, c.requires)
+pub reason_of_item-item-requires : goal.reason_of_item-item-requires
+reason_of_item-item-requires c = omega (arith, c.loop-i.invariant.near, c.requires)
 
 pub loop-i-preserved : goal.loop-i-preserved
 loop-i-preserved c =
-    let item = c.item_reason-item.ensures in
+    let item = c.reason_of_item-item.ensures in
     let old = c.loop-i in
     let args = c.args in
     let s = sheet_bits args.sheet.now in
