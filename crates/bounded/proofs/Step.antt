@@ -1,4 +1,5 @@
--- One lemma for each return of successor and predecessor, for any bounds: the proofs of `succ` and `pred` of each kind cite them.
+-- One lemma for each return of successor and predecessor, for any bounds, and `next-step`, by which a step up that may stay is the next value.
+-- The proofs of `succ` and `pred` cite them.
 use mathlib.Core.Path.{◌≡◌}
 use mathlib.Core.Bool.{cond}
 use mathlib.Core.Option.{none, some}
@@ -11,10 +12,13 @@ use Rattle.grid.specs.Cut.{Range}
 use Rattle.bounded.specs.Kind.{next, prior}
 
 module _ (bounds : Range) (x : ℕ) where
-  -- r is what a step up gives, which stays at the upper value
-  pub next-some : suc x < bounds.1 → (upper r : ℕ) → upper ≡ bounds.1 → r ≡ cond (ltb x upper) (x + 1) x → some r ≡ next bounds x
+  pub next-some : suc x < bounds.1 → some (x + 1) ≡ next bounds x
   unfolding next
-  next-some h upper r u e = rw (e, lt-ltb x upper (omega (arith, h, u))) (simp (lt-ltb _ _ h, add-one))
+  next-some h = simp (lt-ltb _ _ h, add-one)
+
+  -- r is what a step up gives, which stays at the upper value
+  pub next-step : suc x < bounds.1 → (upper r : ℕ) → upper ≡ bounds.1 → r ≡ cond (ltb x upper) (x + 1) x → some r ≡ next bounds x
+  next-step h upper r u e = rw (e, lt-ltb x upper (omega (arith, h, u))) (next-some h)
 
   pub next-none : bounds.1 ≤ suc x → none ≡ next bounds x
   unfolding next
